@@ -29,7 +29,7 @@ from pagelog import Block, NamedPrimary, NamedReader, Primary, Put, Reader
 from pagelog.desk.words import pagelogctl
 from pagelog.keeper.referee import KeeperError, Referee, digest, plain_url
 from pagelog.keeper.rows import Batch, Row
-from pagelog.keeper.run import end_orphans
+from pagelog.keeper.run import orphans_of
 from pagelog.place import Keepers, Place
 from postgres import postgres
 from quick_library import build
@@ -157,6 +157,8 @@ class Keeping:
         self.table.write_text(WIDE_TABLE)
         self.keeper: tuple[object, ...] = ("-m", "pagelog")
         """How a keeper is called, as arguments of Python."""
+        self.names: dict[str, str] = {}
+        """Keepers whose name is another one's, with a folder and a port of their own."""
         self.processes: dict[str, subprocess.Popen[str]] = {}
         self.ports = dict.fromkeys("abcd", 0)
         self.held: list[Port] = []
@@ -173,11 +175,13 @@ class Keeping:
         for port in self.held:
             port.close()
         for name in self.processes:
-            end_orphans(self.folder / name, set())
+            end_left(self.folder / name)
         self.referee.close()
+        self.referee.prepare()  # older keepers may have left older tables
         for row in self.referee.everything().rows:
             if not row.dropped:
                 self.referee.drop(row.name)
+        self.referee._ask("DELETE FROM pagelog_keeper RETURNING name")  # the next test has keepers of these names in other folders
         self.referee.close()
         if os.environ.get("PAGELOG_TEST_SAYS"):
             print(self.said())
@@ -207,7 +211,7 @@ class Keeping:
             if self.ports[name] == 0:
                 self.held.append(Port())
                 self.ports[name] = self.held[-1].number  # which it has again when it is started again
-            words = [sys.executable, *self.keeper, "keep", "--name", name, "--lines", f"127.0.0.1:{self.ports[name]}",
+            words = [sys.executable, *self.keeper, "keep", "--name", self.names.get(name, name), "--lines", f"127.0.0.1:{self.ports[name]}",
                      "--serve", "127.0.0.1", "--folder", self.folder / name, "--program", program, "--credentials", self.file]  # fmt: skip
             with (self.folder / f"{name}.log").open("a") as log:
                 self.processes[name] = subprocess.Popen(list(map(str, words)), stdout=subprocess.PIPE, stderr=log, text=True,
@@ -314,6 +318,12 @@ def end_services(folder: Path) -> None:
     """Ends them all, for a test that has failed."""
     for process in services(folder):
         os.kill(process, signal.SIGKILL)
+
+
+def end_left(folder: Path) -> None:
+    """Ends the services of a keeper that is gone."""
+    for left in orphans_of(folder, set()):
+        left.end()
 
 
 def eventually(condition: Callable[[], bool], what: str = "") -> None:

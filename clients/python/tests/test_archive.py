@@ -27,7 +27,7 @@ def words(*arguments: object, **environment: str) -> subprocess.Popen[str]:
     """`python3 -m pagelog` with these arguments."""
     command = [sys.executable, "-B", "-m", "pagelog", *map(str, arguments)]
     variables = {**os.environ, "PYTHONPATH": str(SOURCE), **environment}
-    return subprocess.Popen(command, stdout=subprocess.PIPE, stderr=subprocess.PIPE, text=True, env=variables)
+    return subprocess.Popen(command, stdin=subprocess.DEVNULL, stdout=subprocess.PIPE, stderr=subprocess.PIPE, text=True, env=variables)
 
 
 class Folder(unittest.TestCase):

@@ -31,7 +31,8 @@ from pagelog.reply import LINE_SIZE, Entry, encode_entry
 from pagelog.request import AUDIT_MAX, Operation, Role
 from pagelog.trail import BrokenTrail, Start, Trail, TrailKeeper, TrailList
 from pagelog.trail.keeper import DAY
-from pagelog.trail.question import Question, answer, moment
+from pagelog.times import moment
+from pagelog.trail.question import Question, answer
 from pagelog.trail.replay import DENIED_TEXT, Difference, NotReplayable, lines_of, replay
 from pagelog.trail.seal import seal, sealed_blocks
 from pagelog.trail.store import _PIECES, _lists, _pieces, piece_behind
@@ -274,7 +275,8 @@ class Ends(Stored):
         command = [sys.executable, "-B", "-m", "pagelog", "drop", "--log", "0", "--yes", "--url", self.url, "--credentials", os.devnull]
         done = subprocess.run(["sh", "-c", '"$@" >&-', "sh", *command], stderr=subprocess.PIPE, timeout=PATIENCE,
                               env={**os.environ, "PYTHONPATH": str(SOURCE)})  # fmt: skip
-        self.assertEqual((done.returncode, done.stderr), (0, b""))
+        goes = f"to be deleted: log 0 of {self.url}\n  LSN 1 to 1: 1 block of {len(Block.of(1).data)} bytes, highest epoch 1\n  it has no trail, and so no times\n"
+        self.assertEqual((done.returncode, done.stderr.decode()), (0, goes))
 
     def test_a_picture_that_cannot_be_written_is_a_line(self) -> None:
         self.keep([5])

@@ -35,7 +35,7 @@ from pagelog.keeper.run import Facts, Run
 from pagelog.keeper.session import Session
 from pagelog.keeper.shared import Shared
 from pagelog.keeper.table import KEEPER, keeper_of
-from pagelog.place import Fate, Keepers
+from pagelog.place import Fate, Keepers, Place
 from pagelog.reply import State
 from service import PATIENCE, PROGRAM, SOURCE, stand_still
 from test_referee import Referees
@@ -218,7 +218,7 @@ class Interrupted(unittest.TestCase):
             threading.Thread(target=self.answer, args=(line,), daemon=True).start()
 
     def answer(self, line: socket.socket) -> None:
-        with line, line.makefile("rw") as text:
+        with line, line.makefile("r") as text:
             try:
                 for asked in text:
                     self.asked.append(asked)
@@ -226,9 +226,13 @@ class Interrupted(unittest.TestCase):
                     if words[2:3] == ["1"]:
                         self.late.wait(PATIENCE)
                     answers = {"1": "over shop 1 5", "2": "durable shop 2 7"}
-                    print(answers.get(words[2] if len(words) > 2 else "", "nowhere shop"), file=text, flush=True)
+                    told = "hello 2" if words[0] == "hello" else answers.get(words[2] if len(words) > 2 else "", "nowhere shop")
+                    line.sendall(" ".join((told, *words[4:], "\n")).encode())
             except OSError:
                 pass
+
+    def place(self, generation: int) -> Place:
+        return Place(generation, "r", "127.0.0.1:1", 0, self.keepers._addresses[0], 0, 0, 0, "11111111-2222-4333-8444-555555555555")
 
     def test_an_answer_to_a_question_that_was_interrupted_is_not_taken_for_another(self) -> None:
         def interrupt(*_: object) -> None:
@@ -238,14 +242,14 @@ class Interrupted(unittest.TestCase):
         self.addCleanup(signal.signal, signal.SIGUSR2, before)
 
         def when_asked() -> None:
-            eventually(lambda: bool(self.asked), "the question")
+            eventually(lambda: len(self.asked) > 1, "the question behind the greeting")
             os.kill(os.getpid(), signal.SIGUSR2)
 
         threading.Thread(target=when_asked).start()
         with self.assertRaises(KeyboardInterrupt):
-            self.keepers.fate(1, 6)
+            self.keepers.fate(self.place(1), 6)
         self.late.set()
-        self.assertEqual(self.keepers.fate(2, 7), Fate(7, False))
+        self.assertEqual(self.keepers.fate(self.place(2), 7), Fate(7, False))
 
     def test_a_child_has_lines_of_its_own(self) -> None:
         self.keepers.where()

@@ -15,9 +15,9 @@ from unittest.mock import patch
 import psycopg
 
 from keepers import Kept as KeptService
-from keepers import blocks, new_database, new_url
+from keepers import blocks, eventually, new_database, new_url
 from pagelog import Block, Put, Zero
-from pagelog.desk.keeper_words import _drop_named
+from pagelog.desk.drop_words import _drop_named
 from pagelog.keeper.bases import NOTHING, Base, Bases, make_base
 from pagelog.errors import ConnectionLost
 from pagelog.keeper.history import begin_again
@@ -30,6 +30,7 @@ from pagelog.keeper.schema import script
 from pagelog.keeper.served import Served
 from pagelog.keeper.switch import Switch, number, release, succeed
 from pagelog.trail import Trail
+from pagelog.place import UnknownName
 from service import PATIENCE, PROGRAM, WIDE_TABLE
 from test_images import pages
 from test_referee import Referees
@@ -243,7 +244,7 @@ class Dropped(Made):
             self.referee.table(self.row.id)
 
     def test_one_that_was_broken_off_is_gone_on_with(self) -> None:
-        for word in ("FROM pagelog_table", "FROM pagelog_base", "FROM pagelog_image", "FROM pagelog_block"):
+        for word in ("DELETE FROM pagelog_table", "DELETE FROM pagelog_base", "DELETE FROM pagelog_image", "DELETE FROM pagelog_block"):
             self.cut(word)
             self.assertRaises(Doubt, _drop_named, self.referee, "shop", True)
             self.assertGreater(self.left()[-1], 0)
@@ -375,8 +376,9 @@ class Migration(Referees):
         url, old = new_url(), "pagelog_base, pagelog_image"
         with psycopg.connect(url, autocommit=True) as connection:
             connection.execute(f"DROP TABLE {old}; ALTER TABLE pagelog_standby DROP COLUMN shift, DROP COLUMN images")
+            connection.execute("DROP TABLE pagelog_schema; ALTER TABLE pagelog_log DROP COLUMN identity, DROP COLUMN doubted")
             connection.execute("ALTER TABLE pagelog_log DROP COLUMN images, DROP COLUMN succeed, DROP COLUMN read_only")
-            connection.execute("ALTER TABLE pagelog_block DROP COLUMN came")
+            connection.execute("ALTER TABLE pagelog_block DROP COLUMN came; ALTER TABLE pagelog_keeper DROP COLUMN began")
             connection.execute("INSERT INTO pagelog_log (name, format, archived, epoch, chain) VALUES ('shop', 2, 2, 1, 'x')")
             connection.execute("INSERT INTO pagelog_block (log, lsn, crc, data) VALUES (1, 1, 0, 'x')")
         referee = Referee(url)
@@ -389,12 +391,37 @@ class Migration(Referees):
         with psycopg.connect(url, autocommit=True) as connection:
             connection.execute("INSERT INTO pagelog_block (log, lsn, crc, data) VALUES (1, 2, 0, 'x')")
             came = connection.execute("SELECT lsn, came IS NULL FROM pagelog_block ORDER BY lsn").fetchall()
-            connection.execute(script())  # each statement may be repeated
+            connection.execute(script(0))  # each statement may be repeated
         self.assertEqual(came, [(1, True), (2, False)])
+        self.assertRegex(row.identity, "^[0-9a-f-]{36}$")
+
+    def test_a_step_that_the_role_may_not_take(self) -> None:
+        """It says what to run. Once that is done the role needs no right to make anything; tables of a later version are no hindrance."""
+        url = new_url()
+        with psycopg.connect(url, autocommit=True) as connection:
+            connection.execute("DROP TABLE pagelog_schema; ALTER TABLE pagelog_log DROP COLUMN identity, DROP COLUMN doubted")
+            connection.execute("DROP ROLE IF EXISTS pagelog_limited")
+            connection.execute("CREATE ROLE pagelog_limited LOGIN; GRANT SELECT, INSERT, UPDATE, DELETE ON ALL TABLES IN SCHEMA public TO pagelog_limited")
+        limited, owner = Referee(url.replace("pagelog@", "pagelog_limited@")), Referee(url)
+        self.addCleanup(limited.close)
+        self.addCleanup(owner.close)
+        for call in (limited.prepare, limited.everything):
+            self.assertRaisesRegex(Refused, "tables of version 1, and 3 is needed: run `pagelogctl create` or `keep`", call)
+        owner.prepare()
+        with psycopg.connect(url, autocommit=True) as connection:
+            connection.execute("INSERT INTO pagelog_schema (version) VALUES (99)")
+        limited.prepare()
+        self.assertEqual(limited.everything().rows, ())
 
 
 class Histories(KeptService):
     keepers = "a"
+
+    def is_told(self, name: str) -> bool:
+        try:
+            return self.keeping.keepers(name).where() is not None
+        except UnknownName:
+            return False
 
     def test_any_kept_position_is_begun_again_for_readers(self) -> None:
         with self.keeping.primary() as primary:
@@ -408,13 +435,14 @@ class Histories(KeptService):
             self.assertEqual(self.keeping.word("restore", "shop", "--at", 8, "--as", "eight"), "eight is shop at position 8, for readers\n")
             self.assertIn("shop-5", self.keeping.word("restore", "shop", "--at", time.isoformat()))
             for name, position, base in (("eight", 8, 7), ("shop-5", 5, 0)):
+                eventually(lambda: self.is_told(name), "its place")  # noqa: B023
                 with self.keeping.reader(name) as reader:
                     self.assertEqual((reader.end(), reader.page(0).data[:4].strip(b"\0")), (position, b"<%d>" % position))
                     self.assertEqual([block.lsn for block in reader.blocks(base + 1, follow=False)], list(range(base + 1, position + 1)))
                 with self.assertRaises(Exception), self.keeping.primary(name) as writer:
                     writer.keepers.patience = 1.0
                     self.commit(writer, "none")
-            self.assertEqual(self.keeping.word("prune", "shop"), "pruned 7 blocks: positions from 7 on are kept\n")
+            self.assertIn("pruned 7 blocks: positions from 7 on are kept\n", self.keeping.word("prune", "shop", "--keep", 1, "--yes"))
             for at in ("6", time.isoformat(), "11", "then"):
                 with self.assertRaisesRegex(AssertionError, "kept|neither a position nor a time"):
                     self.keeping.word("restore", "shop", "--at", at)

@@ -42,6 +42,7 @@ class Fills(Meanwhile):
             served.is_open = True
 
         served.open = opened
+        self.session.ask = AsyncMock(side_effect=lambda call, *_: True if call is self.session.referee.knows else None)
         with patch.object(Ending, "end", new=AsyncMock(return_value=False)) as end:
             self.see()
             await self.done(lambda: end.await_count)
@@ -207,7 +208,8 @@ class Adopts(Meanwhile):
     async def test_one_that_was_taken_over_meanwhile_is_ended_once_a_look_shows_it(self) -> None:
         for left in (replace(ROW, run="other", generation=4, holder="b", address="b:1"), replace(ROW, run=None, holder=None, address=None)):
             self.setUp()
-            self.session.ask = AsyncMock(side_effect=lambda call, *_: ("", b"") if call is self.session.referee.table else None)
+            answers = {self.session.referee.table: ("", b""), self.session.referee.knows: True}
+            self.session.ask = AsyncMock(side_effect=lambda call, *_, answers=answers: answers.get(call))
             self.see()
             await self.done(lambda: self.database._acting.done())  # type: ignore[union-attr]
             self.assertIsNone(self.process.poll())
@@ -226,24 +228,28 @@ class Adopts(Meanwhile):
 class StandsBy(Meanwhile):
     OTHER = replace(ROW, run="other", holder="b", address="b:1", wanted="a")
 
-    async def test_one_that_could_not_be_started_is_tried_again_with_the_next_look_and_not_before(self) -> None:
+    TRIES = ((0.0, 1), (0.24, 1), (0.25, 2), (0.7, 2), (0.75, 3), (1.7, 3), (1.75, 4))
+    """At these parts of a ttl it was tried so often: with the next look, and not before, and then more and more seldom."""
+
+    async def test_one_that_could_not_be_started_is_tried_again_with_the_next_look_and_more_and_more_seldom(self) -> None:
         for error in (NotStarted("no"), RuntimeError("can't start new thread")):
             self.setUp()
             made = service(run="new", kind=Kind.HOLDER, process=None, reached=0)
             made.start.side_effect = error
             with patch.object(Database, "new_served", new=AsyncMock(return_value=made)) as new:
-                for count in (1, 2):
-                    self.see(self.OTHER)
-                    await self.done(lambda: self.database._acting.done())  # type: ignore[union-attr]
-                    self.assertEqual((new.await_count, self.database.served), (count, None))
+                await self.is_tried(new)
 
-    async def test_one_that_cannot_be_filled_is_tried_again_with_the_next_look_and_not_before(self) -> None:
+    async def is_tried(self, new: AsyncMock) -> None:
+        for at, count in self.TRIES:
+            with patch("pagelog.keeper.standing.seconds", lambda: at * PATIENCE):
+                self.see(self.OTHER)
+                await self.done(lambda: self.database._acting.done())  # type: ignore[union-attr]
+            self.assertEqual((new.await_count, self.database.served), (count, None))
+
+    async def test_one_that_cannot_be_filled_is_tried_again_with_the_next_look_and_more_and_more_seldom(self) -> None:
         with patch.object(Database, "new_served", new=AsyncMock(side_effect=lambda _: service(run="new", reached=0))) as new:
             with patch.object(Shared, "fill", new=AsyncMock(side_effect=PagelogError("broken"))):
-                for count in (1, 2):
-                    self.see(self.OTHER)
-                    await self.done(lambda: self.database._acting.done())  # type: ignore[union-attr]
-                    self.assertEqual((new.await_count, self.database.served), (count, None))
+                await self.is_tried(new)
 
     async def test_one_that_lacks_blocks_while_postgresql_is_away_goes_on_with_them(self) -> None:
         for fresh in (service(run="new", reached=0), service(run="new", kind=Kind.STANDBY, reached=2, is_noted=True)):

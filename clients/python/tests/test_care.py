@@ -93,7 +93,12 @@ class Damage(Pair):
         self.assertEqual((status, out.splitlines()[1]), (0, "log other: archived 0, epoch 0, 0 blocks, 0 bytes"))
         self.assertEqual([json.loads(line)["name"] for line in said("logs", "--url", self.url, "--json")[1].splitlines()], ["0", "other"])
         self.assertEqual(said("drop", "--url", self.url, "--yes")[0], 2)
-        self.assertEqual(said("drop", "--url", self.url, "--log", "other", "--yes"), (0, "dropped 0 blocks of log other\n", ""))
+        other = f"to be deleted: log other of {self.url}\n  no LSN: 0 blocks of 0 bytes, highest epoch 0\n  it has no trail, and so no times\n"
+        self.assertEqual(said("drop", "--url", self.url, "--log", "other", "--yes"), (0, "dropped 0 blocks of log other\n", other))
+        status, out, error = said("drop", "--url", self.url, "--log", "0")
+        self.assertEqual((status, out, logs_of(self.url)), (2, "", [one]))
+        self.assertEqual(error, f"to be deleted: log 0 of {self.url}\n  LSN 1 to 600: 600 blocks of {one.bytes} bytes, highest epoch 1\n  it has no trail, and "
+                         "so no times\npagelogctl: nothing was done: there is no terminal to ask at; --yes does it without a question\n")  # fmt: skip
         self.assertEqual(drop(self.archive), 600)
         self.assertEqual(logs_of(self.url), [])
 

@@ -6,6 +6,7 @@ import json
 import os
 import re
 import signal
+import socket
 import tempfile
 import time
 import unittest
@@ -23,7 +24,7 @@ from pagelog.keeper.referee import Referee
 from pagelog.trail import Trail, TrailKeeper
 from postgres import SilentProxy, postgres
 from pagelog.request import Get, Pull
-from service import Service, fill
+from service import PATIENCE, Service, fill
 from test_archive import words as words_of
 from test_looking import ends
 
@@ -348,8 +349,26 @@ class Doors(unittest.TestCase):
                 f"{int(time.time()) - 1}.{seal}",
             ):
                 self.assertEqual(console.ask("/api/state", Cookie=f"{name}={forged}")[0].status, 401, forged)
+            again, _ = console.ask("/login", "POST", f"token={TOKEN}", **form)
+            other = (again.getheader("Set-Cookie") or "").partition(";")[0]
             reply, _ = console.ask("/logout", "POST", Cookie=value)
             self.assertIn("Max-Age=0", reply.getheader("Set-Cookie") or "")
+            self.assertEqual([console.ask("/api/state", Cookie=each)[0].status for each in (value, other)], [401, 200])
+
+    def test_a_cookie_ends_with_its_console(self) -> None:
+        from pagelog.console.door import Door
+
+        self.assertFalse(Door(TOKEN)._is_good(Door(TOKEN).cookie()))
+
+    def test_what_is_no_http_leaves_no_traceback(self) -> None:
+        with Rows(1) as rows, Console(rows.url) as console:
+            for sent in (b"\x16\x03\x01\x02\x00\r\n\r\n", b"GET / HTTP/1.1\r\nContent-Length: x\r\n\r\n",
+                         b"GET / HTTP/1.1\r\n" + b"x" * 70_000 + b"\r\n\r\n"):  # fmt: skip
+                with socket.create_connection(("127.0.0.1", console.port), PATIENCE) as line:
+                    line.sendall(sent)
+                    self.assertIn(b" 400 ", line.makefile("rb").readline())
+            self.assertEqual(console.end(), 0)
+            self.assertNotIn("Traceback", console.said())
 
     def test_a_cookie_ends(self) -> None:
         from pagelog.console.door import LASTS, Door

@@ -33,6 +33,14 @@ class Files(unittest.TestCase):
         with self.assertRaisesRegex(CredentialsError, "operator"):
             accounts.account(Role.OPERATOR)
 
+    def test_keep_is_a_number_of_bases_also_in_quotes_or_a_time(self) -> None:
+        for said, meant in (("3", 3), ('"3"', 3), ('"12h"', "12 hours"), ('"7 d"', "7 days")):
+            with self.subTest(said):
+                self.assertEqual(load(self.write(f"[archive]\nkeep = {said}\n"), {}).archive_keep, meant)
+        for said in ("0", '"0"', '"-1"', '"1.5"', '""', "true", '"1234567"'):
+            with self.subTest(said), self.assertRaisesRegex(CredentialsError, "keep is a number of bases, or a time as 12h or 7d"):
+                load(self.write(f"[archive]\nkeep = {said}\n"), {})
+
     def test_a_file_that_others_may_read_is_refused(self) -> None:
         for mode in (0o640, 0o604, 0o622, 0o644, 0o660, 0o700 | 0o001):
             with self.subTest(oct(mode)), self.assertRaisesRegex(CredentialsError, "chmod 600"):

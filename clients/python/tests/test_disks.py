@@ -362,14 +362,14 @@ class AStandbyLeads(Durable):
     def test_commits_go_on_in_their_generation(self) -> None:
         with self.keeping.primary() as primary:
             self.commit(primary, "1", durable=True)
-            first = self.keeping.place().generation
+            first = self.keeping.place()
             os.kill(self.keeping.pid(), signal.SIGKILL)
             self.assertEqual(self.commit(primary, "2", durable=True), 2)
-            keepers, second = self.keeping.keepers(), self.keeping.place().generation
+            keepers, second = self.keeping.keepers(), self.keeping.place()
             self.addCleanup(keepers.close)
 
             def fates() -> list[Fate]:
-                return [keepers.fate(generation, position) for generation, position in ((first, 1), (first, 2), (second, 2))]
+                return [keepers.fate(place, position) for place, position in ((first, 1), (first, 2), (second, 2))]
 
             told = fates()
             self.assertEqual([fate.is_over for fate in told], [True, True, False])
@@ -382,7 +382,7 @@ class AStandbyLeads(Durable):
             self.fail_over_amid(primary, 4)
             self.assertEqual(self.commit(primary, "5", durable=True), 5)
             self.assertEqual(fates(), [*told[:2], Fate(5, False)])
-            self.assertEqual((self.keeping.place().generation, self.texts()), (second, [b"1", b"2", b"3", b"4", b"5"]))
+            self.assertEqual((self.keeping.place().generation, self.texts()), (second.generation, [b"1", b"2", b"3", b"4", b"5"]))
 
 
 class AServerComesBack(Durable):
@@ -524,7 +524,7 @@ class FullDisks(Kept):
     def setUp(self) -> None:
         self.disks = SmallDisks()
         self.addCleanup(self.disks.stop)
-        self.options = {"url": self.disks.kept, "ttl": 20.0}
+        self.options = {"url": self.disks.kept, "ttl": 20.0, "more": 'metrics = "127.0.0.1:0"\n'}
         referee = Referee(self.disks.kept)
         referee.prepare()
         referee.close()
@@ -553,6 +553,37 @@ class FullDisks(Kept):
             self.assertEqual(text.readline().split()[:3], ["durable", "shop", str(generation)])
             primary.durable(last + 1)
             self.assertEqual((self.keeping.place().generation, len(self.keeping.archive())), (generation, last + 1))
+
+    def test_a_disk_that_stays_full_costs_the_service_no_entries_and_the_log_one_line(self) -> None:
+        with psycopg.connect(self.disks.kept) as session:
+            session.execute("ALTER TABLE pagelog_block SET TABLESPACE small")
+        with self.keeping.primary() as primary, self.keeping.line() as text:
+            self.commit(primary, "1", durable=True)
+            generation, before = self.keeping.place().generation, self.entries()
+            self.disks.fill("tables")
+            last = self.commit_pages(primary, 20)
+            for _ in range(20):  # who waits asks again, which makes no try of its own
+                print(f"durable shop {generation} {last}", file=text, flush=True)
+            eventually(lambda: self.disks.said().count("No space left on device") >= 8, "so many tries")
+            lines = self.keeping.said().count("nothing is archived")
+            grown = self.entries() - before
+            self.disks.free("tables")
+            self.assertEqual(text.readline().split()[:3], ["durable", "shop", str(generation)])
+        self.assertEqual(lines, 1)
+        self.assertLess(grown, 30)  # 20 for the commit and its pull; where each of eight tries pulls there are 18 more
+        self.assertEqual(len(self.keeping.archive()), last)
+
+    def entries(self) -> int:
+        """Those of the audit list, as the next look has found, without the two of each look."""
+        looks = self.keeping.metrics()["pagelog_keeper_looks_total", ""]
+
+        def is_later() -> bool:
+            self.keeping.ring()
+            return self.keeping.metrics()["pagelog_keeper_looks_total", ""] > looks + 3
+
+        eventually(is_later, "looks")
+        found = self.keeping.metrics()
+        return round(found["pagelog_keeper_list_share", "shop"] * 1_000_000 - 2 * found["pagelog_keeper_looks_total", ""])
 
     def test_a_server_that_had_to_end_for_want_of_room_comes_back_with_what_was_told(self) -> None:
         with self.keeping.primary() as primary, self.keeping.line() as text:

@@ -30,6 +30,7 @@ class Doubts(unittest.TestCase):
         """The requests of the next commit reach the service, and none of their replies comes back."""
         primary._prepare()
         primary._close_block()
+        primary._check_sqlite()  # before it sends
         body = [sent.block for sent in primary._unhardened]
         with self.service.connection() as other:
             requests = list(primary._requests([body], deque(), []))

@@ -10,7 +10,7 @@ from typing import Any, Iterator
 from unittest.mock import patch
 
 from keepers import Gate, Kept, eventually
-from pagelog import Block, Group, NamedPrimary, OlderEpoch, TimedOut, Unwritten
+from pagelog import Block, Group, HoldsSqlite, NamedPrimary, OlderEpoch, TimedOut, Unwritten
 from service import PATIENCE, put
 
 
@@ -102,6 +102,37 @@ class Groups(Threads):
         self.assertEqual(len(order), 320)
         for number in range(16):
             self.assertEqual([text for text in order if text.split()[0] == f"{number}"], [f"{number} {at}" for at in range(20)])
+
+
+class OverSqlite(Threads):
+    """A named database whose page 0 has the end mark of SQLite's VFS."""
+
+    def test_nothing_is_written_unless_asked(self) -> None:
+        """By a group, by its writer, and by one that has moved. Who has written, or was asked to, goes on in the next generation."""
+        end_mark = b"plfile01" + b"".join(number.to_bytes(8, "big") for number in (1, 8192, 7, 1)) + b"\4shop"
+        for position in (1, 2):
+            self.primary.append(put(0, end_mark))
+            self.assertEqual(self.primary.commit(durable=True), position)
+            self.succeed(position + 1)
+        with self.keeping.primary() as primary:
+            group = Group(primary)
+            for kind in (HoldsSqlite, Unwritten):
+                with self.assertRaises(kind):
+                    group.commit(put(0, b"hello"))
+            with self.assertRaisesRegex(HoldsSqlite, "'shop' at LSN 1.*overwrite_sqlite=True"):
+                primary.commit()
+            self.succeed(4)
+            with self.assertRaises(HoldsSqlite):
+                primary.commit()
+        with self.keeping.primary(overwrite_sqlite=True) as primary:
+            self.assertEqual(Group(primary).commit(put(0, end_mark)), 3)
+            self.succeed(5)
+            self.assertEqual(Group(primary).commit(put(0, b"hello")), 4)
+        self.assertEqual(len(self.keeping.archive()), 4)
+
+    def succeed(self, generation: int) -> None:
+        self.keeping.word("succeed", "shop")
+        self.keeping.place(least=generation)
 
 
 class Ends(Threads):

@@ -4,17 +4,18 @@ from __future__ import annotations
 
 import json
 import os
+import re
 import signal
 import socket
-from unittest.mock import patch
 
 import psycopg
 
 from keepers import Gate, Kept, Line, eventually
-from pagelog import Connection, Lost, OlderEpoch, PagelogError, Reader
+from pagelog import (
+    Connection, Lost, NamedPrimary, NamedReader, NoKeeper, OlderEpoch, PagelogError, Reader, TableRow, UnknownName, WrongToken,
+)  # fmt: skip
 from pagelog.keeper.table import keeper_of
-from pagelog.place import UnknownName
-from service import PATIENCE, stand_still
+from service import PATIENCE, stand_still, token
 from test_looking import check_alerts
 
 
@@ -100,13 +101,18 @@ class OneKeeper(Kept):
             self.assertGreater(self.keeping.place().generation, place.generation)
             self.assertEqual(self.texts(), [b"1", b"2", b"3"])
 
-    def test_a_twin_of_its_name_ends_a_keeper_and_adopts_its_services(self) -> None:
+    def test_a_twin_of_its_name_ends_a_keeper_that_stands_still_and_adopts_its_services(self) -> None:
         with self.keeping.primary() as primary:
             self.commit(primary, "1", durable=True)
             first, place = self.keeping.processes["a"], self.keeping.place()
+            self.addCleanup(first.kill)
+            stand_still(first.pid)
             self.keeping.ports["a"] = 0
-            self.keeping.start("a")
-            self.assertEqual(first.wait(), 3)
+            self.keeping.launch("a")
+            eventually(lambda: "an earlier keeper of this name has it still" in self.keeping.said(), "the name, after a ttl")
+            os.kill(first.pid, signal.SIGCONT)
+            self.assertEqual(first.wait(PATIENCE), 3)
+            self.assertTrue(self.keeping.processes["a"].stdout.readline().startswith("listening"))  # type: ignore[union-attr]
             first.stdout.close()  # type: ignore[union-attr]
             primary.keepers._addresses = self.keeping.addresses
             self.assertEqual(self.commit(primary, "2", durable=True), 2)
@@ -145,17 +151,48 @@ class OneKeeper(Kept):
             self.assertEqual(self.texts(), [b"1", b"2", b"5"])
 
     def test_words_that_no_client_says_leave_the_connection_to_postgresql_alone(self) -> None:
-        self.keeping.place()
+        generation = self.keeping.place().generation
         sessions = "SELECT pid FROM pg_stat_activity WHERE application_name = 'pagelog keeper a'"
         with psycopg.connect(self.keeping.url, autocommit=True) as session, self.keeping.line() as line:
             before = session.execute(sessions).fetchall()
             for asked, told in (("block sh\0op 1", "block sh\0op 1 -"), ("block shop 99999999999999999999", "block shop 99999999999999999999 -"),
                                 ("durable shop 99999999999999999999 1", "elsewhere shop 99999999999999999999"), ("durable sh\0op 1 1", "unknown sh\0op"),
-                                ("durable shop 1 -5", "durable shop 1 0"), ("standby sh\0op", "standby sh\0op - - - - -"), ("", "what")):  # fmt: skip
+                                (f"durable shop {generation} 0", f"durable shop {generation} 0"), ("standby sh\0op", "standby sh\0op - - - - -"), ("", "what")):  # fmt: skip
                 line.write(f"{asked}\n")
                 line.flush()
                 self.assertEqual(line.readline(), f"{told}\n")
                 self.assertEqual(session.execute(sessions).fetchall(), before)
+
+    def test_an_open_that_is_refused_says_why(self) -> None:
+        """And at once: a call would wait for as long as a test may take."""
+        with socket.socket() as held:
+            held.bind(("127.0.0.1", 0))
+            nobody = "127.0.0.1:%d" % held.getsockname()[1]
+            for key, address, name, error, sentence in (
+                ("00" * 16, self.keeping.addresses, "shop", WrongToken, "the table does not list principal {} with this token"),
+                (None, self.keeping.addresses, "blog", UnknownName, "the keepers know of no database blog"),
+                (None, [nobody], "shop", NoKeeper, "no keeper answers: all connections are refused"),
+            ):  # fmt: skip
+                writer = NamedPrimary(name, address, 2, key or token(2), (1, token(1)), patience=PATIENCE)
+                reader = NamedReader(name, address, 3, key or token(3), patience=PATIENCE)
+                who = "principal 2 or operator 1" if key else "2"
+                for client, call, told in ((writer, writer.commit, sentence.format(who.removeprefix("principal "))), (reader, reader.end, sentence.format(3))):
+                    with self.subTest(sentence=told), client, self.assertRaises(error) as raised:
+                        call()
+                    self.assertEqual(str(raised.exception), told)
+        operator = NamedPrimary("shop", self.keeping.addresses, 2, token(2), (1, "00" * 16), patience=PATIENCE)
+        with operator, self.assertRaisesRegex(WrongToken, "or operator 1 with this token"):
+            operator.commit()
+
+    def test_a_writer_that_its_table_bars_is_told_so(self) -> None:
+        for row in ('op = ["failover"]', 'who = 5\nrole = "primary"'):
+            denied = self.keeping.folder / "denied.toml"
+            denied.write_text(self.keeping.table.read_text().replace("[[row]]", f'[[row]]\nverdict = "deny"\n{row}\n[[row]]', 1))
+            self.keeping.word("create", "barred", "--table", denied)
+            eventually(lambda: (self.keeping.row("barred").address or "") != "", "its service")
+            with self.keeping.primary("barred", id=5) as writer, self.assertRaises(TableRow):
+                writer.commit()
+            self.keeping.word("drop", "barred", "--force")
 
     def test_pause_drop_and_words(self) -> None:
         with self.keeping.primary() as primary:
@@ -186,11 +223,10 @@ class OneKeeper(Kept):
         """Waits until `kept` shows the state and the decision, and what is left of the limit of the memory, which is in MiB."""
 
         def is_shown() -> bool:
-            with patch.dict(os.environ, COLUMNS="300"):
-                [line] = [line for line in self.keeping.word("kept").splitlines() if "shop" in line]
+            [line] = [line for line in self.keeping.word("kept", "--wide").splitlines() if line.startswith("shop ")]
             kept = json.loads(self.keeping.word("kept", "--json"))
-            *_, entries, left, shown = (cell.strip() for cell in line.strip("│ ").split("│"))
-            if shown != state or not state.endswith(kept["why"].get("a", "?")):
+            _, shown, *_, entries, left, why = re.split("  +", line)
+            if f"{shown}: {why}" != state or not state.endswith(kept["why"].get("a", "?")):
                 return False
             return 0 < int(left) < LIMIT and int(entries) > 0 if has_service else left == entries == "-"
 
@@ -328,10 +364,11 @@ class Watched(Kept):
         self.assertEqual((self.keeping.row().holder, self.looks()), (None, 0))
         line.count_from_now()
         eventually(lambda: self.keeping.row().holder == "a" and self.looks() > 0, "the keeper's first look")
-        said = self.keeping.said().count("the referee: ")
         line.count_from_now(0, 0)
-        eventually(lambda: self.keeping.said().count("the referee: ") > said, "a look that was cut")
+        opened = len(line.open)
+        eventually(lambda: len(line.open) >= opened + 4, "two connections more, as those before were cut")
         looks = self.looks()
+        eventually(lambda: len(line.open) >= opened + 6, "another look")
         self.forget()
         self.assertEqual([self.systemd.recv(100) for _ in range(4)], 4 * [b"WATCHDOG=1"])
         self.assertEqual(self.looks(), looks)

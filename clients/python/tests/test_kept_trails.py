@@ -150,7 +150,7 @@ class Statement(Referees):
         old._tried(lambda: old._opened().end("it is over"))
         self.assertTrue(new._keep())
         with Trail(self.url, "shop") as trail, Trail(self.url, f"shop!{self.row.id - 1}") as dropped:
-            self.assertEqual([(one.generation, one.ended) for one in trail.lists()], [(1, None)])
+            self.assertEqual([(one.generation, one.ended) for one in trail.lists()], [(self.seen().generation, None)])
             self.assertEqual([one.generation for one in dropped.lists()], [2])
         self.assertRegex(self.said[-1], "generation 2 of shop is not that of run r2")
 

@@ -4,19 +4,24 @@ from __future__ import annotations
 
 import json
 import os
+import re
+import shutil
 import signal
 import socket
+import zlib
 
 import psycopg
 
 from keepers import Kept, Line, Trigger, batch_of, end_services, eventually, services
-from pagelog import Reader
+from pagelog import Put, Reader
 from pagelog.archive import Archive
+from pagelog.block import Block
 from pagelog.connection import Connection
 from pagelog.credentials import Credentials
 from pagelog.keeper.referee import Referee, digest
 from pagelog.keeper.schema import FORMAT
 from pagelog.keeper.table import token_of
+from pagelog.place import UnknownName
 from service import PATIENCE, stand_still, token
 
 
@@ -139,6 +144,86 @@ class Folders(Kept):
             self.assertEqual(self.commit(primary, "3", durable=True), 3)
 
 
+class Names(Kept):
+    keepers = "a"
+
+    def setUp(self) -> None:
+        super().setUp()
+        self.keeping.names["b"] = "a"
+
+    def refusal(self) -> str:
+        """What `b` says as it is refused."""
+        self.assertEqual(self.keeping.processes["b"].wait(PATIENCE), 3)
+        self.keeping.processes["b"].stdout.close()  # type: ignore[union-attr]
+        return (self.keeping.folder / "b.log").read_text()
+
+    def test_a_name_that_lives_refuses_the_newcomer(self) -> None:
+        keeping, a, b = self.keeping, self.keeping.folder / "a", self.keeping.folder / "b"
+        with keeping.primary() as primary:
+            self.commit(primary, "1", durable=True)
+            run, living = keeping.row().run, services(a)
+            for number, makes in enumerate((lambda: None, lambda: (shutil.rmtree(b), shutil.copytree(a, b)),
+                                            lambda: (shutil.rmtree(b), b.symlink_to(a)))):  # fmt: skip
+                with self.subTest(number):
+                    makes()
+                    keeping.launch("b")
+                    self.assertRegex(self.refusal(), rf"the name a is in use: the keeper at 127.0.0.1:{keeping.ports['a']} has it "
+                                                     r"since 2\d{3}-\d\d-\d\d \d\d:\d\d:\d\d UTC, and its heartbeat moves")  # fmt: skip
+                    self.assertEqual((keeping.processes["a"].poll(), services(a), keeping.row().run), (None, living, run))
+            self.commit(primary, "2", durable=True)
+
+    def test_of_two_that_start_with_a_name_one_has_it(self) -> None:
+        self.keeping.kill("a", signal.SIGTERM)
+        shutil.rmtree(self.keeping.folder / "a")  # so that both wait for a ttl
+        self.keeping.processes["a"].stdout.close()  # type: ignore[union-attr]
+        self.keeping.launch("a", "b")
+        both = self.keeping.processes["a"], self.keeping.processes["b"]
+        eventually(lambda: any(process.poll() is not None for process in both), "the refusal of one")
+        self.assertEqual({process.poll() for process in both}, {3, None})
+        with self.keeping.primary() as primary:
+            self.commit(primary, "1", durable=True)
+
+    def test_one_of_another_folder_waits_for_a_ttl_and_the_services_of_the_first_end(self) -> None:
+        keeping, a = self.keeping, self.keeping.folder / "a"
+        self.addCleanup(end_services, a)
+        with keeping.primary() as primary:
+            self.commit(primary, "1", durable=True)
+            for number, kind in ((1, signal.SIGKILL), (2, signal.SIGSTOP)):
+                with self.subTest(kind):
+                    run = keeping.row().run
+                    keeping.kill("a", kind)
+                    keeping.start("b")
+                    primary.keepers._addresses = keeping.addresses
+                    self.commit(primary, f"{number}", durable=True)
+                    self.assertNotEqual(keeping.row().run, run)
+                    self.assertIn("its heartbeat is watched for a ttl", (keeping.folder / "b.log").read_text())
+                    if kind == signal.SIGKILL:
+                        keeping.launch("a")
+                    else:
+                        os.kill(keeping.processes["a"].pid, signal.SIGCONT)
+                    self.assertEqual(keeping.processes["a"].wait(PATIENCE), 3)
+                    keeping.processes["a"].stdout.close()  # type: ignore[union-attr]
+                    self.assertEqual(services(a), [])
+                    keeping.kill("b", signal.SIGTERM)
+                    keeping.start("a")
+                    self.commit(primary, "between", durable=True)
+
+
+class OwnFolder(Kept):
+    keepers = "a"
+    options = {"ttl": 120.0}
+
+    def test_a_keeper_that_was_killed_has_its_name_and_its_services_at_once(self) -> None:
+        with self.keeping.primary() as primary:
+            self.commit(primary, "1", durable=True)
+            run = self.keeping.row().run
+            for _ in range(2):
+                self.keeping.kill("a")
+                self.keeping.start("a")
+                self.commit(primary, "2", durable=True)
+            self.assertEqual(self.keeping.row().run, run)
+
+
 class Vanished(Kept):
     keepers = "a"
     options = {"ttl": 120.0}
@@ -170,12 +255,17 @@ class WentBack(Kept):
 
     keepers = "a"
 
-    def put_back(self, archived: int, more: str = "") -> None:
-        """It is as it was when so much was archived, and `more`, an assignment, is so."""
-        row, chain = self.keeping.row(), digest(b"", self.keeping.archive()[:archived])
+    def put_back(self, archived: int, more: str = "", *, other: bool = False) -> None:
+        """It is as it was when so much was archived, and `more`, an assignment, is so. With `other` its last block is another one."""
+        row, blocks = self.keeping.row(), self.keeping.archive()[:archived]
+        if other:
+            blocks[-1] = Block.of(archived, [Put(9, 0, b"another")]).data
         with psycopg.connect(self.keeping.url) as session:
             session.execute("DELETE FROM pagelog_block WHERE log = %s AND lsn > %s", (row.id, archived))
-            session.execute(f"UPDATE pagelog_log SET archived = %s, chain = %s{more} WHERE id = %s", (archived, chain, row.id))
+            if other:
+                session.execute("UPDATE pagelog_block SET data = %s, crc = %s WHERE log = %s AND lsn = %s",
+                                (blocks[-1], zlib.crc32(blocks[-1]), row.id, archived))  # fmt: skip
+            session.execute(f"UPDATE pagelog_log SET archived = %s, chain = %s{more} WHERE id = %s", (archived, digest(b"", blocks), row.id))
             session.execute("NOTIFY pagelog_keeper")
 
     def test_what_it_has_lost_of_a_run_is_archived_again_by_that_run(self) -> None:
@@ -207,14 +297,44 @@ class WentBack(Kept):
             self.assertEqual(self.commit(primary, "4", durable=True), 4)
             self.assertEqual((self.keeping.place().run, self.keeping.pid(), self.texts()), (place.run, pid, [b"1", b"2", b"3", b"4"]))
 
+    RELEASED = ", generation = generation + 5, next_generation = next_generation + 5, run = NULL, holder = NULL, address = NULL"
+
+    def test_a_run_that_nobody_holds_any_more_continues_and_is_archived_again(self) -> None:
+        with self.keeping.primary() as primary:
+            for number in range(1, 4):
+                self.commit(primary, f"{number}", durable=True)
+            place, pid = self.keeping.place(), self.keeping.pid()
+            # It comes back without two of the blocks, as it was before this run had the database.
+            self.put_back(1, ", generation = 0, run = NULL, holder = NULL, address = NULL")
+            after = self.keeping.place(least=place.generation + 1)
+            self.assertEqual((after.run, self.keeping.pid()), (place.run, pid))
+            self.assertEqual(self.commit(primary, "4", durable=True), 4)
+            self.assertEqual(self.texts(), [b"1", b"2", b"3", b"4"])
+
+    def test_it_does_so_in_the_next_life_of_its_keeper_too(self) -> None:
+        with self.keeping.primary() as primary:
+            for number in range(1, 4):
+                self.commit(primary, f"{number}", durable=True)
+            place, pid = self.keeping.place(), self.keeping.pid()
+            self.keeping.kill("a")
+            # As where PostgreSQL lost a succession: it knows the run before alone, whose service is gone.
+            with psycopg.connect(self.keeping.url) as session:
+                session.execute("UPDATE pagelog_generation SET run = 'before' WHERE run = %s", (place.run,))
+            self.put_back(1, ", run = 'before', generation = 0")
+            self.keeping.start("a")
+            after = self.keeping.place(least=place.generation + 1)
+            self.assertEqual((after.run, self.keeping.pid()), (place.run, pid))
+            self.assertEqual(self.commit(primary, "4", durable=True), 4)
+            self.assertEqual(self.texts(), [b"1", b"2", b"3", b"4"])
+
     def test_a_service_that_may_be_the_only_copy_outlives_its_keeper(self) -> None:
         with self.keeping.primary() as primary:
             for number in range(1, 4):
                 self.commit(primary, f"{number}", durable=True)
         place, pid = self.keeping.place(), self.keeping.pid()
         self.addCleanup(os.kill, pid, signal.SIGKILL)
-        # It comes back without two of the blocks, and another generation has begun and was released.
-        self.put_back(1, ", generation = generation + 5, next_generation = next_generation + 5, run = NULL, holder = NULL, address = NULL")
+        # It comes back without two of the blocks, and another run has written since.
+        self.put_back(1, self.RELEASED, other=True)
         after = self.keeping.place(least=place.generation + 6)
         self.assertEqual((after.archived, len(self.texts())), (1, 1))
         self.assertIn(f"process {pid} at {place.address}, may be the only copy of its log", self.keeping.said())
@@ -232,7 +352,7 @@ class WentBack(Kept):
                 self.commit(primary, f"{number}", durable=True)
         place, pid = self.keeping.place(), self.keeping.pid()
         self.addCleanup(lambda: os.path.exists(f"/proc/{pid}") and os.kill(pid, signal.SIGKILL))
-        self.put_back(1, ", generation = generation + 5, next_generation = next_generation + 5, run = NULL, holder = NULL, address = NULL")
+        self.put_back(1, self.RELEASED, other=True)
         self.keeping.place(least=place.generation + 6)
         with self.keeping.primary() as primary:
             self.commit(primary, "another", durable=True)
@@ -242,44 +362,65 @@ class WentBack(Kept):
         self.keeping.start("a")
 
         def asides() -> list[object]:
-            found: list[object] = json.loads(self.keeping.word("kept", "--json"))["set_aside"]
-            return found
+            lines = map(json.loads, self.keeping.word("kept", "--json").splitlines())
+            return [each for line in lines if line["name"] == "shop" for each in line["set_aside"]]
 
         eventually(lambda: asides() == [{"keeper": "a", "name": "shop", "run": place.run, "address": place.address, "pid": pid, "shift": 0,
-                                         "images": 0}], "the word of the next life")  # fmt: skip
+                                         "images": 0, "had": 3, "kept": True}], "the word of the next life")  # fmt: skip
         stand_still(pid)
         with self.assertRaisesRegex(AssertionError, r"\): 3: "):
             self.keeping.word("--timeout", "0.5", "rescue", "shop")
         os.kill(pid, signal.SIGCONT)
-        self.assertIn("ends at position 3, which is LSN 3: PostgreSQL has it up to 1, and lacks 2 blocks", self.keeping.word("rescue", "shop"))
+        self.assertIn("ends at position 3, which is LSN 3: PostgreSQL has it up to 0, and lacks 3 blocks", self.keeping.word("rescue", "shop"))
         folder, url = self.keeping.folder / "a", f"sqlite:///{self.keeping.folder}/saved.db"
-        with self.assertRaisesRegex(AssertionError, "its 2 blocks would be lost"):
-            self.keeping.word("rescue", "shop", "--end", folder)
+        with self.assertRaisesRegex(AssertionError, f"nobody else has 3 blocks of it: name it, by --run {place.run}"):
+            self.keeping.word("rescue", "shop", "--into", url, "--end", folder, "--yes")
+        ending = ("rescue", "shop", "--run", place.run)
+        with self.assertRaisesRegex(AssertionError, "its 3 blocks would be lost"):
+            self.keeping.word(*ending, "--end", folder, "--yes")
         self.assertIn("no keeper says", self.refused("rescue", "shop", "--run", "other"))
-        self.assertIn("it is on the machine of its keeper", self.refused("rescue", "shop", "--into", url, "--end", self.keeping.folder))
+        self.assertIn("it is on the machine of its keeper", self.refused(*ending, "--into", url, "--end", self.keeping.folder, "--yes"))
+        goes = (f"to be ended: run {place.run} of shop, process {pid} of keeper a at {place.address}, up to position 3; nobody else has its positions "
+                f"1 to 3, which are saved as log {place.run} before\nPostgreSQL has positions 0 to 2, from ")  # fmt: skip
+        with self.assertRaisesRegex(AssertionError, f"(?s){re.escape(goes)}.*: nothing was done: there is no terminal to ask at"):
+            self.keeping.word(*ending, "--into", url, "--end", folder)
         os.kill(pid, 0)
-        self.assertIn(f"saved 3 blocks as log {place.run}\nended process {pid}", self.keeping.word("rescue", "shop", "--into", url, "--end", folder))
+        self.assertIn("saved positions up to 3 as database old, and compared them", self.keeping.word("rescue", "shop", "--as", "old"))
+        eventually(lambda: self.keeping.row("old").address is not None, "a place of it")
+        eventually(lambda: self.is_there("old"), "what was saved")
+        with self.keeping.reader("old") as reader:
+            self.assertEqual(reader.end(), 3)
+        self.assertIn("there is a database old", self.refused("rescue", "shop", "--as", "old"))
+        said = self.keeping.word(*ending, "--into", url, "--end", folder, "--yes")
+        self.assertIn(goes, said)
+        self.assertIn(f"saved 3 blocks as log {place.run}\nended process {pid}", said)
         with Archive(url, place.run) as archive:
             self.assertEqual([block.records[-1].data.strip(b"<>") for block in archive.blocks(1)], [b"1", b"2", b"3"])  # type: ignore[union-attr]
         eventually(lambda: not os.path.exists(f"/proc/{pid}") and not asides(), "its end")
-        self.assertEqual(self.texts(), [b"1", b"another"])
+        self.assertEqual(len(self.texts()), 2)
+
+    def is_there(self, name: str) -> bool:
+        try:
+            self.keeping.place(name)
+        except UnknownName:
+            return False
+        return True
 
     def refused(self, *words: object) -> str:
         with self.assertRaises(AssertionError) as caught:
             self.keeping.word(*words)
         return str(caught.exception)
 
-    def test_a_service_whose_address_it_has_lost_is_kept_by_the_next_life(self) -> None:
+    def test_a_service_whose_address_it_has_lost_is_published_again_by_the_next_life(self) -> None:
         with self.keeping.primary() as primary:
             self.commit(primary, "1", durable=True)
-        pid, generation = self.keeping.pid(), self.keeping.row().generation
-        self.addCleanup(os.kill, pid, signal.SIGKILL)
-        self.keeping.kill("a")
-        self.put_back(0, ", base = 0, address = NULL")
-        self.keeping.start("a")
-        self.keeping.place(least=generation + 1)
-        self.assertIn(f"process {pid} at", self.keeping.said())
-        os.kill(pid, 0)
+            place, pid = self.keeping.place(), self.keeping.pid()
+            self.keeping.kill("a")
+            self.put_back(0, ", base = 0, address = NULL")
+            self.keeping.start("a")
+            eventually(lambda: self.keeping.row().address == place.address, "the address")
+            self.assertEqual(self.commit(primary, "2", durable=True), 2)
+            self.assertEqual((self.keeping.place().run, self.keeping.pid(), self.texts()), (place.run, pid, [b"1", b"2"]))
 
 
 class InDoubt(Kept):
@@ -297,7 +438,7 @@ class InDoubt(Kept):
         trigger = Trigger(self.keeping.url, "pagelog_log", "UPDATE ON pagelog_log FOR EACH ROW WHEN (NEW.run IS NULL AND OLD.run IS NOT NULL)",
                           "RAISE WARNING 'cancelled'")  # fmt: skip
         self.addCleanup(trigger.close)
-        self.keeping.word("switchover", "shop")
+        self.assertTrue(self.keeping.referee.wish("shop", "*"))
 
         def is_left_to_others() -> bool:
             self.keeping.ring()

@@ -11,7 +11,7 @@ from typing import Any, Callable
 from unittest.mock import Mock
 
 from pagelog.keeper.database import Database
-from pagelog.keeper.machine import Action, Facts, Kind, Own, Stage, State, Stillness, decide, state_of
+from pagelog.keeper.machine import PATIENCE, Action, Facts, Kind, Own, Rival, Stage, State, Stillness, decide, state_of
 from pagelog.keeper.referee import Referee
 from pagelog.keeper.rows import Row, StandbyRow
 from pagelog.keeper.settings import Settings
@@ -55,7 +55,7 @@ class Cases(unittest.TestCase):
             self.check(Action.FILL, goes_on, closed)
         self.check(Action.CLOSE, OURS, closed, ending=True)
         self.check(Action.CLOSE, replace(OURS, wanted="c"), closed, others=(OF_C,))
-        self.check(Action.NOTHING, replace(OURS, generation=1), replace(closed, run="before"))
+        self.check(Action.LOOK_UP, replace(OURS, generation=1), replace(closed, run="before"))
 
     def test_what_is_said_of_a_decision(self) -> None:
         for row, said in ((OURS, "serves"), (replace(OURS, succeed=True), "prepare: a succession was asked for"), (RELEASED, "take: nobody has it")):
@@ -144,36 +144,78 @@ class Cases(unittest.TestCase):
         self.check(Action.STAND_DOWN, ROW, is_noted=True, stands_by=True)
         self.check(Action.NOTHING, ROW, STANDBY, is_noted=True)
 
-    def test_of_what_is_over_and_of_what_the_referee_has_lost(self) -> None:
-        self.check(Action.END, replace(ROW, generation=4), HOLDS)
-        self.check(Action.END, RELEASED, HOLDS)
-        # PostgreSQL was put back to an earlier state: the service may be the only copy of what it has.
-        self.check(Action.NOTHING, replace(ROW, generation=2), HOLDS)
-        self.check(Action.NOTHING, ROW, HOLDS)  # the number was given twice
+    def test_of_a_run_that_is_over(self) -> None:
+        for row in (replace(ROW, generation=4), RELEASED, replace(ROW, generation=2), ROW):
+            self.check(Action.LOOK_UP, row, HOLDS)  # also where the number was given twice: the run alone says which it is
+        known = replace(HOLDS, is_known=True)
+        self.check(Action.END, replace(ROW, generation=4), known)
+        self.check(Action.END, RELEASED, known)
+        self.check(Action.END, replace(ROW, generation=4), known, ending=True)
+        self.check(Action.END, ROW, replace(HOLDS, alive=False))
+        for own in (HOLDS, known, STANDBY, replace(HOLDS, is_known=False)):
+            self.check(Action.END, replace(RELEASED, dropped=True), own)
+        self.check(Action.NOTHING, replace(RELEASED, dropped=True))
         self.check(Action.NOTHING, None, HOLDS)
         self.check(Action.NOTHING, None)
-        self.check(Action.END, replace(RELEASED, dropped=True), HOLDS)
-        self.check(Action.END, replace(RELEASED, dropped=True), STANDBY)
-        self.check(Action.NOTHING, replace(RELEASED, dropped=True))
+
+    def test_a_run_that_postgresql_has_lost_continues_where_no_other_is_alive(self) -> None:
+        lost = replace(HOLDS, is_known=False)
+        released, of_b = replace(RELEASED, generation=2), replace(ROW, generation=2)
+        of_ours = replace(ROW, holder="a", run="before", generation=2)  # as after a succession that PostgreSQL has lost
+        self.check(Action.CONTINUE, released, lost)
+        self.check(Action.CONTINUE, of_ours, lost, rival=Rival.GONE)
+        self.check(Action.CONTINUE, of_b, lost, still=TTL)  # whose holder's heartbeat stalled
+        # Others may have more of it.
+        self.check(Action.NOTHING, released, lost, settles=True)
+        self.check(Action.NOTHING, released, lost, further="c")
+        self.check(Action.CONTINUE, released, lost, further="c", still=TTL)
+        self.check(Action.NOTHING, RELEASED, further="c")
+        self.check(Action.NOTHING, RELEASED, settles=True)
+        self.check(Action.TAKE, RELEASED, further="c", still=TTL)
+        self.check(Action.NOTHING, replace(released, paused=True), lost)
+        self.check(Action.NOTHING, released, replace(lost, silent=TTL))
+        # A standby that has more than the archive does as well.
+        ahead = replace(STANDBY, reached=5001)
+        self.check(Action.CONTINUE, RELEASED, ahead)
+        self.check(Action.CONTINUE, ROW, ahead, still=TTL)
+        self.check(Action.NOTHING, ROW, ahead)
+        self.check(Action.CONTINUE, OURS, ahead, rival=Rival.GONE)
+
+    def test_a_run_that_postgresql_has_lost_is_set_aside_where_another_is_alive(self) -> None:
+        lost, of_b = replace(HOLDS, is_known=False), replace(ROW, generation=2)
+        self.check(Action.SET_ASIDE, of_b, lost, rival=Rival.LIVES)
+        self.check(Action.NOTHING, of_b, lost)
+        self.check(Action.SET_ASIDE, of_b, replace(lost, back_for=PATIENCE * TTL))
+        # Once another generation has its number, or a later one, its clients may have been told that it is over.
+        for row in (ROW, RELEASED, replace(RELEASED, generation=4)):
+            self.check(Action.SET_ASIDE, row, lost)
+            self.check(Action.SET_ASIDE, row, replace(HOLDS, is_known=True, reached=5001))
+        self.check(Action.SET_ASIDE, OURS, replace(lost, run="r"), rival=Rival.LIVES)
+        self.check(Action.SET_ASIDE, OURS, replace(STANDBY, reached=5001), rival=Rival.LIVES)
+        for row in (ROW, RELEASED):
+            self.check(Action.SET_ASIDE, row, replace(lost, is_apart=True))
+            self.check(Action.SET_ASIDE, row, lost, ending=True)
+        self.check(Action.RELEASE, OURS, replace(HOLDS, is_apart=True))  # and it is set aside, since PostgreSQL went back
+
+    def test_a_database_whose_run_was_lost_is_not_said_to_be_served(self) -> None:
+        lost = replace(HOLDS, is_known=False)
+        for row in (None, ROW, RELEASED):
+            self.assertIs(state_of(Facts("a", TTL, row, lost)), State.WENT_BACK)
+        self.assertIs(state_of(Facts("a", TTL, ROW, replace(STANDBY, reached=5001))), State.WENT_BACK)
 
     def test_no_service_that_may_be_the_only_copy_of_what_postgresql_has_lost_is_ended(self) -> None:
-        full = replace(HOLDS, reached=5001)
-        self.check(Action.SET_ASIDE, replace(ROW, generation=4), full)
-        self.check(Action.SET_ASIDE, RELEASED, full)
+        full = replace(HOLDS, is_known=True, reached=5001)
         self.check(Action.END, replace(ROW, generation=4, archived=5001), full)
         self.check(Action.END, replace(RELEASED, archived=5001), full)
         # What was seen once stays so, whatever comes into its place.
-        self.check(Action.SET_ASIDE, replace(ROW, generation=9, archived=9000), replace(full, went_back=True))
-        # A standby that has more than the archive neither takes over nor is ended.
+        self.check(Action.SET_ASIDE, replace(ROW, generation=9, archived=9000), replace(full, went_back=True), rival=Rival.LIVES)
         ahead = replace(STANDBY, reached=5001)
-        self.check(Action.NOTHING, ROW, ahead)
-        self.check(Action.SET_ASIDE, ROW, ahead, still=TTL)
-        self.check(Action.SET_ASIDE, RELEASED, ahead)
         self.check(Action.SET_ASIDE, ROW, replace(ahead, share=0.5))
         self.check(Action.SET_ASIDE, ROW, replace(ahead, silent=TTL))
         # The keeper may end, and leaves it running.
         for row in (None, replace(ROW, generation=2), ROW, RELEASED):
             self.check(Action.SET_ASIDE, row, full, ending=True)
+            self.check(Action.SET_ASIDE, row, replace(full, is_known=None), ending=True)
         self.check(Action.END, ROW, replace(ahead, alive=False))
         self.check(Action.END, replace(RELEASED, dropped=True), replace(full, went_back=True))
 
@@ -181,18 +223,18 @@ class Cases(unittest.TestCase):
         rows = [None, *(replace(row, generation=generation, archived=archived, wanted=wanted, paused=paused)
                         for row in (ROW, RELEASED, replace(ROW, holder="a"), replace(ROW, holder="a", address=None))
                         for generation in (2, 3, 4) for archived in (0, 5000) for wanted in (None, "a", "c", "*") for paused in (False, True))]  # fmt: skip
-        owns = [replace(own, reached=reached, went_back=reached < 5001, silent=silent, share=share) for own in (HOLDS, STANDBY)
-                for reached in (5001, 4990) for silent in (0.0, TTL) for share in (0.0, 0.9)]  # fmt: skip
-        for row, own, ending, still in product(rows, owns, (False, True), (0.0, 9 * TTL)):
-            done = self.decide(row, own, ending=ending, still=still)
-            self.assertIn(done, (Action.NOTHING, Action.SET_ASIDE), (row, own, ending, still))
+        owns = [replace(own, reached=reached, went_back=reached < 5001, silent=silent, share=share, is_known=is_known) for own in (HOLDS, STANDBY)
+                for reached in (5001, 4990) for silent in (0.0, TTL) for share in (0.0, 0.9) for is_known in (None, False, True)]  # fmt: skip
+        allowed = (Action.NOTHING, Action.SET_ASIDE, Action.LOOK_UP, Action.CONTINUE)
+        for row, own, ending, still, rival in product(rows, owns, (False, True), (0.0, 9 * TTL), Rival):
+            done = self.decide(row, own, ending=ending, still=still, rival=rival)
+            self.assertIn(done, allowed, (row, own, ending, still))
 
     def test_of_an_earlier_life(self) -> None:
         self.check(Action.ADOPT, OURS)
         self.check(Action.ADOPT, OURS, still=9 * TTL)
         self.check(Action.ADOPT, OURS, ending=True)  # what it has is archived before the keeper ends
         self.check(Action.END, OURS, STANDBY)
-        self.check(Action.SET_ASIDE, OURS, replace(STANDBY, reached=5001))
 
     def test_a_standby_whose_take_was_in_doubt_finds_itself_the_holder(self) -> None:
         self.check(Action.FILL, replace(OURS, run="s", address=None), STANDBY)
@@ -242,7 +284,7 @@ class Taken(unittest.TestCase):
         database = Database(shared, decided)
         database._still = Mock(see=Mock(side_effect=[TTL, 0.0]))
         asyncio.run(decided_and_taken())
-        [(row, _, with_beat, _)] = takes
+        [(row, _, with_beat, *_)] = takes
         return row, with_beat
 
     def test_not_from_a_holder_that_came_meanwhile(self) -> None:

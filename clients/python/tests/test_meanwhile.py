@@ -6,6 +6,7 @@ import asyncio
 import socket
 import tempfile
 import threading
+import time
 import unittest
 from concurrent.futures import ThreadPoolExecutor
 from dataclasses import replace
@@ -27,6 +28,7 @@ from pagelog.keeper.machine import Action, Kind, Stage
 from pagelog.keeper.recorder import Recorder, Turn
 from pagelog.keeper.referee import Away, Doubt, Referee, Refused
 from pagelog.keeper.rows import Batch, KeeperRow, Kept, Lines, Look, Row, StandbyRow
+from pagelog.keeper.run import Seen
 from pagelog.keeper.served import Served
 from pagelog.keeper.session import Session
 from pagelog.keeper.settings import Settings
@@ -46,7 +48,8 @@ def service(**facts: Any) -> Mock:
     """A service of this keeper that holds the database of `ROW`, as far as these facts say nothing else."""
     known = {"database": "shop", "run": "mine", "kind": Kind.HOLDER, "generation": 3, "reached": 5, "chain": b"c" * 16, "hard": 5, "shift": 0,
              "images": 0, "answers": 0, "entries": 0, "silent": 0.0, "is_alive": True, "is_broken": False, "is_open": True, "was_closed": False,
-             "hangs": False, "went_back": False, "is_noted": False, "is_after_release": False, "is_full": False, **facts}  # fmt: skip
+             "hangs": False, "went_back": False, "is_noted": False, "is_after_release": False, "is_full": False, "back_since": None,
+             "is_apart": False, **facts}  # fmt: skip
     made = Mock(**known)
     made.share.return_value = 0.0
     made.pulled_at_once, made.looked_at_once = AsyncMock(return_value=[]), AsyncMock(return_value=True)
@@ -135,6 +138,47 @@ class Archives(Meanwhile):
             self.assertTrue(waiting.done(), facts)
             self.assertFalse(await waiting)
 
+    async def archive(self, served: Mock, tries: list[float], count: int) -> list[float]:
+        """Archives what the service has until there were so many tries, and returns the seconds between them. Somebody rings all the time."""
+        archiver = Archiver(ROW, served, Waits("shop"), self.committer, Mock(), Mock())
+        running = self.shared.spawn(archiver.run(), "an archiver")
+
+        def are_there() -> bool:
+            archiver.ring()
+            return len(tries) >= count
+
+        await self.done(are_there)
+        running.cancel()
+        return [later - earlier for earlier, later in zip(tries, tries[1:count])]
+
+    async def test_a_batch_that_is_refused_is_pulled_once_and_tried_more_and_more_seldom(self) -> None:
+        served, tries = service(hard=6), list[float]()
+        served.pulled_at_once.return_value = [BLOCK]
+
+        async def refuse(_: Batch) -> Kept:
+            tries.append(time.monotonic())
+            await asyncio.sleep(0)
+            return Kept(5, ROW.chain, 3)
+
+        self.committer.keep = refuse
+        gaps = await self.archive(served, tries, 5)
+        for gap, least in zip(gaps, (0.05, 0.1, 0.2, 0.4)):
+            self.assertGreater(gap, 0.9 * least, gaps)
+        self.assertEqual(served.pulled_at_once.await_count, 1)
+
+    async def test_a_service_whose_pulls_fail_is_asked_more_and_more_seldom(self) -> None:
+        served, tries = service(hard=6), list[float]()
+
+        async def fail(_: int) -> None:
+            tries.append(time.monotonic())
+            await asyncio.sleep(0)
+            raise Unreachable("no connection")
+
+        served.pulled_at_once.side_effect = fail
+        gaps = await self.archive(served, tries, 5)
+        for gap, least in zip(gaps, (0.05, 0.1, 0.2, 0.4)):
+            self.assertGreater(gap, 0.9 * least, gaps)
+
     async def test_a_batch_that_comes_while_an_idle_connection_is_closed_is_kept(self) -> None:
         closing, closed = asyncio.Event(), asyncio.Event()
 
@@ -153,16 +197,17 @@ class Archives(Meanwhile):
         self.assertEqual((await keeping).archived, 6)
         running.cancel()
 
-    async def test_what_postgresql_refuses_the_archive_is_said_once_until_a_batch_is_kept(self) -> None:
-        said, refused = list[str](), Refused("PostgreSQL: too many connections")
+    async def test_what_postgresql_refuses_the_archive_is_said_once_a_minute_with_a_count(self) -> None:
+        said, now, refused = list[str](), [0.0], Refused("PostgreSQL: too many connections")
         answers = [Kept(5, b"c" * 16, 3), refused, Kept(5, b"c" * 16, 3)]
         session = Mock(keep=AsyncMock(side_effect=[refused, frozenset({1}), refused]), ask=AsyncMock(side_effect=[refused, *answers]))
-        committer = Committer(session, PATIENCE, said.append)
+        committer, sentence = Committer(session, PATIENCE, said.append), "nothing is archived: PostgreSQL: too many connections"
+        committer._repeats._clock = lambda: now[0]
         running = self.shared.spawn(committer.run(), "the committer")
         with patch("asyncio.sleep", new=AsyncMock()):
-            for _ in range(3):
+            for now[0], lines in ((0.0, [sentence]), (59.0, [sentence]), (60.0, [sentence, f"{sentence} (2 times in 60 s)"])):
                 await committer.keep(Batch(1, "mine", 3, 5, b"d" * 16, (BLOCK,)))
-        self.assertEqual(said, 2 * ["nothing is archived: PostgreSQL: too many connections"])
+                self.assertEqual(said, lines)
         running.cancel()
 
     async def test_a_service_that_may_be_the_only_copy_stays_so_where_a_look_shows_its_run(self) -> None:
@@ -175,7 +220,7 @@ class Archives(Meanwhile):
 
 
     async def test_what_is_to_be_set_aside_is_not_forgotten_where_its_disk_is_full(self) -> None:
-        process = Mock(descriptor=0)
+        process = Mock(descriptor=0, seen=Seen())
         process.set_aside.side_effect = OSError(28, "no space"), OSError(28, "no space"), None
         with patch("asyncio.sleep", new=AsyncMock()) as waited:
             await self.database.ending.end_process(service(process=process, went_back=True))
@@ -332,7 +377,7 @@ class Successions(Meanwhile):
     async def test_a_service_without_the_memory_for_its_fence_is_ended_in_place_of_it(self) -> None:
         for error, is_broken in ((OutOfMemory("no"), True), (Unreachable("no"), False)):
             self.setUp()
-            served, (succession, made) = self.held(is_full=True), self.successor()
+            served, (succession, made) = self.held(is_full=True, timeout=0.02), self.successor()
             archiver = Mock(turn=asyncio.Lock(), archived=AsyncMock(return_value=True), lining=None)
             served.close.side_effect = error
             with patch("pagelog.keeper.succession.turn_of", Mock(return_value=AsyncMock())):

@@ -6,6 +6,7 @@ import itertools
 import socket
 import tempfile
 import threading
+import time
 import unittest
 from dataclasses import replace
 from pathlib import Path
@@ -15,13 +16,15 @@ from unittest.mock import Mock, patch
 import pagelog
 from pagelog import Credentials, Group, InDoubt, Lost, NamedPrimary, NamedReader, Unwritten
 from pagelog.dialing import dial
+from pagelog.following import CONFIRM
 from pagelog.keeper.referee import digest
 from pagelog.keeper.run import Program
 from pagelog.keeper.served import Served
-from pagelog.keeper.table import token_of
-from pagelog.place import Fate, Keepers, Place, _Line
+from pagelog.keeper.table import KEEPER, Form, table_of_run, token_of
+from pagelog.place import Dropped, Fate, Keepers, OlderKeepers, Place, _Line
 from service import PATIENCE, PROGRAM, WIDE_TABLE, Service, accept_each, interrupted, put, token
 
+DATABASE = "11111111-2222-4333-8444-555555555555"
 NARROW_TABLE = WIDE_TABLE.rpartition("[[row]]")[0]
 """By it a writer pulls nothing."""
 
@@ -37,7 +40,7 @@ class Named(unittest.TestCase):
         self.keepers.name = "shop"
         self.keepers.has_left.return_value = False
         self.keepers.place.side_effect = self.keepers.after.side_effect = lambda *_: self.places[-1]
-        self.keepers.fate.side_effect = lambda generation, position, _: Fate(position, generation != self.places[-1].generation)
+        self.keepers.fate.side_effect = lambda place, position, *_: Fate(position, place.generation != self.places[-1].generation)
 
     def begin(self, *, shift: int = 0, kept: int = 0) -> Service:
         """The next generation."""
@@ -46,7 +49,7 @@ class Named(unittest.TestCase):
         for id in range(1, 6):
             text = text.replace(token(id), self.token(id, run).hex())
         service = self.enterContext(Service(table=text))
-        self.places.append(Place(len(self.places) + 1, run, service.address, kept, "", kept, shift, kept))
+        self.places.append(Place(len(self.places) + 1, run, service.address, kept, "", kept, shift, kept, DATABASE))
         return service
 
     def token(self, id: int, run: str) -> bytes:
@@ -66,6 +69,11 @@ class Named(unittest.TestCase):
     def writer(self) -> NamedPrimary:
         made = self.named(NamedPrimary, 2, (1, token(1)))
         assert isinstance(made, NamedPrimary)
+        return made
+
+    def reader(self) -> NamedReader:
+        made = self.named(NamedReader, 3)
+        assert isinstance(made, NamedReader)
         return made
 
     def texts(self) -> list[bytes]:
@@ -95,6 +103,58 @@ class Writers(Named):
             writer.commit()
         self.assertEqual(raised.exception.position, 2)
         self.assertEqual(self.texts(), [b"1", b"other"])
+
+
+class Tokens(Named):
+    """A service that knows no such principal may be another's."""
+
+    def test_one_that_is_over_may_have_lost_its_address(self) -> None:
+        self.begin()
+        right, gone = self.places[-1], replace(self.places[-1], run="gone")
+        for make in (self.writer, self.reader):
+            told = iter((gone, right))
+            self.keepers.place.side_effect = self.keepers.after.side_effect = lambda *_: next(told, right)
+            with make() as client:
+                self.assertEqual(client.commit() if isinstance(client, NamedPrimary) else client.end(), 0)
+
+    def test_one_that_has_let_in_is_not_followed_by_a_wrong_token(self) -> None:
+        """As long as it takes to see that it has ended."""
+        service = self.begin()
+        with self.writer() as writer, self.reader() as reader:
+            writer.append(put(0, b"1"))
+            self.assertEqual((writer.commit(), reader.end()), (1, 1))
+            service.table.write_text(self.table)  # of no run
+            service.restart()
+            times = []
+
+            def place(*_: object) -> Place:
+                times.append(time.monotonic())
+                if len(self.places) == 1 and times[-1] - times[0] > 2 * CONFIRM:
+                    self.begin()
+                return self.places[-1]
+
+            self.keepers.place.side_effect = self.keepers.after.side_effect = place
+            self.assertEqual(reader.end(), 0)
+            self.assertGreater(times[-1] - times[0], CONFIRM)
+
+
+class Closed(Named):
+    def test_a_generation_that_its_keeper_closes_bars_nobody(self) -> None:
+        """The rows of a keeper deny its writers, and not those of the database."""
+        text = table_of_run(WIDE_TABLE, b"s" * 16, "shop", "closed", Form.READING)
+        service = self.enterContext(Service(table=text, primary=KEEPER))
+        self.places.append(Place(1, "closed", service.address, 0, "", 0, 0, 0, DATABASE))
+        asked = itertools.count(1)
+
+        def place(*_: object) -> Place:
+            if next(asked) == 5:
+                self.begin()
+            return self.places[-1]
+
+        self.keepers.place.side_effect = self.keepers.after.side_effect = place
+        with self.writer() as writer:
+            writer.append(put(0, b"1"))
+            self.assertEqual((writer.commit(), self.texts()), (1, [b"1"]))
 
 
 class NarrowWriters(Named):
@@ -201,13 +261,25 @@ class Saying(unittest.TestCase):
             with client, client.makefile("rb") as lines:
                 try:
                     for line in lines:
-                        client.sendall((said or self.said)(line.decode().split()))
+                        client.sendall(self.answer(line.decode().split(), said or self.said))
                 except OSError:
                     pass
 
         listener = self.enterContext(socket.create_server(("127.0.0.1", 0)))
         accept_each(listener, serve)
         return f"127.0.0.1:{listener.getsockname()[1]}"
+
+
+    def answer(self, words: list[str], said: Callable[[list[str]], bytes]) -> bytes:
+        """Of a keeper of version 2: each answer says of which database and run it is."""
+        if words[0] == "hello":
+            return b"hello 2\n"
+        of = [word for word in words if word.startswith("of=")]
+        told = said([word for word in words if word not in of])
+        if told.startswith((b"at ", b"standby ")) and len(told.split()) > 6:
+            of = [f"of={DATABASE}/{told.decode('latin-1').split()[3]}"]
+        is_told = told.endswith(b"\n") and not told.startswith(b"what")
+        return told[:-1] + b"".join(f" {word}".encode() for word in of) + b"\n" if is_told else told
 
 
 class Unopened(Saying):
@@ -265,7 +337,7 @@ class Left(Saying):
 
         def at(generation: int) -> bytes:
             served = services[generation - 1]
-            return f"at shop {generation} {served.run} {served.where.address} 0 {own} 0 0 {generation - 1}\n".encode()
+            return f"at shop {generation} {served.run} {served.where.address} 0 {own} 0 0 {generation - 1} after=run{generation - 1}\n".encode()
 
         def another(words: list[str]) -> bytes:
             """It has not heard of the release yet."""
@@ -295,6 +367,10 @@ class Left(Saying):
             primary.append(put(0, b"2"))
             self.assertEqual(primary.commit(), 2)
         self.assertEqual(set(asked), {services[1].where.address})
+
+
+def of_generation(number: int, run: str = "r") -> Place:
+    return Place(number, run, "127.0.0.1:1", 0, "127.0.0.1:1", 0, 0, 0, DATABASE)
 
 
 class Words(Saying):
@@ -332,10 +408,45 @@ class Words(Saying):
         place = keepers.place()
         for _ in range(2):
             keepers.full(place)
-            keepers.ring(place.generation, place.lines)
+            keepers.ring(place)
             self.assertEqual(keepers.where(), place)
-        self.assertEqual(asked, ["where", *["full", "ring", "where"] * 2])
+        self.assertEqual(asked, ["where", *["where", "full", "ring", "where"] * 2])
         keepers.full(replace(place, lines="127.0.0.1:1"))  # nobody is there
+
+    def older(self, **answers: str) -> str:
+        """A keeper of version 1."""
+
+        def serve(client: socket.socket) -> None:
+            with client, client.makefile("rb") as lines:
+                for line in lines:
+                    words = line.decode().split()
+                    told = answers.get(words[0], "") if not any("=" in word for word in words) else ""
+                    client.sendall((told or f"what {words[0]}").encode() + b"\n")
+
+        listener = self.enterContext(socket.create_server(("127.0.0.1", 0)))
+        accept_each(listener, serve)
+        return f"127.0.0.1:{listener.getsockname()[1]}"
+
+    def test_what_an_older_keeper_says_is_durable_is_of_its_present_run(self) -> None:
+        at = "at shop 1 {} 127.0.0.1:1 5 127.0.0.1:2 0 0 0"
+        for run, answer, told in (("r", "durable shop 1 7", Fate(7, False)), ("another", "durable shop 1 7", None), ("r", "over shop 1 7", None)):
+            keepers = Keepers("shop", [self.older(where=at.format(run), durable=answer)], 0.0)
+            self.addCleanup(keepers.close)
+            with self.subTest(run=run, answer=answer), patch.object(Keepers, "where", return_value=None):
+                if told is None:
+                    self.assertRaises(pagelog.TimedOut, keepers.fate, of_generation(1), 5)
+                else:
+                    self.assertEqual(keepers.fate(of_generation(1), 5), told)
+
+    def test_where_all_keepers_are_older_a_client_is_refused(self) -> None:
+        older = self.older(where="at shop 1 r 127.0.0.1:1 5 127.0.0.1:2 0 0 0")
+        for others, error in (([], OlderKeepers), (["127.0.0.1:1"], pagelog.TimedOut)):  # one that is away may be a newer one
+            keepers = Keepers("shop", [older, *others], 0.0)
+            self.addCleanup(keepers.close)
+            self.assertRaises(error, keepers.place)
+        keepers = Keepers("shop", [older, self.keeper(lambda _: b"at shop 1 r 127.0.0.1:1 4 127.0.0.1:2 0 0 0\n")], PATIENCE)
+        self.addCleanup(keepers.close)
+        self.assertEqual(keepers.place().database, DATABASE)
 
     def test_who_knows_most_of_the_newest_generation_is_believed(self) -> None:
         """The place of one that has not looked for a while may be of a service that was ended since."""
@@ -381,7 +492,7 @@ class Words(Saying):
 
         self.said = lambda words: b"at shop 1 r 127.0.0.1:1 5 127.0.0.1:2 0 0 0\n" if words[0] == "where" else b"nowhere shop\n"
         with patch.object(_Line, "answer", answered):
-            self.assertRaises(pagelog.TimedOut, self.keepers.fate, 1, 9)
+            self.assertRaises(pagelog.TimedOut, self.keepers.fate, of_generation(1), 9)
             self.assertEqual((len(asked), self.keepers._left_out), (1, {}))
             for _ in range(3):
                 self.assertIsNotNone(self.keepers.where())
@@ -396,12 +507,23 @@ class Words(Saying):
             self.said = lambda _, answer=answer: answer.encode("latin-1") + b"\n"  # type: ignore[misc]
             with self.subTest(answer):
                 self.assertEqual((self.keepers.where(), self.keepers.standby()), (None, None))
-                self.assertRaises(pagelog.TimedOut, self.keepers.fate, 1, 5)
+                self.assertRaises(pagelog.TimedOut, self.keepers.fate, of_generation(1), 5)
 
     def test_what_became_of_another_generation_is_no_answer(self) -> None:
         self.said = lambda _: b"over shop 1 5\n"
-        self.assertRaises(pagelog.TimedOut, self.keepers.fate, 2, 5)
-        self.assertEqual(self.keepers.fate(1, 7), Fate(5, True))
+        self.assertRaises(pagelog.TimedOut, self.keepers.fate, of_generation(2), 5)
+        self.assertEqual(self.keepers.fate(of_generation(1), 7), Fate(5, True))
+
+    def test_what_became_of_another_run_is_no_answer(self) -> None:
+        """Of the same number; by a keeper whose answers say of what they are, or which knows no better."""
+        for told in (f"over shop 1 5 of={DATABASE}/another", f"durable shop 1 9 of={DATABASE}/another", "durable shop 1 9",
+                     f"lost shop 1 dropped of={DATABASE}/another"):  # fmt: skip
+            with patch.object(Words, "answer", lambda _, words, said, told=told: b"hello 2\n" if words[0] == "hello" else f"{told}\n".encode()):
+                self.assertRaises(pagelog.TimedOut, self.keepers.fate, of_generation(1), 5)
+        self.said = lambda _: b"lost shop 1 superseded by=7\n"
+        self.assertEqual(self.keepers.fate(of_generation(1), 5), Fate(0, True, True, "PostgreSQL went back, and has gone on with generation 7 without this run"))
+        self.said = lambda _: b"lost shop 1 another by=0\n"
+        self.assertRaisesRegex(Dropped, "another database", self.keepers.fate, of_generation(1), 5)
 
     def test_an_answer_that_comes_byte_by_byte(self) -> None:
         """The time for a whole answer is over, though a byte came each time within the time-out for silence."""

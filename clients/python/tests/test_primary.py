@@ -8,7 +8,7 @@ import pagelog
 from pagelog import Block, Zero, faults
 from pagelog.primary import Primary
 from pagelog.request import Report, Write
-from service import WIDE_TABLE, Service, interrupted, put, token
+from service import TABLE, WIDE_TABLE, Service, interrupted, put, token
 
 
 class Commits(unittest.TestCase):
@@ -119,6 +119,66 @@ class Commits(unittest.TestCase):
                 primary.commit()
             self.assertEqual((primary.durable, self.reader.status().hard), (1, 1))
             self.assertFalse(primary._is_quorum_shown)
+
+
+def end_mark(lsn: int, name: bytes = b"shop") -> bytes:
+    """Page 0 as SQLite's VFS leaves it: magic, LSN, size, session, transaction, and the name."""
+    return b"plfile01" + b"".join(number.to_bytes(8, "big") for number in (lsn, 8192, 7, 1)) + bytes((len(name),)) + name
+
+
+class OverSqlite(unittest.TestCase):
+    """A database whose page 0 has the end mark of SQLite's VFS."""
+
+    def setUp(self) -> None:
+        self.service = self.enterContext(Service())
+        self.operator = self.enterContext(self.service.operator())
+        with self.service.primary() as sqlite:
+            sqlite.append(put(1, b"SQLite format 3"), put(0, end_mark(1)))
+            sqlite.commit()
+
+    def requests(self) -> list[str]:
+        """What principal 2 has asked so far."""
+        return [entry.operation.name for entry in self.operator.entries(follow=False) if entry.principal == 2]
+
+    def test_nothing_is_written_unless_asked(self) -> None:
+        ways = (lambda primary: (primary.append(put(5, b"x")), primary.commit()), lambda primary: list(primary.stream([[put(5, b"x")]])),
+                lambda primary: list(primary.harden([Block.of(2, [put(5, b"x")])])))  # fmt: skip
+        for way in ways:
+            with self.service.primary() as primary:
+                for _ in range(2):
+                    with self.assertRaisesRegex(pagelog.HoldsSqlite, "SQLite database 'shop' at LSN 1.*overwrite_sqlite=True") as raised:
+                        way(primary)
+                        primary.commit()
+                    self.assertEqual((raised.exception.lsn, raised.exception.name), (1, "shop"))
+        taking = self.service.connection(), pagelog.Credentials.of(2, token(2)), self.operator
+        with Primary.take_over(*taking) as primary, self.assertRaises(pagelog.HoldsSqlite):
+            primary.append(put(0, b"hello"))
+            primary.commit()
+        self.assertEqual(self.operator.status().hard, 1)
+        with Primary.take_over(*taking, overwrite_sqlite=True) as primary:
+            primary.append(put(0, b"hello"))
+            self.assertEqual(primary.commit(), 2)
+
+    def test_it_costs_one_get_of_a_writer_and_none_of_an_empty_log(self) -> None:
+        commit = ["WRITE", "WRITE", "REPORT"]
+        self.assertEqual(self.requests(), ["STATUS", *commit])
+        with self.service.primary(overwrite_sqlite=True) as primary:
+            primary.append(put(0, b"not any more"))
+            primary.commit()
+        self.assertEqual(self.requests()[4:], ["STATUS", *commit])
+        with self.service.primary() as primary:
+            for number in range(3):
+                primary.append(put(0, b"hello"))
+                primary.commit()
+            list(primary.stream([[put(1, b"x")]]))
+        self.assertEqual(self.requests()[8:], ["STATUS", "GET", *4 * commit])
+
+    def test_where_the_table_denies_the_look_it_writes(self) -> None:
+        deny = '[[row]]\nverdict = "deny"\nwho = 2\nop = ["get"]\n\n'
+        self.operator.set_table(TABLE.read_text().replace("[[row]]", deny + "[[row]]", 1))
+        with self.service.primary() as primary:
+            primary.append(put(0, b"hello"))
+            self.assertEqual(primary.commit(), 2)
 
 
 class Interrupted(unittest.TestCase):

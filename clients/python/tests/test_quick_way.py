@@ -30,12 +30,13 @@ from pagelog.keeper.database import Database
 from pagelog.keeper.keeping import Keeper
 from pagelog.keeper.loading import Loader
 from pagelog.keeper.quick import QuickReferee
-from pagelog.keeper.quick_way import End, QuickWay, QuickWays
+from pagelog.keeper.quick_way import MOST, End, QuickPool, QuickWay, QuickWays
 from pagelog.keeper.referee import digest
 from pagelog.keeper.rows import Kept
 from pagelog.keeper.run import Program
 from pagelog.keeper.served import Served
 from pagelog.keeper.settings import Settings
+from pagelog.place import UnknownName
 from pagelog.request import PULL_MAX
 from service import PATIENCE, PROGRAM, WIDE_TABLE, stand_still
 from test_referee import Referees
@@ -107,7 +108,7 @@ class Hot(Referees, unittest.IsolatedAsyncioTestCase):
         if self.goes_through_line:
             self.line = Line(stalls=self.stalls)
             self.addCleanup(self.line.close)
-            self.shared.ways = QuickWays(QuickReferee(self.line.url(self.url), "one", "life of one"), idle=PATIENCE, deadline=PATIENCE)
+            self.shared.ways = QuickPool(lambda: QuickWays(QuickReferee(self.line.url(self.url), "one", "life of one"), idle=PATIENCE, deadline=PATIENCE), 1)
         kept = self.taken()
         self.served = Served("shop", "r1", WIDE_TABLE, b"s" * 16, timeout=PATIENCE)
         self.served.start(Program(PROGRAM, "127.0.0.1", self.folder, 1_000_000))
@@ -156,6 +157,12 @@ class Hot(Referees, unittest.IsolatedAsyncioTestCase):
         return self.archiver._way
 
     @property
+    def ways(self) -> QuickWays:
+        """The first of those that there are, which a single database has."""
+        assert self.shared.ways is not None
+        return self.shared.ways.ways[0]
+
+    @property
     def is_hot(self) -> bool:
         return self.archiver.is_quick
 
@@ -193,7 +200,7 @@ class Hot(Referees, unittest.IsolatedAsyncioTestCase):
         client = client or self.client()
         while not self.is_hot or not self.way._lent:
             if self.shared.ways is not None:
-                self.shared.ways._not_before = 0.0  # after a doubt it connects again at once
+                self.ways._not_before = 0.0  # after a doubt it connects again at once
             await self.commit(client)
             await asyncio.sleep(0.001)
         return client
@@ -333,12 +340,11 @@ class Tells(Hot):
         self.assertEqual((self.served.reached, self.ends), (position, []))
 
     async def test_it_is_given_back_where_nobody_asks(self) -> None:
-        assert self.shared.ways is not None
-        self.shared.ways.idle = 0.3
+        self.ways.idle = 0.3
         client = await self.hot()
         await self.until(lambda: self.ends == [End.IDLE], "its end")
         self.assertEqual(await client.ask("where nothing"), "unknown nothing" if self.keeper.look.keepers else "nowhere nothing")
-        await self.until(lambda: not self.shared.ways.statements, "the end of its connection")  # type: ignore[union-attr]
+        await self.until(lambda: not self.ways.statements, "the end of its connection")
         await self.commit(client)
         self.assert_whole()
 
@@ -371,7 +377,7 @@ class Lines(Hot):
         for words, answer in (
             ("where nobody", "nowhere nobody"), ("turn shop", "turn shop other"), ("nonsense", "what nonsense"), ("", "what"),
             ("standby shop", "standby shop - - - - -"), (f"durable ship {g} 1", "unknown ship"), ("block shop 1", None), ("\0", "what \0"),
-            (f"durable  shop {g}  1 ", None), (f"durable shop {g} +1", None), (f"durable shop 0{g} 1", None), (f"durable shop {g} 0", None),
+            (f"durable  shop {g}  1 ", None), (f"durable shop 0{g} 1", None), (f"durable shop {g} 0", None),
             ("x" * 1000, f"what {'x' * 1000}"), (f"durable shop {g} 1\r", None), ("durable shop 77 1", "elsewhere shop 77"),
         ):  # fmt: skip
             await self.hot(client)
@@ -382,8 +388,38 @@ class Lines(Hot):
         await self.hot(client)
         self.assert_whole()
 
+    async def test_what_is_asked_of_another_run_is_the_keepers(self) -> None:
+        """A client that has greeted is told of which run an answer is, the quick way too."""
+        client = await self.hot()
+        of = f" of={self.database.row.identity}/r1"
+        self.assertEqual(await client.ask("hello 2"), "hello 2")
+        before = len(self.ends)
+        while not self.is_hot or not self.way._lent:
+            position = self.write()
+            self.assertEqual(await client.ask(self.durable(position) + of), self.durable(position) + of)
+            await asyncio.sleep(0.001)
+        for _ in range(3):
+            position = self.write()
+            self.assertEqual(await client.ask(self.durable(position) + of), self.durable(position) + of)
+        self.assert_quick(position)
+        self.assertEqual(len(self.ends), before)
+        other = f" of={self.database.row.identity}/r2"
+        found = await client.ask(self.durable(1) + other)
+        self.assertEqual(found.split()[:4], ["lost", "shop", str(self.served.generation), "superseded"])
+        self.assertTrue(found.endswith(other))
+
+    async def test_a_number_that_two_runs_had_says_nothing_to_an_older_client(self) -> None:
+        client = await self.hot()
+        self.database.see(replace(self.database.row, doubted=self.served.generation), 1, (), is_noted=False, began=float("inf"))
+        position = self.write()
+        self.assertEqual(await client.ask(self.durable(position)), f"elsewhere shop {self.served.generation}")
+        self.assertEqual(await client.ask("hello 2"), "hello 2")
+        of = f" of={self.database.row.identity}/r1"
+        self.assertEqual(await client.ask(self.durable(position) + of), self.durable(position) + of)
+
     async def test_lines_that_end_the_connection_do_so(self) -> None:
-        for data in (b"x" * 1100, b"durable shop x 1\n", b"\xff\n", f"durable shop {self.served.generation} x\n".encode()):
+        g = self.served.generation
+        for data in (b"x" * 1100, b"durable shop x 1\n", b"\xff\n", f"durable shop {g} x\n".encode(), f"durable shop {g} +1\n".encode()):
             client = await self.hot(self.client())
             client.raw(data)
             self.assertEqual(await client.answer(), "")
@@ -491,7 +527,7 @@ class Lines(Hot):
         finally:
             await asyncio.to_thread(gate.open)
         self.assertEqual(await client.answer(), self.durable(position))
-        await self.until(lambda: len(self.keeper._server._open) == 1, "the end of their connections")
+        await self.until(lambda: len(self.keeper._server._open._lines) == 1, "the end of their connections")
         self.assertEqual((self.ends, len(self.database.waits)), ([], 0))
         await self.commit_quickly(client)
 
@@ -648,18 +684,20 @@ class Statements(Hot):
 
 
 class Fences(Hot):
-    async def ended(self, change: str, *, is_over: bool) -> Client:
-        """Something has changed in the archive: nothing of a batch is kept, and nothing is told."""
+    async def ended(self, change: str, *, is_over: bool, is_told: bool = False) -> Client:
+        """Something has changed in the archive: nothing of a batch is kept, and nothing is told of it, but that the run is over."""
         client = await self.hot()
+        self.was, before = self.archiver, self.rows()
         self.execute(f"UPDATE pagelog_log SET {change}")
-        before = self.rows()
         position = self.write()
         client.send(self.durable(position))
         await self.until(lambda: self.ends == [End.NOT_KEPT], "its end")
-        await self.until(lambda: self.archiver.is_over == is_over, "the end of the archiver")
-        self.assertEqual(client.has_answer() and not is_over, False)
-        if is_over:
+        await self.until(lambda: self.was.is_over == is_over, "the end of the archiver")
+        if is_told:
+            self.assertRegex(await client.answer(), "^over shop 1 ")
+        elif is_over:
             await asyncio.sleep(0.05)
+        if is_over:
             self.assertFalse(client.has_answer())
             self.assertEqual(self.rows(), before)
         return client
@@ -680,8 +718,8 @@ class Fences(Hot):
         self.assertEqual(await client.answer(), self.durable(len(self.written)))
 
     async def test_the_archive_has_something_else(self) -> None:
-        await self.ended("archived = archived - 1, chain = 'otherotherother!'", is_over=True)
-        self.assertTrue(self.archiver.is_stuck and self.served.went_back)
+        await self.ended("archived = archived - 1, chain = 'otherotherother!'", is_over=True, is_told=True)
+        self.assertTrue(self.was.is_stuck and self.served.went_back)  # it was let go of, and its service is set aside
 
     async def test_the_archive_went_back(self) -> None:
         client = await self.hot()
@@ -757,7 +795,7 @@ class Stalled(Hot):
         await self.until(lambda: self.archived() == position, "its commit")
         await asyncio.sleep(0.1)
         self.assertEqual((client.has_answer(), self.way.reached[0], self.ends), (False, position - 1, []))
-        self.shared.ways._referee.cut()  # type: ignore[union-attr]
+        self.ways._referee.cut()
         self.assertEqual(await client.answer(), self.durable(position))
         self.assertEqual(self.ends, [End.DOUBT])
 
@@ -786,8 +824,7 @@ class Stalled(Hot):
         self.assert_whole()
 
     async def test_one_that_hangs_is_in_doubt_after_its_time_whatever_lines_say_meanwhile(self) -> None:
-        ways = self.shared.ways
-        assert ways is not None
+        ways = self.ways
         client, other = await self.hot(), self.client()
         ways.deadline = 0.5
         self.archiver._end_way()
@@ -804,8 +841,7 @@ class Stalled(Hot):
         self.assertEqual(self.ends[0], End.DOUBT)
 
     async def test_a_connection_that_hangs_as_its_statements_are_prepared_is_cut(self) -> None:
-        ways = self.shared.ways
-        assert ways is not None
+        ways = self.ways
         self.line.count_from_now(back=1 << 40)
         self.assertFalse(ways._is_connected())
         await self.until(lambda: ways.statements, "its statements")
@@ -837,8 +873,7 @@ class Confirming(Hot):
         values = {**quick_way._VALUES, "SELECT flushed, standby FROM reached": []}
         del values[statements.REACHED]
         self.enterContext(patch.object(quick_way, "_VALUES", values))
-        assert self.shared.ways is not None
-        self.shared.ways.confirms = True
+        self.ways.confirms = True
 
     async def kept(self, client: Client) -> int:
         """A commit that the archive has, and a standby has not."""
@@ -869,8 +904,7 @@ class Confirmed(Confirming):
         self.assertEqual(self.ends, [End.DOUBT])
 
     async def test_one_that_does_not_come_up_in_time_is_in_doubt(self) -> None:
-        assert self.shared.ways is not None
-        self.shared.ways.deadline = 0.5
+        self.ways.deadline = 0.5
         client = await self.hot()
         position = await self.kept(client)
         self.assertEqual(await client.answer(), self.durable(position))
@@ -1124,13 +1158,24 @@ class Ends(Hot):
         finally:
             await asyncio.to_thread(gate.open)
         self.assertEqual(await client.answer(), "")
-        self.assertIsNone(self.shared.ways._at_work)  # type: ignore[union-attr]
+        self.assertIsNone(self.ways._at_work)
 
-    async def test_another_database_has_none_meanwhile(self) -> None:
+    async def test_another_database_has_another_meanwhile_and_none_where_all_are_taken(self) -> None:
         await self.hot()
-        ways = self.shared.ways
-        assert ways is not None
-        self.assertIsNone(await ways.way_of(self.database.row, self.served, Mock()))
+        pool, taken = self.shared.ways, list[QuickWay]()
+        assert pool is not None
+        self.assertIsNone(await self.ways.way_of(self.database.row, self.served, Mock()))
+        while len(taken) < MOST - 1:
+            if (way := await pool.way_of(self.database.row, self.served, Mock())) is not None:
+                taken.append(way)
+            self.assertLessEqual(sum(each.is_connecting for each in pool.ways), 1)
+            await asyncio.sleep(0.001)
+        self.assertTrue(all(each.is_taken for each in pool.ways))
+        self.assertIsNone(await pool.way_of(self.database.row, self.served, Mock()))
+        for way in taken:
+            way.stop()
+            self.assertEqual(await way.run(), End.STOPPED)
+        await self.until(lambda: sum(each.is_taken for each in pool.ways) == 1, "the rest")
 
 
 class Without(Hot):
@@ -1140,7 +1185,7 @@ class Without(Hot):
 
     async def goes_on(self) -> None:
         client = self.client()
-        with patch.object(QuickWays, "way_of", side_effect=AssertionError("a quick way")) if self.shared.ways is None else suppress():
+        with patch.object(QuickPool, "way_of", side_effect=AssertionError("a quick way")) if self.shared.ways is None else suppress():
             for _ in range(8):
                 await self.commit(client)
                 client.send(f"ring shop {self.served.generation}")
@@ -1150,7 +1195,7 @@ class Without(Hot):
 
     async def test_it_was_not_built(self) -> None:
         with patch("importlib.util.find_spec", return_value=None):
-            self.shared.ways = QuickWays(QuickReferee(self.url, "one", "life of one"), idle=PATIENCE, deadline=PATIENCE)
+            self.shared.ways = QuickPool(lambda: QuickWays(QuickReferee(self.url, "one", "life of one"), idle=PATIENCE, deadline=PATIENCE))
         self.assertFalse(self.shared.ways.is_there)
         self.archiver._ways = self.shared.ways
         await self.goes_on()
@@ -1174,12 +1219,15 @@ class Without(Hot):
             with patch("pagelog.keeper.keeping.Folder"):
                 made = Keeper(Settings.of("one", "127.0.0.1:0", "127.0.0.1", Path("."), PROGRAM, self.url, section))
             ways = made._shared.ways
-            self.assertEqual(None if ways is None else ways.confirms, None if "trail" in section else "require_standby" in section)
+            found = None if ways is None else {each.confirms for each in ways.ways}
+            self.assertEqual(found, None if "trail" in section else {"require_standby" in section})
 
 
 @unittest.skipUnless(IS_BUILT, "the quick way is not built")
 class Moves(KeptService):
     """Keepers, each a process."""
+
+    options = {"more": 'metrics = "127.0.0.1:0"\n'}
 
     def test_a_succession_a_switchover_and_the_end_of_a_keeper_amid_its_traffic(self) -> None:
         told, stops = list[bytes](), threading.Event()
@@ -1210,6 +1258,39 @@ class Moves(KeptService):
             stops.set()
             writer.join()
         self.assertEqual(self.texts(), told)
+
+    def test_databases_that_commit_at_once_all_go_the_quick_way(self) -> None:
+        names, stops = ("shop", "ship", "shed"), threading.Event()
+        for name in names[1:]:
+            self.assertTrue(self.keeping.referee.create(name, self.keeping.table.read_text(), b"s" * 16))
+        self.keeping.ring()
+        eventually(lambda: all(self.is_known(name) for name in names), "keepers that know them")
+
+        def write(name: str) -> None:
+            with self.keeping.primary(name) as primary:
+                while not stops.is_set():
+                    self.commit(primary, "x", durable=True)
+
+        writers = [threading.Thread(target=write, args=(name,)) for name in names]
+        for writer in writers:
+            writer.start()
+        try:
+            eventually(lambda: self.quick() == set(names), "the quick way of each")
+        finally:
+            stops.set()
+            for writer in writers:
+                writer.join()
+
+    def is_known(self, name: str) -> bool:
+        try:
+            return bool(self.keeping.place(name))
+        except UnknownName:
+            return False
+
+    def quick(self) -> set[str]:
+        """The databases that have it, by the metrics of all keepers."""
+        found = [self.keeping.metrics(keeper) for keeper in self.keepers]
+        return {label for metrics in found for (name, label), value in metrics.items() if name == "pagelog_keeper_quick" and value}
 
     def until_it_is_quick(self) -> None:
         """Until the statement of one block, which nobody else makes, was asked from now on."""

@@ -149,7 +149,7 @@ class Pages(unittest.TestCase):
         docstring = textwrap.dedent((pagelog.__doc__ or "").split("\n\n", 1)[1].split("\n\n`Primary`")[0])
         self.assertEqual(docstring.strip(), lines.strip())
         with Service() as service:
-            code = lines.replace("127.0.0.1:7400", service.address)
+            code = lines.replace("127.0.0.1:7403", service.address)
             done = subprocess.run([sys.executable, "-B", "-c", code], env={"PYTHONPATH": str(SOURCE)}, capture_output=True, text=True)
         self.assertEqual((done.stdout, done.stderr), ("b'hello'\n1 (Put(page=0, offset=0),)\n", ""))
 

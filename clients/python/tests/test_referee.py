@@ -12,7 +12,8 @@ import psycopg
 from keepers import Line, Replying, batch_of, blocks, eventually, new_database, new_url
 from pagelog.keeper import statements
 from pagelog.keeper.referee import Away, BrokenArchive, Doubt, Referee, Refused, Superseded, digest
-from pagelog.keeper.rows import Batch, Kept, Row, Where, released_of
+from pagelog.keeper.rows import Batch, Kept, Row, Where
+from pagelog.keeper.switch import number
 from postgres import SilentProxy, postgres
 from service import PATIENCE
 
@@ -138,10 +139,17 @@ class Fences(Referees):
         self.assertEqual(found, [(0, 0), (5, 2), (5, 0)])
 
     def test_a_release_says_where_it_was(self) -> None:
-        for chain in (b"", b"\x00\xab" * 8):
-            self.assertEqual(released_of(f"shop 3 17 {chain.hex()}"), ("shop", (3, 17, chain)))
-        for other in ("", "shop 3 17", "shop 3 x ab", "shop 3 17 a", "shop 3 17 ab 1"):
-            self.assertEqual(released_of(other)[0], "")
+        """Keepers of version 0.1 act on what it notifies."""
+        told = list[str]()
+        with psycopg.connect(self.url, autocommit=True) as session:
+            session.add_notify_handler(lambda notify: told.append(notify.payload))
+            session.execute("LISTEN pagelog_keeper")
+            kept = self.taken()
+            made = batch_of(self.seen(), kept, "r1")
+            self.referee.keep([made])
+            self.referee.release(self.seen().id, "r1")
+            session.execute("SELECT 1")
+        self.assertEqual(told[-1:], [f"shop {kept.generation} {made.new} {made.chain.hex()}"])
 
     def test_a_wish_that_is_taken_back_is_no_other_one(self) -> None:
         self.assertFalse(self.referee.wish("none", "a"))
@@ -160,6 +168,25 @@ class Fences(Referees):
         self.assertEqual(self.referee.pause("shop", True), 1)
         self.assertIsNone(self.referee.take(self.seen(), "r3"))
         self.assertEqual((self.referee.pause(None, False), self.taken("r3").generation), (1, 8))
+
+    def test_the_numbers_of_a_dropped_name_are_not_given_again(self) -> None:
+        self.assertEqual([self.taken(run).generation for run in ("r1", "r2")], [1, 2])
+        before = self.seen().identity
+        self.referee.drop("shop")
+        again = new_database(self.referee, "shop")
+        self.assertNotEqual(again.identity, before)
+        kept = self.referee.take(again, "r3")
+        self.assertEqual(kept and kept.generation, 4)  # to a client of version 1, 3 would say that 2 has ended there
+
+    def test_a_server_that_went_back_gives_numbers_above_what_is_known(self) -> None:
+        self.assertEqual(self.taken("r1").generation, 1)
+        self.referee.release(self.row.id, "r1")
+        kept = self.referee.take(self.seen(), "r2", least=9)
+        self.assertEqual(kept and kept.generation, 9)
+        self.assertEqual(number(self.referee, self.row.id, "r2", 9, 20), 20)
+        self.referee.raise_numbers(self.seen().identity, 30, 9)
+        self.assertEqual((self.seen().next_generation, self.seen().doubted), (32, 9))
+        self.assertIsNone(self.referee.fate("shop", 1))
 
     def test_many_databases_in_one_statement_each_under_its_own_condition(self) -> None:
         rows = [self.row, *(new_database(self.referee, f"other{number}") for number in range(4))]

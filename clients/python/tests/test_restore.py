@@ -87,6 +87,16 @@ class Restoring(Pair):
         self.assertEqual(self.restore().blocks, 200)
         self.same_logs(200)
 
+    def test_a_database_of_sqlite_goes_on_too(self) -> None:
+        """What a restore that was broken off has written has an end mark."""
+        self.primary.append(put(0, b"plfile01" + (1).to_bytes(8, "big") + bytes(24)))
+        self.primary.commit()
+        self.archived(3)
+        with self.target.primary(alone=True) as primary, self.target.reader() as reader:
+            self.assertEqual(restore(self.archive, primary, reader, last=1).hard, 1)
+        self.assertEqual(self.restore().hard, 4)
+        self.same_logs(4)
+
     def test_nothing_is_overwritten(self) -> None:
         self.archived(40)
         for count in (3, 60):

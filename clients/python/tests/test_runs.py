@@ -30,7 +30,7 @@ from pagelog.keeper.loading import Loader
 from pagelog.keeper.referee import Away, BrokenArchive, digest
 from pagelog.keeper.rows import Row
 from pagelog.keeper import run as run_module
-from pagelog.keeper.run import NotStarted, Program, Run, _facts_of, end_orphans, new_run
+from pagelog.keeper.run import NotStarted, Program, Run, Seen, _facts_of, is_there, new_run, orphans_of
 from pagelog.keeper.served import Served
 from pagelog.keeper.succession import _closed
 from pagelog.keeper.table import KEEPER, Form, TableError, keeper_of, quorum_of, read_table, table_of_run, token_of
@@ -39,6 +39,26 @@ from service import PATIENCE, PROGRAM, TABLE, WIDE_TABLE, Port, token
 
 SECRET = b"s" * 16
 TABLE_TEXT = TABLE.read_text()
+
+
+class Opens:
+    """The names of the files of a folder that are opened meanwhile. A hook of Python's stays for good."""
+
+    def __init__(self, folder: Path) -> None:
+        self.names: list[str] = []
+        self._folder, self._is_on = str(folder), False
+        sys.addaudithook(self._hear)
+
+    def __enter__(self) -> Opens:
+        self._is_on = True
+        return self
+
+    def __exit__(self, *_: object) -> None:
+        self._is_on = False
+
+    def _hear(self, event: str, arguments: tuple[object, ...]) -> None:
+        if self._is_on and event == "open" and str(arguments[0]).startswith(f"{self._folder}/"):
+            self.names.append(Path(str(arguments[0])).name)
 
 
 class Tables(unittest.TestCase):
@@ -62,7 +82,9 @@ class Tables(unittest.TestCase):
     def test_what_is_no_table_is_refused(self) -> None:
         principal = f'[[principal]]\nid = 7\ntoken = "{token(7)}"\n'
         for text in ("", "x", "a = 1", principal + "[x]\n", "[[principal]]\nid = 1\n", principal.replace("7\n", f"{KEEPER}\n", 1),
-                     principal * 64, principal + '[[row]]\nverdict = "allow"\n' * 253, "quorum = 3\n" + principal):  # fmt: skip
+                     principal + "[[row]]\nverdict = 1979-05-27\n", principal + "[[row]]\nwho = inf\n", principal + "[[row]]\nop = [nan]\n",
+                     principal + "[[row]]\nwho = {}\n", "row = [7]\n" + principal, "principal = [7]\n", "copies = 1979-05-27\n" + principal,
+                     "a = " + "[" * 5000, principal * 64, principal + '[[row]]\nverdict = "allow"\n' * 253, "quorum = 3\n" + principal):  # fmt: skip
             with self.assertRaises(TableError):
                 quorum_of(text)
         read_table(principal + '[[row]]\nverdict = "allow"\n' * 252)
@@ -88,6 +110,13 @@ class Runs(unittest.TestCase):
         assert run._child is not None
         run._child.kill()
         run._child.wait()
+
+    def test_a_service_inherits_no_secret_of_its_keeper(self) -> None:
+        with patch.dict(os.environ, PAGELOG_ARCHIVE_URL="postgresql://keeper:secret@/", PGPASSWORD="secret", PAGELOG_OPERATOR_TOKEN=token(1)):
+            run = self.start()
+        inherited = Path(f"/proc/{run.facts.pid}/environ").read_bytes()
+        self.assertEqual({pair.partition(b"=")[0] for pair in filter(None, inherited.split(b"\0"))} - {b"PATH", b"LANG", b"TZ"}, set())
+        self.assertIn(b"PATH=", inherited)
 
     def client(self, kind: type, run: Run, id: int) -> object:
         return kind(Connection(run.address), Credentials(id, token_of(bytes.fromhex(token(id)), "shop", run.name)))
@@ -205,6 +234,16 @@ class Runs(unittest.TestCase):
         served.check(200, digest(b"", known))
         self.assertEqual(served.pulled(0), list(known))
 
+    def test_what_an_older_keeper_does_not_know_of_a_process_stays_noted(self) -> None:
+        run = self.start()
+        file = self.folder / f"shop.{run.name}.json"
+        file.write_text(json.dumps({**json.loads(file.read_text()), "place": {"of": "a later keeper"}}))
+        adopted = Run.adopt(self.folder, "shop", run.name)
+        assert adopted is not None
+        adopted.set_aside(3, 4)
+        facts = json.loads(file.read_text())
+        self.assertEqual((facts["place"], facts["kept"], facts["shift"]), ({"of": "a later keeper"}, True, 3))
+
     def test_a_service_is_adopted_by_a_later_keeper(self) -> None:
         run = self.start()
         facts = json.loads((self.folder / f"shop.{run.name}.json").read_text())
@@ -222,6 +261,18 @@ class Runs(unittest.TestCase):
         self.assertIsNone(Run.adopt(self.folder, "shop", run.name))
         self.assertEqual(list(self.folder.iterdir()), [])
 
+    def test_an_adoption_reads_its_own_note_alone_and_opens_no_other_process(self) -> None:
+        run = self.start()
+        for number in range(50):  # as of other databases that run: each of this very process
+            facts = replace(_facts_of(f"other{number}", "r", os.getpid()), address="127.0.0.1:1")
+            (self.folder / facts.file_name).write_text(json.dumps(vars(facts)))
+        with patch("os.pidfd_open", wraps=os.pidfd_open) as opened, Opens(self.folder) as opens:
+            adopted = Run.adopt(self.folder, "shop", run.name)
+        assert adopted is not None
+        self.assertEqual(([each.args for each in opened.call_args_list], opens.names), ([(run.facts.pid,)], [run.facts.file_name]))
+        adopted.end()
+        run.leave()
+
     def test_one_that_does_not_end_is_waited_for_no_longer_than_a_while(self) -> None:
         """As one that waits for a disk. Its keeper goes on, and its next life ends it."""
         run, open_before = self.start(), len(os.listdir("/proc/self/fd"))
@@ -229,7 +280,7 @@ class Runs(unittest.TestCase):
             self.assertFalse(run.end())
         self.assertLess(len(os.listdir("/proc/self/fd")), open_before)
         self.assertTrue((self.folder / run.facts.file_name).exists())
-        self.assertEqual(end_orphans(self.folder, set()), ["shop"])
+        self.assertEqual(self.left(set()), ["shop"])
         self.assertEqual(list(self.folder.iterdir()), [])
 
     def test_nor_is_one_that_did_not_come_to_listen(self) -> None:
@@ -239,6 +290,13 @@ class Runs(unittest.TestCase):
         with patch.object(subprocess.Popen, "kill", lambda child: self.addCleanup(kill, child)), patch("pagelog.keeper.run._END", 0.01):
             with self.assertRaisesRegex(NotStarted, "it said nothing"):
                 Run.start(replace(self.program, path=str(script), patience=0.01), "shop", "r", "")
+
+    def left(self, wanted: set[str]) -> list[str]:
+        """The databases of the services that are left, which are ended."""
+        found = orphans_of(self.folder, wanted)
+        for each in found:
+            each.end()
+        return [each.facts.name for each in found]
 
     def later(self, run: Run) -> subprocess.Popen[bytes]:
         """A process that was started later than the run, by the system's clock of 10 ms: a number is not used again so soon."""
@@ -257,13 +315,13 @@ class Runs(unittest.TestCase):
             file.write_text(json.dumps(vars(facts)))
             self.assertIsNone(Run.adopt(self.folder, "shop", run.name))
             file.write_text(json.dumps(vars(facts)))
-            self.assertEqual(end_orphans(self.folder, set()), [])
+            self.assertEqual(self.left(set()), [])
         self.assertEqual((other.poll(), run.is_alive), (None, True))
         run.end()
 
     def test_orphans_are_ended_and_wanted_runs_are_not(self) -> None:
         runs = [self.start() for _ in range(3)]
-        self.assertEqual(end_orphans(self.folder, {runs[1].name}), ["shop", "shop"])
+        self.assertEqual(self.left({runs[1].name}), ["shop", "shop"])
         self.assertEqual([run.is_alive for run in runs], [False, True, False])
         for run in runs:
             run.end()
@@ -274,7 +332,7 @@ class Runs(unittest.TestCase):
         file.write_text(json.dumps({**vars(run.facts), "address": None}))  # it does not listen yet: nobody could adopt it
         for name in ("ship.r.said", "ship.r.json.new"):
             (self.folder / name).touch()
-        self.assertEqual(end_orphans(self.folder, {run.name}), ["shop"])
+        self.assertEqual(self.left({run.name}), ["shop"])
         self.assertEqual((run.is_alive, list(self.folder.iterdir())), (False, []))
 
     def started(self, run: str, at: int) -> int:
@@ -316,7 +374,7 @@ class Runs(unittest.TestCase):
         for at in itertools.count(1):
             run = new_run()
             status = self.started(run, at)
-            ended = end_orphans(self.folder, {run})
+            ended = self.left({run})
             adopted = Run.adopt(self.folder, "shop", run)
             kept = [] if adopted is None else [adopted.facts.pid]
             eventually(lambda: services(self.folder) == kept, f"the end of a service whose keeper was killed before line {at}")

@@ -14,12 +14,11 @@ from unittest.mock import patch
 
 import psycopg
 
-from keepers import Gate, Kept, Tried, Trigger, blocks, eventually
+from keepers import Gate, Kept, Tried, Trigger, blocks, end_left, eventually
 from pagelog import Connection, Lost, Reader
 from pagelog.keeper.keeping import LOOKS
 from pagelog.keeper.loading import Loader
 from pagelog.keeper.machine import NEAR
-from pagelog.keeper.run import end_orphans
 from pagelog.keeper.table import keeper_of
 from pagelog.place import Fate, Keepers
 from postgres import Postgres, postgres
@@ -37,6 +36,9 @@ class Two(Kept):
 
     def other(self) -> str:
         return "b" if self.holder() == "a" else "a"
+
+    def beats(self) -> dict[str, int]:
+        return {keeper.name: keeper.beat for keeper in self.keeping.referee.everything().keepers if keeper.name in self.keeping.ports}
 
 
 class TwoKeepers(Two):
@@ -75,13 +77,14 @@ class TwoKeepers(Two):
             self.assertLessEqual(span.call_count, 2)  # all that was not durable is compared at once
             self.assertEqual(self.texts(), [b"%d" % number for number in range(1, 33)])
 
-    def test_a_release_that_was_never_made_is_taken_for_none(self) -> None:
+    def test_a_release_that_was_never_made_is_believed_by_nobody(self) -> None:
         with self.keeping.primary() as primary, psycopg.connect(self.keeping.url, autocommit=True) as session:
             self.commit(primary, "1", durable=True)
             self.standby(1)
-            before = self.keeping.place()
+            before, tries, beats = self.keeping.place(), self.keeping.said().count("shop: take: "), self.beats()
             session.execute(f"NOTIFY pagelog_keeper, 'shop {before.generation} 1 {self.keeping.row().chain.hex()}'")
-            eventually(lambda: "shop: take: nobody has it" in self.keeping.said().partition(f"--- {self.other()}")[2], "the word of it")
+            eventually(lambda: all(beat > beats[name] + 1 for name, beat in self.beats().items()), "a poll of each after it")
+            self.assertEqual(self.keeping.said().count("shop: take: "), tries)
             self.assertEqual(self.commit(primary, "2", durable=True), 2)
             self.standby(2)
             self.assertEqual(self.keeping.place(), replace(before, archived=2))
@@ -116,7 +119,7 @@ class TwoKeepers(Two):
             self.assertEqual(self.keeping.processes[first].wait(), 0)
             self.keeping.place(least=before.generation + 1)
             self.assertEqual(self.keeping.row().base, 31)
-            self.assertEqual(list((self.keeping.folder / first).iterdir()), [])
+            self.assertEqual({file.name for file in (self.keeping.folder / first).iterdir()}, {"lives", "numbers"})
             self.assertEqual(self.commit(primary, "32", durable=True), 32)
             self.assertEqual(self.texts(), [b"%d" % number for number in range(1, 33)])
 
@@ -148,7 +151,7 @@ class TwoKeepers(Two):
             self.keeping.place(least=place.generation + 1)
             self.assertEqual(self.commit(other, "2", durable=True), 2)
             self.keeping.kill(first, signal.SIGCONT)
-            self.assertEqual(zombie.fate(place.generation, 2), Fate(1, True))
+            self.assertEqual(zombie.fate(place, 2), Fate(1, True))
             eventually(lambda: not os.path.exists(f"/proc/{pid}"), "the end of the zombie's service")
             self.assertEqual(self.texts(), [b"1", b"2"])
 
@@ -188,7 +191,7 @@ class TwoKeepers(Two):
             self.assertEqual(reader.page(0, 1).data[:3], b"<1>")
             other = self.other()
             self.keeping.kill(other)
-            end_orphans(self.keeping.folder / other, set())
+            end_left(self.keeping.folder / other)
             self.assertEqual(self.commit(primary, "2", durable=True), 2)
             eventually(lambda: reader.end() == 2, "the word of the holder")
             self.assertEqual(reader.page(0, 2).data[:3], b"<2>")
@@ -353,9 +356,9 @@ class Heard(Ringing):
             gate.somebody_waits()
             with Reader(Connection(standby.address), keeper_of(b"s" * 16, "shop", standby.run)) as reader:
                 self.assertEqual(reader.status().hard, 31)
-            # Whether the release will stay is not known before the take is.
+            # A look has shown the release, by a statement that wrote; that it will serve is not known before the take is.
             (*_, reached, _, _), where = self.answers(target, "standby shop", "where shop")
-            self.assertEqual((reached, where), ("1", ["nowhere", "shop"]))
+            self.assertEqual((reached, where), ("31", ["nowhere", "shop"]))
             stand_still(pid)
             gate.open()
             eventually(lambda: self.keeping.row().address == standby.address, "the take")

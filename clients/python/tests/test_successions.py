@@ -5,13 +5,16 @@ from __future__ import annotations
 import os
 import resource
 import signal
+import sqlite3
 import threading
+from contextlib import closing
 from pathlib import Path
 from typing import Any, Callable, Iterator
 from unittest.mock import patch
 
 import psycopg
 
+import sqlite_named
 from cutting import STEPS
 from keepers import Gate, Keeping, Kept, eventually
 from pagelog import BelowBase, Block, ConnectionLost, Lost, NamedPrimary, Operator, OutOfMemory, Primary, Put, TableRow
@@ -22,6 +25,41 @@ from postgres import postgres
 from service import IS_LONG, PATIENCE, token
 
 CUTTING = Path(__file__).resolve().parent / "cutting.py"
+SHORT = """import pathlib, pagelog.keeper.puller, pagelog.reader
+from pagelog.errors import OutOfMemory
+
+class Puller(pagelog.keeper.puller.Puller):
+    async def pull(self, position, epoch):
+        return None if lacks(self._address) else await super().pull(position, epoch)
+
+def lacks(address):
+    return mark.exists() and mark.read_text() == str(address)
+
+def few(self, starts, *rest, most=16, **how):
+    if most > 1 and lacks(self.connection.address):
+        raise OutOfMemory("the service had no memory for it")
+    return span(self, starts, *rest, most=most, **how)
+
+mark, span = pathlib.Path({!r}), pagelog.reader.Reader._span_of
+pagelog.reader.Reader._span_of = few
+import pagelog.keeper.served
+pagelog.keeper.served.Puller = Puller
+import pagelog.__main__
+"""
+"""A keeper that gets no memory for pulls of more than one block of the service whose address is in a file."""
+LITTLE = """import pagelog.keeper.served
+from pagelog.errors import OutOfMemory
+
+def close(self):
+    if refused:
+        raise refused.pop()
+    return closed(self)
+
+refused = [OutOfMemory("the service had no memory for it") for _ in range(3)]
+closed, pagelog.keeper.served.Served.close = pagelog.keeper.served.Served.close, close
+import pagelog.__main__
+"""
+"""A keeper whose service has no memory to be closed, three times."""
 PATIENT = f"import pagelog.keeper.keeping; pagelog.keeper.keeping.HELD_BACK = {PATIENCE}; import pagelog.__main__"
 """A keeper that holds answers back for as long as a test waits."""
 
@@ -112,7 +150,7 @@ class OneKeeper(Succeeding):
             self.succeed()
             self.assertEqual(self.commit(primary, "43", durable=True), 43)
             # What is below the base is not needed any more, neither by a take-over.
-            self.assertIn("pruned 40", self.keeping.word("prune", "shop"))
+            self.assertIn("pruned 40", self.keeping.word("prune", "shop", "--keep", 1, "--yes"))
             os.kill(self.keeping.pid(), signal.SIGKILL)
             self.assertEqual(self.commit(primary, "44", durable=True), 44)
             self.assertEqual((self.keeping.place().base, reader.page(0, 40).data[:4]), (40, b"<40>"))
@@ -341,6 +379,63 @@ class NoMemory(Succeeding):
                 self.assertEqual(line.readline().split()[:3], ["at", "shop", f"{after}"])
             self.fill(primary, 5)
             self.assertEqual((self.keeping.row().generation, self.keeping.said()), (after, told))
+
+    def test_a_writer_of_sqlite_goes_on_in_the_next_generation(self) -> None:
+        with closing(sqlite_named.connected(self.keeping.addresses, move=int(1000 * PATIENCE))) as writer:
+            writer.execute("create table t(n integer primary key, v blob)")
+            before, count = self.keeping.place(), 0
+            self.limit(self.keeping.pid())
+            while self.keeping.place().generation == before.generation:
+                writer.execute("insert into t(v) values(randomblob(100000))")
+                count += 1
+            writer.execute("insert into t(v) values('more')")
+            self.assertEqual(writer.execute("select count(*) from t").fetchone(), (count + 1,))
+            self.assertEqual(writer.execute("pragma integrity_check").fetchone(), ("ok",))
+            self.assertIn("shop: prepare: its service had no memory for a writer\n", self.keeping.said())
+
+    def test_a_writer_of_sqlite_is_told_where_nothing_follows(self) -> None:
+        with closing(sqlite_named.connected(self.keeping.addresses, move=500)) as writer:
+            writer.execute("create table t(v blob)")
+            self.keeping.word("pause", "shop")
+            eventually(lambda: "serves; paused" in self.keeping.said(), "the pause")
+            self.limit(self.keeping.pid())
+            with self.assertRaises(sqlite3.OperationalError) as refused:
+                while True:
+                    writer.execute("insert into t values(randomblob(100000))")
+            self.assertIn(refused.exception.sqlite_errorname, ("SQLITE_FULL", "SQLITE_IOERR_FSYNC"))  # the last one may be there
+            self.assertRegex(sqlite_named.error_of(writer), "the service has no memory left, and no other has followed it in time")
+            self.keeping.word("resume", "shop")
+            writer.close()
+            with closing(sqlite_named.connected(self.keeping.addresses, move=int(1000 * PATIENCE))) as other:
+                other.execute("insert into t values('more')")
+
+    def test_the_keeper_gets_no_memory_itself(self) -> None:
+        """Nobody else says so: clients were refused nothing. What is there is pulled block by block."""
+        mark = self.keeping.folder / "short"
+        self.keeping.kill("a")
+        self.keeping.keeper = ("-c", SHORT.format(str(mark)))
+        self.keeping.start("a")
+        with self.keeping.primary() as primary, patch.object(Keepers, "full", side_effect=AssertionError("a writer was refused")):
+            self.commit(primary, "1", durable=True)
+            before = self.keeping.place()
+            mark.write_text(before.address)
+            for number in range(2, 41):
+                self.commit(primary, str(number))
+            eventually(lambda: self.keeping.row().generation > before.generation, "the next generation")
+            self.commit(primary, "41", durable=True)
+        self.assertEqual(self.texts(), [str(number).encode() for number in range(1, 42)])
+
+    def test_one_that_cannot_be_closed_at_first_is_asked_again(self) -> None:
+        """As long as its writers hold what it has: then it has memory for its keeper."""
+        self.keeping.kill("a")
+        self.keeping.keeper = ("-c", LITTLE)
+        self.keeping.start("a")
+        with self.keeping.primary() as primary:
+            self.commit(primary, "1", durable=True)
+            self.succeed()
+            self.commit(primary, "2", durable=True)
+        self.assertEqual(self.texts(), [b"1", b"2"])
+        self.assertNotIn("given up", self.keeping.said())
 
     def test_one_that_is_paused_is_told_so_in_time_and_may_try_again(self) -> None:
         with self.keeping.primary() as primary:

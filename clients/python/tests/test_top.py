@@ -67,7 +67,7 @@ class NamedTop(Kept):
     def test_pages(self) -> None:
         eventually(lambda: self.told() == ("serving", {self.other: 3}, True), "a holder that tells of its service, and a standby")
         alone = self.page("--named", "--count", 2)
-        row = rf"shop +1 +{self.holder} +3 +0/s +0 +{self.other} -0 +999,\d+ +\d+ MiB +7,\d+ MiB +serving"
+        row = rf"shop +{self.keeping.place().generation} +{self.holder} +3 +0/s +0 +{self.other} -0 +999,\d+ +\d+ MiB +7,\d+ MiB +serving"
         self.assertEqual(len(re.findall(row, alone)), 1, alone)  # the first look knows no rate
         self.assertIn("durable means one disk", alone)
         self.assertNotIn("denied", alone)
@@ -76,7 +76,7 @@ class NamedTop(Kept):
         self.assertNotIn("…", narrow)
         with Service() as service:
             file = service.credentials_file(url=self.keeping.url)
-            self.assertRegex(self.page("--named", file=file), rf"(?s)\b0 +1 +2 +0 .*denied.*shop +1 +{self.holder} +3 ")
+            self.assertRegex(self.page("--named", file=file), rf"(?s)\b0 +1 +2 +0 .*denied.*shop +{self.keeping.place().generation} +{self.holder} +3 ")
             self.assertNotIn("shop", self.page(file=file))
             both = [json.loads(line) for line in self.page("--named", "--json", file=file).splitlines()]
             self.assertEqual([fields.get("db", fields.get("name")) for fields in both], [0, "shop"])

@@ -6,6 +6,7 @@ import json
 import re
 import signal
 import tempfile
+import time
 import unittest
 from datetime import datetime, timezone
 from pathlib import Path
@@ -18,8 +19,9 @@ from pagelog.errors import AuditListFull
 from pagelog.reply import LINE_SIZE, Entry, encode_entry
 from pagelog.request import AUDIT_MAX
 from pagelog.trail import OtherKeeper, Start, Trail, TrailKeeper
+from pagelog.times import moment
 from pagelog.trail.keeper import DAY
-from pagelog.trail.question import Question, Seen, answer, moment
+from pagelog.trail.question import Question, Seen, answer
 from pagelog.trail.replay import NotReplayable, replay
 from pagelog.trail.texts import TrailError, without_tokens
 from postgres import postgres
@@ -211,6 +213,22 @@ class Kept(Folder):
         self.assertRaises(NotReplayable, replay, self.trail, one, None)
         keeper.resume()
         self.assertEqual(self.trail.prune(MORNING + 9 * DAY), pieces[0].count)
+
+    def test_days_that_go_are_said_first(self) -> None:
+        first, second = time.time_ns() // 1000 - 3 * DAY, time.time_ns() // 1000 - 2 * DAY
+        times = iter([first, first, second])
+        keeper = TrailKeeper(self.operator, self.trail, start=START, clock=lambda: next(times))
+        for _ in range(2):
+            fill(self.primary, 5)
+            keeper.step()
+        pieces = list(self.trail.pieces(self.trail.lists()[0]))
+        file = self.service.credentials_file(url=self.url)
+        process = words("record", "shop", "--credentials", file, "--url", self.url, "--keep", "1")
+        _, error = process.communicate(timeout=PATIENCE)
+        [after] = self.trail.lists()
+        today = datetime.now(timezone.utc).strftime("%Y-%m-%d")
+        self.assertEqual((process.returncode, after.pruned), (0, pieces[-1].first + pieces[-1].count - 1))
+        self.assertRegex(error, f"^pagelogctl: deletes lines 1 to {after.pruned} of list 1, seen before .*{today} 00:00:00 UTC")
 
 
     def test_tokens_are_not_kept(self) -> None:

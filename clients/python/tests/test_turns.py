@@ -6,7 +6,7 @@ import unittest
 from typing import Any, Callable
 
 from keepers import Kept
-from pagelog.keeper.turns import EARLY, GRACE, MANY, AllTurns, Turns
+from pagelog.keeper.turns import BEATS, EARLY, GRACE, MANY, TTL, AllTurns, Turns
 
 
 class Heard:
@@ -52,8 +52,8 @@ class Rules(unittest.TestCase):
         self.turns = Turns("shop", 1, self.clock)
         self.a, self.b, self.c = Heard(), Heard(), Heard()
 
-    def ask(self, who: Heard, *, now: bool = False) -> None:
-        self.turns.ask(who, now=now)  # type: ignore[arg-type]
+    def ask(self, who: Heard, *, now: bool = False, heartbeat: bool = False) -> None:
+        self.turns.ask(who, now=now, heartbeat=heartbeat)  # type: ignore[arg-type]
 
     def back(self, who: Heard) -> None:
         self.turns.back(who)  # type: ignore[arg-type]
@@ -91,12 +91,15 @@ class Rules(unittest.TestCase):
             self.assertEqual(who.last(), f"turn shop {told}")
             self.back(who)
 
-    def keep(self) -> None:
+    def hold(self, who: Heard) -> None:
+        self.turns.hold(who)  # type: ignore[arg-type]
+
+    def keep(self, *, heartbeat: bool = False) -> None:
         for _ in range(MANY):
-            self.ask(self.a)
+            self.ask(self.a, heartbeat=heartbeat)
             self.assertNotIn("kept", self.a.last())
             self.back(self.a)
-        self.ask(self.a)
+        self.ask(self.a, heartbeat=heartbeat)
         self.assertEqual(self.a.last(), "turn shop same kept")
 
     def test_a_turn_is_kept_until_it_is_wanted(self) -> None:
@@ -123,6 +126,103 @@ class Rules(unittest.TestCase):
         self.back(self.a)
         self.assertEqual(self.b.lines, ["turn shop other"])
 
+    def test_an_upgrade_waits_for_a_turn_that_is_kept_and_unused(self) -> None:
+        """`busy` is for a holder that is in a transaction. Who has no heartbeat, as clients of 0.1.0, is told so at once."""
+        for answer in (self.back, self.hold):
+            self.setUp()
+            self.keep(heartbeat=True)
+            self.ask(self.b, now=True, heartbeat=True)
+            self.ask(self.c, now=True)
+            self.assertEqual((self.a.last(), self.b.lines, self.c.lines), ("wanted shop", ["soon shop"], ["busy shop"]))
+            answer(self.a)
+            self.assertEqual(self.b.lines, ["soon shop", "turn shop other" if answer == self.back else "busy shop"])
+            self.assertNotIn(self.b if answer == self.hold else self.a, self.turns)
+            self.assertEqual(self.clock.open, [])
+
+    def test_of_two_upgrades_that_wait_the_first_has_the_turn(self) -> None:
+        self.keep(heartbeat=True)
+        for who in (self.b, self.c):
+            self.ask(who, now=True, heartbeat=True)
+        self.back(self.a)
+        self.assertEqual((self.b.last(), self.c.last()), ("turn shop other", "busy shop"))
+
+    def test_an_upgrade_beside_a_turn_in_use_is_told_so_at_once(self) -> None:
+        self.keep(heartbeat=True)
+        self.ask(self.b, heartbeat=True)
+        self.hold(self.a)
+        self.ask(self.c, now=True, heartbeat=True)
+        self.assertEqual(self.c.lines, ["busy shop"])
+
+    def wait_for(self, beats: int) -> None:
+        """So many times a quarter of a ttl."""
+        for _ in range(beats):
+            [(seconds, _)] = self.clock.open
+            self.assertEqual(seconds, TTL / BEATS)
+            self.clock.end()
+
+    def have(self, is_kept: bool) -> None:
+        """The first has the turn: kept, or in a transaction."""
+        if is_kept:
+            self.keep(heartbeat=True)
+        else:
+            self.ask(self.a, heartbeat=True)
+
+    def test_a_turn_is_not_taken_from_a_transaction_that_runs(self) -> None:
+        """However long that takes: it is asked for a heartbeat, and has one."""
+        for is_kept in (True, False):
+            self.setUp()
+            self.have(is_kept)
+            self.ask(self.b, heartbeat=True)
+            for _ in range(20):
+                self.wait_for(BEATS - 1)
+                self.assertEqual((self.a.last(), self.b.lines), ("wanted shop", []))
+                self.hold(self.a)
+            self.back(self.a)
+            self.assertEqual(self.b.lines, ["turn shop other"])
+
+    def test_a_turn_is_not_kept_by_one_that_stands_still(self) -> None:
+        """Whether it kept the turn or was in a transaction. What it says later counts for nothing."""
+        for is_kept in (True, False):
+            self.setUp()
+            self.have(is_kept)
+            self.ask(self.b, heartbeat=True)
+            self.wait_for(BEATS)
+            self.assertEqual((self.b.lines, self.clock.open), (["turn shop other"], []))
+            self.hold(self.a)
+            self.back(self.a)
+            self.ask(self.c, now=True, heartbeat=True)
+            self.assertEqual(self.c.lines, ["busy shop"])
+
+    def test_a_heartbeat_costs_nothing_while_nobody_waits(self) -> None:
+        self.ask(self.a, heartbeat=True)
+        self.assertEqual(self.clock.open, [])
+        self.ask(self.b, heartbeat=True)
+        self.wait_for(1)
+        self.back(self.b)
+        self.hold(self.a)
+        self.assertEqual((self.a.lines, self.clock.open), (["turn shop other", "wanted shop"], []))
+
+    def test_who_has_no_heartbeat_has_its_turn_as_long_as_it_likes(self) -> None:
+        """As a client of 0.1.0, unless it keeps the turn."""
+        self.ask(self.a)
+        self.ask(self.b, heartbeat=True)
+        self.assertEqual((self.a.lines, self.clock.open), (["turn shop other"], []))
+        self.turns = Turns("shop", 1, self.clock)
+        self.a.lines.clear()
+        self.keep()
+        self.ask(self.b, heartbeat=True)
+        self.assertEqual([each for each, _ in self.clock.open], [GRACE])
+        self.hold(self.a)
+        self.ask(self.c, heartbeat=True)
+        self.assertEqual((self.a.lines[-2:], self.clock.open), (["turn shop same kept", "wanted shop"], []))
+
+    def test_who_waits_behind_another_is_waited_for_with_heartbeats_too(self) -> None:
+        for who in (self.a, self.b, self.c):
+            self.ask(who, heartbeat=True)
+        self.back(self.a)
+        self.wait_for(BEATS)
+        self.assertEqual((self.b.last(), self.c.last()), ("wanted shop", "turn shop other"))
+
     def test_who_has_others_beside_keeps_nothing(self) -> None:
         for _ in range(MANY + 2):
             self.ask(self.a)
@@ -139,10 +239,49 @@ class Rules(unittest.TestCase):
         self.assertEqual(self.b.lines, ["elsewhere shop"])
         every.take(self.b, ["turn", "shop"], 2)  # type: ignore[arg-type]
         every.take(self.c, ["turn", "shop", "now"], 2)  # type: ignore[arg-type]
-        self.assertEqual((self.b.lines, self.c.lines, [each for each, _ in self.clock.open]), (["elsewhere shop"], ["busy shop"], [EARLY]))
+        self.assertEqual((self.b.lines, self.c.lines, [each for each, _ in self.clock.open]), (["elsewhere shop"], [], [EARLY]))
         self.clock.end()
+        self.assertEqual(self.c.lines, ["busy shop"])
         every.take(self.c, ["turn", "shop", "now"], None)  # type: ignore[arg-type]
         self.assertEqual((self.b.last(), self.c.last()), ("turn shop other", "elsewhere shop"))
+
+    def test_it_is_early_when_a_generation_begins_and_not_when_somebody_asks(self) -> None:
+        """Of a keeper that has taken the database: who had the turn at the one before is not known."""
+        every = AllTurns(self.clock)  # type: ignore[arg-type]
+        every.changed("shop", 7)
+        self.assertEqual([each for each, _ in self.clock.open], [EARLY])
+        self.clock.end()
+        every.changed("shop", 7)
+        every.take(self.a, ["turn", "shop", "now"], 7)  # type: ignore[arg-type]
+        self.assertEqual((self.a.lines, self.clock.open), (["turn shop other"], []))
+
+    def test_where_nobody_had_the_turn_nobody_is_waited_for(self) -> None:
+        """Who had none in the generation before has none to go on with. Where that is not known, or a generation lies between, it is early."""
+        every = AllTurns(self.clock)  # type: ignore[arg-type]
+        every.changed("shop", 1)
+        for generation in (2, 3):
+            every.take(self.a, ["turn", "shop", "now"], generation)  # type: ignore[arg-type]
+            self.assertEqual((self.a.lines.pop(), self.clock.open), ("turn shop other", []))
+            every.take(self.a, ["back", "shop"], generation)  # type: ignore[arg-type]
+        for generation in (5, 6):  # 4 was another's; in 5 it is still early
+            every.changed("shop", generation)
+            self.assertEqual([each for each, _ in self.clock.open], [EARLY] * (generation - 4))
+
+    def test_who_asks_for_now_while_it_is_early_is_told_at_its_end(self) -> None:
+        for is_alone in (True, False):
+            self.turns = Turns("shop", 2, self.clock)
+            self.a, self.b, self.c = Heard(), Heard(), Heard()
+            self.ask(self.a, now=True)
+            self.ask(self.b, now=True)
+            self.ask(self.c, now=True)
+            self.back(self.c)  # it waits no more
+            self.assertEqual((self.a.lines, self.b.lines), ([], []))
+            if not is_alone:
+                self.turns.ask(self.c, now=True, mine=True)  # type: ignore[arg-type]
+                self.assertEqual((self.a.lines, self.b.lines, self.c.lines), (["busy shop"], ["busy shop"], ["turn shop other"]))
+            self.clock.end()
+            if is_alone:
+                self.assertEqual((self.a.lines, self.b.lines, self.c.lines), (["turn shop other"], ["busy shop"], []))
 
     def test_who_had_the_turn_before_comes_first(self) -> None:
         self.turns = Turns("shop", 2, self.clock)
@@ -177,3 +316,13 @@ class Lines(Kept):
                     first.flush()
                     self.assertEqual(first.readline().strip(), told)
             self.assertEqual(second.readline().strip(), "turn shop other")
+
+    def test_the_first_one_of_a_generation_who_is_alone_has_the_turn(self) -> None:
+        """Who asks for it at once, as SQLite without a busy timeout, and in each generation anew."""
+        for generation in range(2, 5):
+            self.keeping.word("succeed", "shop")
+            self.keeping.place(least=generation)
+            with self.keeping.line() as line:
+                line.write("turn shop now\n")
+                line.flush()
+                self.assertEqual(line.readline().strip(), "turn shop other")

@@ -10,6 +10,7 @@ from pagelog.block import Block
 from pagelog.comparing import PULLS, OtherLog, Progress, all_blocks, compare, no_progress, whole
 from pagelog.errors import ConnectionLost, LogWentBack
 from pagelog.reader import Reader
+from pagelog.repeating import Backoff
 from pagelog.request import PULL_MAX
 
 _TRIES = 8
@@ -131,7 +132,7 @@ class Archiver:
         twice as long as before, up to `idle`. So `idle` says how much may be lost with the service, and how many entries of the
         audit list it takes. `told` is given the archived LSN and the hardened end after each step. Returns the archived LSN.
         """
-        wait, end = idle / 4, self.reader.status().hard
+        waits, end = Backoff(idle / 2, idle), self.reader.status().hard
         if end == self.archived:
             self._check_log()  # no batch may come with which it would be looked at
             self.archive.note_epoch(self.reader.epoch)
@@ -139,8 +140,9 @@ class Archiver:
             batch = self.step()
             told(self.archived, self.reader.hard_seen)
             if len(batch) < PULLS * PULL_MAX and (follow or not batch):
-                wait = idle / 4 if batch else min(wait * 2, idle)
-                _sleep(wait, stop)
+                if batch:
+                    waits.reset()
+                _sleep(idle / 4 if batch else waits.next(), stop)
         return self.archived
 
 

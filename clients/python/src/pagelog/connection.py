@@ -18,6 +18,7 @@ from typing import Callable, Generator, Iterable, NamedTuple
 from pagelog.dialing import dial
 from pagelog.errors import ConnectionLost, InDoubt, PagelogError, TimedOut, Unreachable
 from pagelog.faults import FrameFault
+from pagelog.repeating import Backoff
 from pagelog.reply import Reply, decode_reply
 from pagelog.request import Request
 
@@ -101,7 +102,7 @@ class Connection:
         self._poll = select.poll()
         self._out = bytearray()
         self._in = bytearray()
-        self._failures = 0
+        self._failures, self._waits = 0, Backoff(pause, 1.0)
         self._in_use = False
         self._thread = 0
         self._is_closed_by_other = False
@@ -212,7 +213,8 @@ class Connection:
                     return None
                 self._give_up_or_wait(error)
             else:
-                self._failures = 0
+                if self._failures:
+                    self._count_again()
                 self._in_flight -= 1
                 self._most = min(in_flight, self._most * 2)
                 return reply
@@ -229,15 +231,19 @@ class Connection:
     def _end_in_doubt(self, error: PagelogError) -> None:
         for asked in self._waiting:
             if asked.sent and not asked.request.act.repeatable:
-                self._failures = 0
+                self._count_again()
                 raise InDoubt(f"{asked.request.act.operation.word} may have been done: {error}") from error
+
+    def _count_again(self) -> None:
+        self._failures = 0
+        self._waits.reset()
 
     def _give_up_or_wait(self, error: PagelogError) -> None:
         self._failures += 1
         if self._failures >= self.attempts or isinstance(error, TimedOut):
-            self._failures = 0
+            self._count_again()
             raise error
-        wait = min(1.0, self.pause * 2 ** (self._failures - 1))
+        wait = self._waits.next()
         again = sum(1 for asked in self._waiting if asked.sent)
         _logger.info("%s; connecting again in %.3f s, attempt %d of %d, and %d requests are sent again", error, wait,
                      self._failures + 1, self.attempts, again)  # fmt: skip

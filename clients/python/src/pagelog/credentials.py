@@ -27,6 +27,7 @@ from pagelog.request import COPIES_OF_QUORUM, QUORUM, Role
 FILE_VARIABLE = "PAGELOG_CREDENTIALS"
 """The variable of the environment that names the file."""
 _KEYS = ("to", "id", "token")
+_COUNT = re.compile(r"[1-9][0-9]{0,5}")
 _TIME = re.compile(r"([1-9][0-9]{0,5}) ?([smhdw])")
 _UNITS = {"s": "seconds", "m": "minutes", "h": "hours", "d": "days", "w": "weeks"}
 
@@ -115,7 +116,9 @@ def load(file: str | Path | None = None, environment: Mapping[str, str] | None =
 
 
 def keep_of(value: object) -> str | int | None:
-    """How much of the archive of a named database is kept: so many bases, or a time, as PostgreSQL reads it; None: all."""
+    """How much of the archive of a named database is kept: so many bases, also in quotes, or a time, as PostgreSQL reads it; None: all."""
+    if isinstance(value, str) and _COUNT.fullmatch(value):
+        return int(value)
     if value is None or (type(value) is int and value >= 1):
         return value
     found = _TIME.fullmatch(value) if isinstance(value, str) else None

@@ -7,6 +7,7 @@
         InDoubt                it is not known whether a change was made
         LogWentBack            the service has less than was seen of it: it was restarted
         UnexpectedReply        a reply of a kind that does not answer the request
+        HoldsSqlite            the pages are those of a SQLite database, which is not to be overwritten
         CredentialsError       credentials are missing, malformed, or others may read their file
         Fault                  bytes, or values for bytes, that are not in the format
             BlockFault         of a block, 9 of them
@@ -24,7 +25,7 @@ from typing import ClassVar
 
 __all__ = [
     "PagelogError", "Unreachable", "ConnectionLost", "TimedOut", "InDoubt", "LogWentBack", "UnexpectedReply",
-    "CredentialsError", "Refusal", "OutOfMemory", "AuditListFull", "TurnsSpent", "UnknownDatabase",
+    "HoldsSqlite", "CredentialsError", "Refusal", "OutOfMemory", "AuditListFull", "TurnsSpent", "UnknownDatabase",
 ]  # fmt: skip
 
 
@@ -63,6 +64,19 @@ class LogWentBack(PagelogError):
 
 class UnexpectedReply(PagelogError):
     """A reply of a kind that does not answer the request: whatever listens there is not a pagelog service."""
+
+
+class HoldsSqlite(PagelogError):
+    """The pages are those of a SQLite database, and this writer was not asked to overwrite it. Nothing was written.
+
+    `lsn` is that of its last transaction, and `name` is the one that it was given, or empty.
+    """
+
+    def __init__(self, lsn: int, name: str) -> None:
+        called = f" {name!r}" if name else ""
+        super().__init__(f"page 0 ends the SQLite database{called} at LSN {lsn}, which these records would destroy: nothing was "
+                         "written. Use another database, or say overwrite_sqlite=True")  # fmt: skip
+        self.lsn, self.name = lsn, name
 
 
 class CredentialsError(PagelogError):

@@ -2,6 +2,7 @@
 
 from __future__ import annotations
 
+import time
 from types import TracebackType
 from typing import Sequence, TypeVar
 
@@ -9,13 +10,15 @@ from pagelog.connection import Connection
 from pagelog.credentials import Credentials
 from pagelog.errors import AuditListFull, ConnectionLost, InDoubt, LogWentBack, TurnsSpent, Unreachable
 from pagelog.keeper.table import token_of
-from pagelog.place import Keepers, Place
+from pagelog.place import Keepers, Place, WrongToken
 from pagelog.rules import UnknownPrincipal
 
 GONE = (ConnectionLost, Unreachable, UnknownPrincipal, LogWentBack, AuditListFull, TurnsSpent, InDoubt)
 """What is raised where the service is gone, or is another run's: the keepers know where the database is now."""
 AGAIN = 0.001
 """Seconds before a lost connection is tried once more. Where that is refused the service has ended, and the keepers are asked."""
+CONFIRM = 0.3
+"""Seconds for which a service says that it does not know the principal before that is told."""
 Self = TypeVar("Self", bound="Following")
 
 
@@ -23,6 +26,7 @@ class NamedAccount:
     """A principal of the table of a named database, and its credentials in each run."""
 
     def __init__(self, name: str, id: int, token: str) -> None:
+        self.id = id
         self._name = name
         self._credentials = Credentials.of(id, token)
 
@@ -39,9 +43,28 @@ class Following:
         self, name: str, keepers: Sequence[str], principal: int, token: str, *, patience: float = 60.0, timeout: float = 10.0
     ) -> None:
         self.keepers = Keepers(name, keepers, patience)
+        self.keepers.opens = True
         self.place: Place | None = None
         self._account = NamedAccount(name, principal, token)
         self._timeout = timeout
+        self._accepted: str | None = None
+        """The run that has answered last: it knows the principal."""
+        self._refused: dict[str, float] = {}
+        """Runs that have said that they do not, and since when: since one has answered last."""
+
+    def _see_accepted(self, run: str | None) -> None:
+        """This run has answered."""
+        self._accepted = run
+        self._refused.clear()
+
+    def _see_refused(self, place: Place, who: str) -> None:
+        """The service says that it knows no such principal. It may be another's that has the address of one that is gone, which its keeper
+        does not know at once. Raises `WrongToken` where this run has never answered, and its keepers have named it all the while."""
+        if place.run == self._accepted:
+            return
+        now = time.monotonic()
+        if now - self._refused.setdefault(place.run, now) >= CONFIRM:
+            raise WrongToken(f"the table does not list {who} with this token")
 
     def __enter__(self: Self) -> Self:
         return self

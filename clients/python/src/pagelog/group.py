@@ -125,7 +125,7 @@ class Group:
             if each.position == 0:
                 each.settle(error if isinstance(error, Unwritten) else Unwritten(f"nothing was written: {error}"))
             elif isinstance(error, Lost) and each.position >= error.position:
-                each.settle(Lost(error.position))
+                each.settle(error.again())
             elif each.position <= self._primary.durable_end:
                 each.settle()
             elif isinstance(error, (TimedOut, InDoubt)):

@@ -21,11 +21,12 @@ from pagelog.following import GONE, Following, NamedAccount
 from pagelog.keeper.table import KEEPER
 from pagelog.operator import Operator
 from pagelog.packing import Packed
-from pagelog.place import QUICKEST, SLOWEST, Lost, Place
+from pagelog.place import QUICKEST, SLOWEST, Dropped, Fate, Lost, Place
 from pagelog.primary import Primary
 from pagelog.reader import Reader
+from pagelog.repeating import Backoff
 from pagelog.request import PULL_MAX, QUORUM
-from pagelog.rules import NoRowMatches, OlderEpoch, OtherPrimary, TableRow
+from pagelog.rules import Denial, NoRowMatches, OlderEpoch, OtherPrimary, TableRow, UnknownPrincipal
 
 TAIL = 16 << 20
 """The most bytes of blocks that are kept because they are not known to be durable. Then a commit waits for the archive."""
@@ -46,13 +47,16 @@ class NamedPrimary(Following):
     if nobody else has written there: so what a living writer has committed survives the service. `Lost` is raised where
     another has gone on. A denial as `OlderEpoch` is raised where another writer has begun an epoch, as of any `Primary`.
 
+    A first call raises `NoKeeper`, `UnknownName`, `WrongToken` or a denial as `TableRow` at once where that is what bars it; it may be
+    called again.
+
     It begins with a failover to itself, for which it needs an operator. Where its table lets it pull as a secondary, it finds
     out by itself what became of a commit that was cut off; else that may be `InDoubt`. It is for one thread at a time.
     """
 
     def __init__(
         self, name: str, keepers: Sequence[str], principal: int, token: str, operator: tuple[int, str], *, quorum: int = QUORUM,
-        patience: float = 60.0, timeout: float = 10.0,
+        patience: float = 60.0, timeout: float = 10.0, overwrite_sqlite: bool = False,
     ) -> None:  # fmt: skip
         """`patience` is for a place or an answer of the keepers, `timeout` for a reply of the service, in seconds."""
         super().__init__(name, keepers, principal, token, patience=patience, timeout=timeout)
@@ -61,6 +65,8 @@ class NamedPrimary(Following):
         self.durable_end = 0
         """The position up to which the database is known to be durable."""
         self._operator, self._quorum = NamedAccount(name, *operator), quorum
+        self._overwrite_sqlite = overwrite_sqlite
+        """Whether it may write pages of a SQLite database, or has written, and so seen that there is none."""
         self._primary: Primary | None = None
         self._epoch: int | None = None
         """The epoch that this writer has begun last, in the generation of its place; None once something was lost."""
@@ -112,6 +118,8 @@ class NamedPrimary(Following):
         Raises `Lost` where it never will: that is final, and so is a return.
         """
         last = self._tail[-1].lsn if self._tail else self.end
+        if isinstance(self._ended, Dropped):
+            raise self._ended
         if position > last and self._ended is not None:
             raise Lost(last + 1)
         if position > last:
@@ -120,7 +128,7 @@ class NamedPrimary(Following):
             if self._ended is None:
                 self._write_all()
             assert self.place is not None
-            fate = self.keepers.fate(self.place.generation, position, self.place.lines)
+            fate = self._fate(self.place, position)
             self._is_durable(fate.end)
             if fate.is_over:
                 self._over = self.place.generation
@@ -171,6 +179,7 @@ class NamedPrimary(Following):
             self.end = max(self.end, self._primary.durable + shift)
             for lsn in self._primary.harden([block.at(block.lsn - shift) for block in self._tail if block.lsn > self.end]):
                 self.end = max(self.end, lsn + shift)
+                self._overwrite_sqlite = True
         except OutOfMemory as error:
             self._make_room(error)
         except (*GONE, *_DENIED) as error:
@@ -190,7 +199,7 @@ class NamedPrimary(Following):
 
     def _ring(self) -> None:
         if self._is_urgent and self.place is not None:
-            self.keepers.ring(self.place.generation, self.place.lines)
+            self.keepers.ring(self.place)
 
     # Moving.
 
@@ -199,8 +208,15 @@ class NamedPrimary(Following):
 
         `error` is what it is for: it is raised where another writer is the cause.
         """
+        try:
+            self._move_on(error)
+        except Dropped as gone:
+            self._is_gone(gone)
+            raise
+
+    def _move_on(self, error: PagelogError | None) -> None:
         before = -1 if self.place is None else self.place.generation
-        deadline, wait, may_stay = time.monotonic() + self.keepers.patience, QUICKEST, not isinstance(error, _DENIED)
+        deadline, waits, may_stay = time.monotonic() + self.keepers.patience, Backoff(QUICKEST, SLOWEST), not isinstance(error, _DENIED)
         newest = before
         while True:
             place = self.keepers.place() if self.place is None else self.keepers.after(self.place)
@@ -209,14 +225,21 @@ class NamedPrimary(Following):
                 self._leave()
                 return self._end_for(error)
             # Where its keeper has closed it, the next generation comes; if it does not, the keeper was killed, and its next life opens it.
-            if (is_next or (may_stay and before != self._over)) and self._is_settled(place):
+            if (is_next or (may_stay and before != self._over)) and not self._is_of_another_run(place) and self._is_settled(place):
                 return
             may_stay = True
             if time.monotonic() > deadline:
                 raise error or TimedOut(f"in {self.keepers.patience} s no generation of {self.keepers.name} could be used")
             # Another keeper may have seen the take, and told of it, before the one that took has let anybody in.
-            self.keepers.wait_for(place.generation + 1, wait, place if place.generation > newest else None)
-            newest, wait = max(newest, place.generation), min(SLOWEST, 2 * wait)
+            self.keepers.wait_for(place.generation + 1, waits.next(), place if place.generation > newest else None)
+            newest = max(newest, place.generation)
+
+    def _is_of_another_run(self, place: Place) -> bool:
+        """Whether another run has the number of this writer's generation: PostgreSQL went back. Raises `Lost` where it went on with that."""
+        if self.place is None or place.generation != self.place.generation or place.run == self.place.run:
+            return False
+        self._fate(self.place, 0)
+        return True
 
     def _count_at(self, place: Place) -> None:
         """What of the blocks above the end is in the log, though no reply has said so."""
@@ -273,7 +296,9 @@ class NamedPrimary(Following):
                 self._begin_epoch(place, credentials)
             primary = self._begun(place, credentials, witness)
             self._settle_tail(place, witness, known, primary.durable + place.shift)
+            self._see_accepted(place.run)
             self.end, self.place, self._primary = primary.durable + place.shift, place, primary
+            self.keepers.is_of(place)
         except _NotToBeKnown:
             raise
         except (OlderEpoch, OtherPrimary) as error:
@@ -281,7 +306,13 @@ class NamedPrimary(Following):
             self._count_at(place)
             self._end_for(error)
             return True
-        except (*GONE, TableRow, NoRowMatches):
+        except GONE as error:
+            if isinstance(error, UnknownPrincipal):
+                self._see_refused(place, f"principal {self._account.id} or operator {self._operator.id}")
+            return False
+        except (TableRow, NoRowMatches) as error:
+            if self._is_barred(place, witness, error):
+                raise
             return False
         except OutOfMemory:
             if primary is not None:
@@ -296,6 +327,16 @@ class NamedPrimary(Following):
         self._is_durable(place.archived)
         return True
 
+    def _is_barred(self, place: Place, witness: Reader, error: Denial) -> bool:
+        """Whether a row of the database's own denies it. Of a run that its keeper closes, or has not opened yet, the second row denies all
+        writers, and the fourth all operators."""
+        if error.row not in (2, 4):
+            return True
+        try:
+            return witness.status().primary != KEEPER and not self.keepers.has_left(place)
+        except PagelogError:
+            return False
+
     def _hard(self, witness: Reader) -> int | None:
         """The end of the log; None where the table does not let this principal look."""
         try:
@@ -306,12 +347,41 @@ class NamedPrimary(Following):
     def _take_kept(self, place: Place) -> None:
         """What the generation that it comes from had of this writer's blocks is durable, up to where that generation ended."""
         assert self.place is not None
-        if not self._tail or self._tail[0].lsn > self.end:
-            return
-        if place.generation == self.place.generation + 1:
-            self._is_durable(place.kept)
-        else:
-            self._is_durable(self.keepers.fate(self.place.generation, self._tail[-1].lsn, place.lines).end)
+        if place.run == self.place.run:
+            return  # it continues, as PostgreSQL went back: its log is the same, and is archived again
+        end = place.kept if place.after == self.place.run else self._fate(self.place, self.end, place.lines).end
+        if end < self.durable_end:
+            lost = self._forget_from(end + 1)
+            raise Lost(lost, "PostgreSQL went back, and has lost what was durable")
+        if self._tail and self._tail[0].lsn <= self.end:
+            self._is_durable(end)
+
+    def _fate(self, place: Place, position: int, lines: str | None = None) -> Fate:
+        """What became of a position. Raises `Lost` where PostgreSQL went on without this run, and `Dropped`."""
+        try:
+            fate = self.keepers.fate(place, position, lines)
+        except Dropped as error:
+            self._is_gone(error)
+            raise
+        if fate.is_lost:
+            raise Lost(self._forget_from(self.durable_end + 1), fate.why)
+        return fate
+
+    def _forget_from(self, lost: int) -> int:
+        """Returns the position."""
+        self._forget()
+        return lost
+
+    def _is_gone(self, error: Dropped) -> None:
+        """This writer writes no more."""
+        self._forget()
+        self._ended = error
+
+    def _forget(self) -> None:
+        """Nothing of what it knew of the log is true any more. It writes nothing of it again."""
+        self._tail, self.place, self._epoch, self._over = [], None, None, None
+        self.end = self._told = self.durable_end
+        self._leave()
 
     def _is_first(self, place: Place, credentials: Credentials) -> bool:
         """Whether it has begun the epoch after the keeper's own, of a writer that has lost nothing: then nobody has written there."""
@@ -340,7 +410,8 @@ class NamedPrimary(Following):
 
     def _begun(self, place: Place, credentials: Credentials, witness: Reader) -> Primary:
         """The primary of the epoch that was begun, if it is that still: a writer without one begins none in another's way."""
-        primary = Primary(self._connection(place, 2), credentials, epoch=self._epoch, alone=True, quorum=self._quorum, witness=witness)
+        primary = Primary(self._connection(place, 2), credentials, epoch=self._epoch, alone=True, quorum=self._quorum, witness=witness,
+                          overwrite_sqlite=self._overwrite_sqlite)  # fmt: skip
         primary.connection.when_sent = self._ring
         try:
             primary.begin()
@@ -363,6 +434,7 @@ class NamedPrimary(Following):
             lost = hard + 1  # what was durable is missing: the archive went back
         if lost is not None:
             self._tail, self.end, self.place, self._epoch = [], hard, place, None
+            self.keepers.is_of(place)
             self._told = min(self._told, lost - 1)
             self._leave()
             raise Lost(lost)

@@ -9,11 +9,17 @@ from pagelog.block import Block
 from pagelog.errors import TimedOut
 from pagelog.following import GONE, Following
 from pagelog.place import QUICKEST, SLOWEST, BelowBase
+from pagelog.polling import HolderPoll, poll_of
 from pagelog.reader import Reader, Span
+from pagelog.repeating import Backoff
 from pagelog.reply import Page
-from pagelog.rules import AboveTheEnd, Section
+from pagelog.rules import AboveTheEnd, Section, UnknownPrincipal
 
 Result = TypeVar("Result")
+_AT_ONCE = 0.1
+"""Seconds for which a reader of what is durable waits until what it sees in the log is."""
+_LEAST_PAUSE, _LONGEST_PAUSE = 0.1, 1.0
+"""Seconds for which it asks for nothing more, once that was in vain: twice as long each time."""
 
 
 class NamedReader(Following):
@@ -22,7 +28,9 @@ class NamedReader(Following):
     A service that began with images has nothing from below their position: `BelowBase` is raised for it.
 
     Without `durable_only` it sees what is in the log of the service, which may be lost with it: then a position that was
-    read may later have another block. With it, it sees what is durable, at a standby where there is one.
+    read may later have another block. Whether the service is still the holder's, the keepers are asked each second, of all
+    readers of the process together. With `durable_only` it sees what is durable, at a standby where there is one, and its
+    `end` never falls. docs/KEEPERS.md says how old each may be.
     """
 
     def __init__(
@@ -32,8 +40,11 @@ class NamedReader(Following):
         super().__init__(name, keepers, principal, token, patience=patience, timeout=timeout)
         self.durable_only = durable_only
         self._reader: Reader | None = None
-        self._least = self._durable = 0
+        self._least = self._durable = self._returned = 0
         self._shunned: str | None = None
+        self._addresses, self._known = keepers, 0.0
+        self._poll: HolderPoll | None = None
+        self._asks_from, self._pauses = 0.0, Backoff(_LEAST_PAUSE, _LONGEST_PAUSE)
 
     def _leave(self) -> None:
         if self._reader is not None:
@@ -45,29 +56,47 @@ class NamedReader(Following):
         return None if self.place is None else self.place.run
 
     def end(self) -> int:
-        """The position up to which it can be read now: of the log, or with `durable_only` what is durable. Raises `TimedOut` where the
-        keepers name another run than the one that they led to, again and again."""
-        deadline, wait = time.monotonic() + self.keepers.patience, 0.0
+        """The position up to which it can be read now: of the log, or with `durable_only` what is durable, which never falls. Raises
+        `TimedOut` where the keepers name another run than the one that they led to, again and again, or one that lacks what was durable."""
+        deadline, waits = time.monotonic() + self.keepers.patience, Backoff(QUICKEST, SLOWEST)
         while True:
             hard = self._asked(lambda reader: reader.status().hard + self._shift)
             if not self.durable_only:
                 return hard
-            if self._is_confirmed():
-                return min(hard, self._durable)
+            is_confirmed = self._is_confirmed(hard)
+            if is_confirmed and min(hard, self._durable) >= self._returned:
+                self._returned = min(hard, self._durable)
+                return self._returned
+            if is_confirmed:
+                self._shunned = self._run  # it has less than another had, or its keeper knows of less
             self._leave()
             if time.monotonic() > deadline:
-                raise TimedOut(f"no keeper has confirmed in {self.keepers.patience} s where {self.keepers.name} is read")
-            time.sleep(wait)
-            wait = min(SLOWEST, 2 * wait or QUICKEST)
+                lacks = f"that has position {self._returned}, which was durable" if is_confirmed else f"where {self.keepers.name} is read"
+                raise TimedOut(f"no keeper has confirmed in {self.keepers.patience} s {lacks}")
+            time.sleep(waits.next())
 
-    def _is_confirmed(self) -> bool:
-        """Whether the run that is read from is the holder's or a standby's still. How far its blocks are the archive's is known
-        then: those of a run that is over may be others, and a standby becomes a holder when it takes over."""
+    def _is_confirmed(self, hard: int) -> bool:
+        """Whether the run that is read from, whose log ends at `hard`, is the holder's or a standby's still. How far its blocks are the
+        archive's is known then: those of a run that is over may be others, and a standby becomes a holder when it takes over."""
         assert self.place is not None
         told = [place for place in (self.keepers.where(), self.keepers.standby()) if place is not None]
-        same = [place.archived for place in told if place.run == self.place.run]
-        self._durable = max(self._durable, *same, 0)
+        same = [place for place in told if place.run == self.place.run]
+        self._durable = max(self._durable, *(place.archived for place in same), 0)
+        if any(place.generation > 0 for place in same):
+            self._have_archived(hard)
         return bool(same) or not told
+
+    def _have_archived(self, hard: int) -> None:
+        """Has the holder's keeper archive what is in the log, as a commit does that waits until it is durable."""
+        if hard <= self._durable or time.monotonic() < self._asks_from:
+            return
+        assert self.place is not None
+        fate = self.keepers.fate_at_once(self.place, hard, _AT_ONCE)
+        if fate is not None and not fate.is_lost:
+            self._durable = max(self._durable, fate.end)
+            self._pauses.reset()
+        else:
+            self._asks_from = time.monotonic() + self._pauses.next()
 
     def page(self, number: int, position: int | None = None) -> Page:
         """The page at this position, by default at the end. Raises `AboveTheEnd` and `BelowBase`."""
@@ -86,7 +115,7 @@ class NamedReader(Following):
 
     def blocks(self, position: int = 1, *, follow: bool = True, idle: float = 0.5, stop: Callable[[], bool] = lambda: False) -> Iterator[Block]:
         """The blocks from this position on, in order, each once, as of a `Reader`."""
-        wait = QUICKEST
+        waits = Backoff(QUICKEST, idle)
         while not stop():
             end, run = self.end(), self._run
             if end >= position:
@@ -98,12 +127,12 @@ class NamedReader(Following):
                 if self.durable_only and run != self._run:
                     continue  # it was read from another run than the one that the end is of
                 yield from (block for block in span.blocks if block.lsn <= end)
-                position, wait = min(span.last, end) + 1, QUICKEST
+                position = min(span.last, end) + 1
+                waits.reset()
             elif not follow:
                 return
             else:
-                time.sleep(min(wait, idle))
-                wait = min(2 * wait, idle)
+                time.sleep(waits.next())
 
     @property
     def _shift(self) -> int:
@@ -134,17 +163,32 @@ class NamedReader(Following):
 
     def _asked(self, call: Callable[[Reader], Result], position: int | None = None) -> Result:
         """What the call returns, at a service that has the position."""
-        deadline, wait = time.monotonic() + self.keepers.patience, QUICKEST
+        self._leave_superseded()
+        deadline, waits = time.monotonic() + self.keepers.patience, Backoff(QUICKEST, SLOWEST)
         while True:
             try:
-                return call((self._reader or self._opened()) if position is None else self._reaching(position))
-            except GONE:
+                found = call((self._reader or self._opened()) if position is None else self._reaching(position))
+                self._see_accepted(self._run)
+                return found
+            except GONE as error:
+                if isinstance(error, UnknownPrincipal) and self.place is not None:
+                    self._see_refused(self.place, f"principal {self._account.id}")
                 self._shunned = self._run
                 self._leave()
                 if time.monotonic() > deadline:
                     raise
-            time.sleep(wait)
-            wait = min(SLOWEST, 2 * wait)
+            time.sleep(waits.next())
+
+    def _leave_superseded(self) -> None:
+        """Leaves a service that is not the holder's any more, once keepers have said so. One that reads what is durable asks by itself."""
+        if self._reader is None or self.place is None or self.durable_only:
+            return
+        if self._poll is None:
+            self._poll = poll_of(self.keepers.name, self._addresses, self.place)
+        later = self._poll.superseding(self.place, self._known)
+        if later is not None:
+            self._least = later.generation
+            self._leave()
 
     def _opened(self) -> Reader:
         standby = self.keepers.standby() if self.durable_only else None
@@ -157,7 +201,8 @@ class NamedReader(Following):
             self.place = self.keepers.after(was)
         else:
             self.place = self.keepers.place(self._least)
+        self.keepers.is_of(self.place)
         self._least = max(self._least, self.place.generation)
-        self._durable = self.place.archived
+        self._durable, self._known = self.place.archived, time.monotonic()
         self._reader = Reader(self._connection(self.place), self._account.of(self.place))
         return self._reader

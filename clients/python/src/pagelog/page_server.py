@@ -10,6 +10,7 @@ from pagelog.connection import Connection
 from pagelog.credentials import Credentials
 from pagelog.errors import InDoubt
 from pagelog.reader import QUICKEST
+from pagelog.repeating import Backoff
 from pagelog.reply import Done, expect
 from pagelog.request import STEPS_MAX, Advance, Role
 
@@ -64,13 +65,12 @@ class PageServer(Client):
 
     def run(self, *, idle: float = 0.5, stop: Callable[[], bool] = lambda: False) -> None:
         """Advances as blocks come, until `stop` says so, and sleeps, at most `idle` seconds, while none do."""
-        wait = QUICKEST
+        waits = Backoff(QUICKEST, idle)
         while not stop():
             if self.step():
-                wait = QUICKEST
+                waits.reset()
             else:
-                time.sleep(min(wait, idle))
-                wait = min(wait * 2, idle)
+                time.sleep(waits.next())
 
 
 def _steps(moved: int) -> list[int]:

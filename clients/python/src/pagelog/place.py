@@ -7,11 +7,12 @@ import select
 import socket
 import time
 from dataclasses import dataclass
-from typing import Sequence
+from typing import Mapping, Sequence
 
 from pagelog.connection import Address
 from pagelog.dialing import dial
 from pagelog.errors import PagelogError, TimedOut
+from pagelog.repeating import Backoff
 
 QUICKEST, SLOWEST = 0.005, 0.2
 """Seconds between two rounds of questions, the first and the longest."""
@@ -22,6 +23,10 @@ _SILENCE = 3.0
 _LONGEST = 1024
 _NO_ANSWER = (["what", "ring"], ["what", "full"])
 """What a keeper answers to a `ring` or a `full` that knows none; one that does answers nothing."""
+VERSION = 2
+"""Of the lines. The keepers of version 1 name no database, and no run in what they say is durable."""
+_GONE = 0.5
+"""Seconds for which all keepers refuse connections before who opens a database is told so."""
 _LEFT_OUT = 10.0
 """Seconds for which a keeper that does not answer, or its machine, is not asked, as long as there is another."""
 _AT_ONCE = ("where", "standby")
@@ -32,15 +37,43 @@ class UnknownName(PagelogError):
     """The keepers know of no database of this name."""
 
 
+class NoKeeper(PagelogError):
+    """No keeper answers: all connections are refused. Who has found the database before waits for them."""
+
+
+class WrongToken(PagelogError):
+    """The table of the database does not list the principal with this token."""
+
+
+class OlderKeepers(PagelogError):
+    """The keepers are of an older version: they cannot say which database of a name they have. They are upgraded before their clients."""
+
+
 class Lost(PagelogError):
     """What was committed at `position`, and after it, is not in the database and never will be: another went on there.
 
     It is final. Positions from there on are used again.
     """
 
-    def __init__(self, position: int) -> None:
-        self.position = position
-        super().__init__(f"position {position} is lost")
+    def __init__(self, position: int, why: str = "") -> None:
+        self.position, self.why = position, why
+        super().__init__(f"position {position} is lost{': ' if why else ''}{why}")
+
+    def again(self) -> Lost:
+        """Another one, for another thread."""
+        return Lost(self.position, self.why)
+
+
+class Dropped(Lost):
+    """The database that was opened is no more: it was dropped, or the keepers have another of its name. All of it is lost to this
+    client, which reads and writes nothing any more. One that is opened anew finds what has the name now."""
+
+    def __init__(self, name: str, why: str) -> None:
+        self.name = name
+        super().__init__(1, f"{name}: {why}")
+
+    def again(self) -> Lost:
+        return Dropped(self.name, self.why.removeprefix(f"{self.name}: "))
 
 
 class BelowBase(PagelogError):
@@ -55,7 +88,7 @@ class BelowBase(PagelogError):
 class Place:
     """Where a generation is served; a standby has none, 0. A position is an LSN of its service plus `shift`; the service began with
     the images of the pages at position `base`, or where that is 0 with the first block. The generation directly before this one
-    ended at position `kept`."""
+    ended at position `kept`. `database` is what no other one ever has, also one of the same name; an older keeper says none."""
 
     generation: int
     run: str
@@ -65,14 +98,25 @@ class Place:
     base: int
     shift: int
     kept: int = 0
+    database: str = ""
+    after: str = ""
+    """The run of the generation directly before, where who tells the place knows it."""
+
+    @property
+    def of(self) -> str:
+        """The word of the database and the run, as `at` has told it."""
+        return f"{self.database}/{self.run}"
 
 
 @dataclass(frozen=True)
 class Fate:
-    """How far a generation is durable. If it `is_over`, nothing above `end` will ever be."""
+    """How far a generation is durable. If it `is_over`, nothing above `end` will ever be. If it `is_lost` PostgreSQL has lost its run, and
+    went on without it: what it had above its durable blocks is nowhere, and of those nothing is known; `why` says so."""
 
     end: int
     is_over: bool
+    is_lost: bool = False
+    why: str = ""
 
 
 class _Line:
@@ -85,6 +129,9 @@ class _Line:
         self._socket.setblocking(False)
         self._poll = select.poll()
         self._left = b""
+        self.version = 0
+        """The keeper's, once it has answered the greeting."""
+        self._greeting = f"hello {VERSION}\n".encode()
 
     def close(self) -> None:
         self._socket.close()
@@ -99,7 +146,7 @@ class _Line:
 
     def send(self, words: Sequence[object], timeout: float) -> None:
         """Sends a question. Raises `OSError`."""
-        question = " ".join(map(str, words)).encode() + b"\n"
+        question, self._greeting = self._greeting + " ".join(map(str, words)).encode() + b"\n", b""
         deadline = time.monotonic() + timeout
         while question:
             try:
@@ -109,7 +156,8 @@ class _Line:
 
     def _wait(self, event: int, deadline: float) -> None:
         self._poll.register(self._socket, event)
-        if not self._poll.poll(1000 * max(0.0, deadline - time.monotonic())):
+        left = deadline - time.monotonic()
+        if left <= 0 or not self._poll.poll(1000 * left):  # one that is never silent is not waited for any longer either
             raise TimeoutError("the keeper does not answer")
 
     def take(self) -> list[str] | None:
@@ -126,8 +174,10 @@ class _Line:
             line, end, rest = self._left.partition(b"\n")
             if not end:
                 return None
-            self._left = rest
-            if (words := line.decode(errors="replace").split()) not in _NO_ANSWER:
+            self._left, words = rest, line.decode(errors="replace").split()
+            if self.version == 0:
+                self.version = int(words[1]) if words[:1] == ["hello"] and words[1:2] and words[1].isdecimal() else 1
+            elif words not in _NO_ANSWER:
                 return words
 
     def fileno(self) -> int:
@@ -150,6 +200,12 @@ class Keepers:
         self._lines: dict[str, _Line] = {}
         self._left_out: dict[str, float] = {}
         """Until when each is."""
+        self.opens = False
+        """Whether who asks opens the database: then keepers that refuse connections are not waited for, as the addresses may be wrong."""
+        self._refused: set[str] = set()
+        """Those that have refused a connection since the last question for the place began."""
+        self._own: Place | None = None
+        """The last place of the database that was opened: of another one nothing is taken."""
         self._process = os.getpid()
 
     def close(self) -> None:
@@ -158,15 +214,24 @@ class Keepers:
             line.close()
         self._lines.clear()
 
-    def _ask(self, address: str, words: Sequence[object], timeout: float = _ANSWER) -> list[str]:
-        """The answer of one keeper; of no words where it does not answer. Its connection is made anew then."""
+    def is_of(self, place: Place) -> None:
+        """Whoever uses these is a client of the database of this place from now on, in its run."""
+        self._own = place
+
+    def _ask(self, address: str, words: Sequence[object], timeout: float = _ANSWER, of: str = "") -> list[str]:
+        """The answer of one keeper; of no words where it does not answer. Its connection is made anew then.
+
+        `of` says which database and run is meant. An older keeper is asked without, once that is known.
+        """
         self._forget_parent()
-        line = self._asked(address, words, timeout)
+        line = self._asked(address, words, timeout, of)
         if line is None:
             return []
         try:
             answer = line.answer(timeout)
             self._lines[address] = line
+            if of and line.version == 1 and answer == ["what", words[0]]:
+                return self._ask(address, words, timeout)
             return answer
         except OSError as error:
             if isinstance(error, TimeoutError) and words[0] in _AT_ONCE:
@@ -182,25 +247,46 @@ class Keepers:
 
         Raises `UnknownName` where all that answer say so.
         """
+        self._refused.clear()
         answers = [self._ask(address, ("where", self.name)) for address in self._asks()]
-        places = [place for place in map(_place, answers) if place is not None]
-        if places:
-            return max(places, key=lambda place: (place.generation, place.archived))
-        if any(answers) and all(words[:1] == ["unknown"] for words in answers if words):
+        told = [place for place in map(_place, answers) if place is not None]
+        if own := [place for place in told if place.database and self._is_own(place)]:
+            return max(own, key=lambda place: (place.generation, place.archived))
+        is_unknown = any(answers) and all(words[:1] == ["unknown"] for words in answers if words)
+        if is_unknown or any(place.database for place in told):
+            self._check_own()
+        if is_unknown:
             raise UnknownName(f"the keepers know of no database {self.name}")
+        if len(told) == len(self._addresses) and not any(place.database for place in told):
+            raise OlderKeepers(f"all keepers of {self.name} are of version 1: they are upgraded before their clients")
         return None
 
+    def _is_own(self, place: Place) -> bool:
+        """Whether it is of the database that was opened."""
+        return self._own is None or place.database == self._own.database
+
+    def _check_own(self) -> None:
+        """Some keepers have another database of the name, or none. Raises `Dropped` where one says that this is so for good: a keeper that
+        is cut off may only know less."""
+        own = self._own
+        for address in self._asks() if own is not None else []:
+            assert own is not None
+            words = self._ask(address, ("durable", self.name, own.generation, 0), _ANSWER, own.of)
+            self._fate(words, own, 0)
+
     def place(self, least: int = 0) -> Place:
-        """The place, of generation `least` or a later one, once there is one. Raises `TimedOut`."""
-        deadline, wait = time.monotonic() + self.patience, QUICKEST
+        """The place, of generation `least` or a later one, once there is one. Raises `TimedOut`, and `NoKeeper` for who opens the database."""
+        deadline, waits, gone = time.monotonic() + self.patience, Backoff(QUICKEST, SLOWEST), float("inf")
         while True:
             found = self.where()
             if found is not None and found.generation >= least:
                 return found
+            gone = min(gone, time.monotonic()) if self._refused.issuperset(self._addresses) else float("inf")
+            if self.opens and self._own is None and time.monotonic() - gone >= _GONE:
+                raise NoKeeper("no keeper answers: all connections are refused")
             if time.monotonic() > deadline:
                 raise TimedOut(f"no keeper has said in {self.patience} s where {self.name} is")
-            self.wait_for(least, wait)
-            wait = min(SLOWEST, 2 * wait)
+            self.wait_for(least, waits.next())
 
     def wait_for(self, least: int, seconds: float, unopened: Place | None = None) -> None:
         """Returns once a keeper says that generation `least` or a later one has a place, and after a while in any case. A place that is
@@ -229,7 +315,7 @@ class Keepers:
                     poll.unregister(descriptor)
                     del waiting[descriptor]
                     place = _place(words)
-                    if place is not None and place.generation >= wanted[address]:
+                    if place is not None and place.generation >= wanted[address] and self._is_own(place):
                         return
         finally:
             for _, line in waiting.values():
@@ -237,15 +323,17 @@ class Keepers:
         if not waiting:
             time.sleep(seconds)
 
-    def _asked(self, address: str, words: Sequence[object], timeout: float) -> _Line | None:
+    def _asked(self, address: str, words: Sequence[object], timeout: float, of: str = "") -> _Line | None:
         """The line of a keeper, over which this was asked; None where it does not listen. It is put back with its answer: where that is
         interrupted, it would be taken for the answer to the next question."""
         line = self._lines.pop(address, None)
         try:
             line = line or self._line(address)
-            line.send(words, timeout)
+            line.send((*words, f"of={of}") if of and line.version != 1 else words, timeout)
             return line
-        except (OSError, ValueError):
+        except (OSError, ValueError) as error:
+            if isinstance(error, ConnectionRefusedError):
+                self._refused.add(address)
             if line is not None:
                 line.close()
             return None
@@ -281,27 +369,28 @@ class Keepers:
             self.close()
             self._process = os.getpid()
 
-    def ring(self, generation: int, lines: str) -> None:
+    def ring(self, place: Place) -> None:
         """Tells the holder, if there is a connection to it, that new blocks of this generation are on their way."""
-        line = self._lines.get(lines)
+        line = self._lines.get(place.lines)
         if line is None or self._process != os.getpid():
             return
         try:
-            line.send(("ring", self.name, generation), _ANSWER)
+            line.send(("ring", self.name, place.generation, *([f"of={place.of}"] if line.version > 1 else [])), _ANSWER)
         except OSError:
-            del self._lines[lines]
+            del self._lines[place.lines]
             line.close()
 
     def full(self, place: Place) -> None:
         """Tells the holder that its service has no memory for a writer: it begins the next generation, if it may."""
-        self._forget_parent()
-        if (line := self._asked(place.lines, ("full", self.name, place.generation), _ANSWER)) is not None:
+        self._ask(place.lines, ("where", self.name))  # so that its version is known
+        if (line := self._asked(place.lines, ("full", self.name, place.generation), _ANSWER, place.of)) is not None:
             self._lines[place.lines] = line
 
     def after(self, place: Place) -> Place:
         """The place of a later generation, if its keeper is about to publish one; else as `place`."""
         found = _place(self._ask(place.lines, ("where", self.name, place.generation + 1), _SILENCE))
-        return found if found is not None and found.generation > place.generation else self.place(place.generation)
+        is_next = found is not None and found.generation > place.generation and found.database == place.database
+        return found if found is not None and is_next else self.place(place.generation)
 
     def has_left(self, place: Place) -> bool:
         """Whether its own keeper says that nobody serves it: it has released it, and is ending the service, or has not let clients in."""
@@ -312,66 +401,108 @@ class Keepers:
         for address in self._asks():
             words = self._ask(address, ("standby", self.name))
             found = _standby(words, address)
-            if found is not None:
+            if found is not None and found.database and self._is_own(found):
                 return found
         return None
 
     def block(self, position: int) -> str | None:
         """The SHA-256 of the block that the archive has at a position, of the keeper that answers first; None where it has none."""
-        deadline, wait = time.monotonic() + self.patience, QUICKEST
+        deadline, waits = time.monotonic() + self.patience, Backoff(QUICKEST, SLOWEST)
+        of = "" if self._own is None else self._own.database
         while True:
             for address in self._asks():
-                match self._ask(address, ("block", self.name, position), _SILENCE):
+                match _parted(self._ask(address, ("block", self.name, position), _SILENCE, of))[0]:
                     case ["block", _, _, digest]:
                         return None if digest == "-" else digest
             if time.monotonic() > deadline:
                 raise TimedOut(f"no keeper has said in {self.patience} s which block of {self.name} is at position {position}")
-            time.sleep(wait)
-            wait = min(SLOWEST, 2 * wait)
+            time.sleep(waits.next())
 
-    def fate(self, generation: int, position: int, lines: str | None = None) -> Fate:
-        """How far this generation is durable, once it is so up to the position, or is over. Raises `TimedOut`.
+    def fate(self, place: Place, position: int, lines: str | None = None) -> Fate:
+        """How far this generation is durable, once it is so up to the position, or is over. Raises `TimedOut`, and `Dropped`.
 
-        `lines` are those of its holder, who is asked first. The answer is the same from every keeper.
+        `lines` are those of who is asked first, by default of its holder. The answer is the same from every keeper.
         """
-        deadline, wait = time.monotonic() + self.patience, QUICKEST
-        asked = [lines] if lines else []
+        deadline, waits = time.monotonic() + self.patience, Backoff(QUICKEST, SLOWEST)
+        asked = [lines or place.lines]
         while True:
             for address in (*asked, *(address for address in self._asks() if address not in asked)):
                 left = min(_SILENCE, max(0.1, deadline - time.monotonic()))
-                answer = self._ask(address, ("durable", self.name, generation, position), left)
-                found = _fate(answer, generation, position)
+                answer = self._ask(address, ("durable", self.name, place.generation, position), left, place.of)
+                found = self._fate(answer, place, position) or self._fate_of_older(address, answer, place, position)
                 if found is not None:
                     return found
             if time.monotonic() > deadline:
                 raise TimedOut(f"no keeper has said in {self.patience} s what became of position {position} of {self.name}")
-            place = self.where()
-            asked = [place.lines] if place is not None else []
-            time.sleep(wait)
-            wait = min(SLOWEST, 2 * wait)
+            now = self.where()
+            if now is not None and now.of == place.of and now.generation > place.generation:
+                return Fate(now.archived, True)  # PostgreSQL went back, and the run continues under another number
+            asked = [now.lines] if now is not None else []
+            time.sleep(waits.next())
+
+    def fate_at_once(self, place: Place, position: int, seconds: float) -> Fate | None:
+        """As `fate`, of its holder alone; None where that does not answer within so many seconds. Raises `Dropped`."""
+        answer = self._ask(place.lines, ("durable", self.name, place.generation, position), seconds, place.of)
+        return self._fate(answer, place, position)
+
+    def _fate(self, words: list[str], place: Place, position: int) -> Fate | None:
+        """What an answer says of this very run. Raises `Dropped`."""
+        fixed, keys = _parted(words)
+        if keys.get("of") != place.of:
+            return None
+        match fixed:
+            case ["lost", _, _, "dropped"]:
+                raise Dropped(self.name, "the database was dropped")
+            case ["lost", _, _, "another"]:
+                raise Dropped(self.name, "the keepers have another database of this name")
+            case ["lost", _, _, *_]:
+                by = f"PostgreSQL went back, and has gone on with generation {keys.get('by', '?')} without this run"
+                return Fate(0, True, is_lost=True, why=by)
+        return _fate(fixed, place.generation, position)
+
+    def _fate_of_older(self, address: str, words: list[str], place: Place, position: int) -> Fate | None:
+        """What a keeper of version 1 says of the number of a generation: it is of this run if that keeper has this run now. Of one that is
+        over it may be of another run, or another database."""
+        line = self._lines.get(address)
+        found = _fate(words, place.generation, position) if line is not None and line.version == 1 else None
+        if found is None or found.is_over:
+            return None
+        now = _place(self._ask(address, ("where", self.name)))
+        return found if now is not None and (now.generation, now.run) == (place.generation, place.run) else None
+
+
+def _parted(words: list[str]) -> tuple[list[str], dict[str, str]]:
+    """The words that have their place, and the keys behind them, of which one that is not known is passed over."""
+    keys = dict(word.split("=", 1) for word in words if "=" in word)
+    return [word for word in words if "=" not in word], keys
 
 
 def _place(words: list[str]) -> Place | None:
-    match words:
-        case ["at", _, generation, run, address, archived, lines, base, shift, kept]:
-            return _read(generation, run, address, archived, lines, base, shift, kept)
+    fixed, keys = _parted(words)
+    match fixed:
+        case ["at", _, generation, run, address, archived, lines, base, shift, kept, *_]:
+            return _read(generation, run, address, archived, lines, base, shift, kept, keys)
         case _:
             return None
 
 
 def _standby(words: list[str], lines: str) -> Place | None:
-    match words:
-        case ["standby", _, address, run, reached, base, shift]:
-            return _read("0", run, address, reached, lines, base, shift, "0")
+    fixed, keys = _parted(words)
+    match fixed:
+        case ["standby", _, address, run, reached, base, shift, *_]:
+            return _read("0", run, address, reached, lines, base, shift, "0", keys)
         case _:
             return None
 
 
-def _read(generation: str, run: str, address: str, archived: str, lines: str, base: str, shift: str, kept: str) -> Place | None:
+def _read(
+    generation: str, run: str, address: str, archived: str, lines: str, base: str, shift: str, kept: str, keys: Mapping[str, str]
+) -> Place | None:
     """The place of these words; None where one of them is none of its kind."""
     try:
         Address.parse(address)
-        return Place(int(generation), run, address, int(archived), lines, int(base), int(shift), int(kept))
+        database = keys.get("of", "").partition("/")[0]
+        return Place(int(generation), run, address, int(archived), lines, int(base), int(shift), int(kept), database, keys.get("after", ""))
     except ValueError:
         return None
 

@@ -12,6 +12,7 @@ from pagelog.block import Block, Record, check_record
 from pagelog.client import PageClient, reported_epoch
 from pagelog.connection import Answer, Connection
 from pagelog.credentials import Credentials
+from pagelog.end_mark import sqlite_in
 from pagelog.errors import ConnectionLost, InDoubt, LogWentBack, PagelogError, Refusal, UnexpectedReply
 from pagelog.in_flight import Sent, Step, Turn, checked_copies, gets_of, groups_of, is_in_log, pages_show
 from pagelog.operator import Operator
@@ -20,7 +21,8 @@ from pagelog.reader import Reader
 from pagelog.reply import Done, State, expect, refusal_of
 from pagelog.request import COPIES_OF_QUORUM, QUORUM, Report, Request, Role, Status, Write
 from pagelog.rules import (
-    AboveTheWindow, BelowQuorum, HardenedAlready, NewerEpoch, OlderEpoch, OtherContent, OtherPrimary, Section, UnknownPrincipal,
+    AboveTheWindow, BelowQuorum, HardenedAlready, NewerEpoch, NoRowMatches, OlderEpoch, OtherContent, OtherPrimary, Section, TableRow,
+    UnknownPrincipal,
 )  # fmt: skip
 
 if TYPE_CHECKING:
@@ -53,6 +55,9 @@ class Primary(PageClient):
     is denied: `NoSuchCopy` for a quorum that is too large (what was hardened all the same is `durable`), `BelowQuorum`
     for one that is too small. A commit that succeeded has shown that it is right. Where a failover comes before the
     first one has, what was in some copies is looked up by the witness; without a witness it is `InDoubt`.
+
+    The first commit to a log that is not empty gets page 0 before it sends anything: `HoldsSqlite` where that is of a SQLite
+    database, unless `overwrite_sqlite` is set, or the table denies the get.
     """
 
     role = Role.PRIMARY
@@ -68,6 +73,7 @@ class Primary(PageClient):
         quorum: int = QUORUM,
         copies: Sequence[int] | None = None,
         witness: Reader | None = None,
+        overwrite_sqlite: bool = False,
     ) -> None:
         """`epoch` is the one to write in, by default that of the first request. `alone` says that nobody else does.
 
@@ -78,6 +84,8 @@ class Primary(PageClient):
         self.quorum = quorum
         self.copies = checked_copies(quorum, copies)
         self.witness = witness
+        self.overwrite_sqlite = overwrite_sqlite
+        """Whether it may write pages of a SQLite database, or has seen that there is none."""
         self.durable = 0
         """The LSN up to which the log is known to be hardened."""
         self._alone = alone
@@ -100,23 +108,26 @@ class Primary(PageClient):
         quorum: int = QUORUM,
         copies: Sequence[int] | None = None,
         witness: Reader | None = None,
+        overwrite_sqlite: bool = False,
     ) -> Primary:
         """The primary of a new epoch, which the operator begins for it. Whoever wrote before is denied from then on."""
         checked_copies(quorum, copies)
         epoch = operator.failover(credentials.id)
-        made = cls(connection, credentials, operator.database, epoch=epoch, alone=True, quorum=quorum, copies=copies, witness=witness)
+        made = cls(connection, credentials, operator.database, epoch=epoch, alone=True, quorum=quorum, copies=copies, witness=witness,
+                   overwrite_sqlite=overwrite_sqlite)  # fmt: skip
         made.begin()
         return made
 
     @classmethod
     def named(
         cls, name: str, *, keepers: Sequence[str], principal: int, token: str, operator: tuple[int, str], quorum: int = QUORUM,
-        patience: float = 60.0, timeout: float = 10.0,
+        patience: float = 60.0, timeout: float = 10.0, overwrite_sqlite: bool = False,
     ) -> NamedPrimary:  # fmt: skip
         """The writer of a named database, which its keepers have somewhere, as `host:port`; `operator` is an id and a token."""
         from pagelog.named import NamedPrimary
 
-        return NamedPrimary(name, keepers, principal, token, operator, quorum=quorum, patience=patience, timeout=timeout)
+        return NamedPrimary(name, keepers, principal, token, operator, quorum=quorum, patience=patience, timeout=timeout,
+                            overwrite_sqlite=overwrite_sqlite)  # fmt: skip
 
     def begin(self) -> State:
         """Learns the epoch and the end of the log, once; append and commit do it by themselves.
@@ -231,6 +242,7 @@ class Primary(PageClient):
 
     def _harden(self, groups: Iterable[Sequence[Block]], in_flight: int) -> Iterator[int]:
         """Writes and reports group by group, and yields the LSN of each group's end when the service has said so."""
+        self._check_sqlite()
         left, tries = iter(groups), 0
         while True:
             before, turn = self.durable, Turn()
@@ -249,6 +261,21 @@ class Primary(PageClient):
             if tries > self.connection.attempts:
                 raise ConnectionLost(f"no connection lasted until LSN {self.durable + 1} was looked up")
             left = chain(self._groups_to(again), left)
+
+    def _check_sqlite(self) -> None:
+        """Looks once, before its first block is sent, that it destroys no database of SQLite."""
+        if self.overwrite_sqlite:
+            return
+        try:
+            found = sqlite_in(self.page(0, self.durable).data) if self.durable else None
+        except (TableRow, NoRowMatches):
+            found = None  # the table does not let it look
+        except (OtherPrimary, UnknownPrincipal) as error:
+            self._ended = error
+            raise
+        if found is not None:
+            raise found
+        self.overwrite_sqlite = True
 
     def _take_turn(self, left: Iterator[Sequence[Block]], in_flight: int, turn: Turn) -> Iterator[int]:
         """Sends groups until there are none, or until a reply is a refusal, or leaves a doubt. What is in flight then is

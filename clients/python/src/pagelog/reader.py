@@ -9,7 +9,8 @@ from typing import TYPE_CHECKING, Callable, Iterator, Sequence
 
 from pagelog.block import Block
 from pagelog.client import ALL_PARTITIONS, PageClient, reported_epoch
-from pagelog.errors import ConnectionLost, LogWentBack, TimedOut
+from pagelog.errors import ConnectionLost, LogWentBack, OutOfMemory, TimedOut
+from pagelog.repeating import Backoff
 from pagelog.reply import Blocks, Denied, NoMemory, Reply, expect, refusal_of
 from pagelog.request import PULL_MAX, Act, Pull, Role
 from pagelog.rules import AboveTheEnd, Section
@@ -57,6 +58,8 @@ class Reader(PageClient):
     """How many blocks the first pull of a span asks for: fewer where the line is cut before they have come."""
     _whole = 0
     """How many blocks have come since over the connection that there is."""
+    has_lacked_memory = False
+    """Whether the service had no memory for one of its pulls."""
 
     @classmethod
     def named(
@@ -130,8 +133,8 @@ class Reader(PageClient):
 
         A span that ends below its beginning says that nothing new is hardened. What a later pull of it is refused for is
         left to the next span: this one ends before. So it does where the connection is lost: a span is of one service, and
-        what came whole is not pulled again. Where no reply of a pull comes whole, it asks for fewer blocks. Raises
-        `LogWentBack` where the log has become shorter than it was.
+        what came whole is not pulled again. Where no reply of a pull comes whole, or the service has no memory for it, it asks
+        for fewer blocks. Raises `LogWentBack` where the log has become shorter than it was.
         """
         first = self._first_of(lsn, partitions)
         over = first.connection
@@ -146,12 +149,13 @@ class Reader(PageClient):
         return Span(lsn, rest.last, first.blocks + rest.blocks, over)
 
     def _first_of(self, lsn: int, partitions: tuple[int, int]) -> Span:
-        """The span of one pull, of half as many blocks where no connection lasts until its reply has come."""
+        """The span of one pull, of half as many blocks where no connection lasts until its reply has come, or no memory is there for it."""
         while True:
             connects = self.connection.connects
             try:
                 span = self._span_of((lsn,), partitions, most=self._most)
-            except ConnectionLost as error:
+            except (ConnectionLost, OutOfMemory) as error:
+                self.has_lacked_memory |= isinstance(error, OutOfMemory)
                 if self._most == 1 or isinstance(error, TimedOut):
                     raise
                 self._most, self._whole = self._most // 2, 0
@@ -228,15 +232,16 @@ class Reader(PageClient):
         stop: Callable[[], bool] = lambda: False,
     ) -> Iterator[Span]:
         """As `blocks`, span by span. Each begins where the one before it ended, so they leave no LSN out."""
-        wait = QUICKEST
+        waits = Backoff(QUICKEST, idle)
         while not stop():
             span = self.span(lsn, pulls=pulls, partitions=partitions)
             if span.last >= lsn:
-                lsn, wait = span.last + 1, QUICKEST
+                lsn = span.last + 1
+                waits.reset()
                 yield span
             elif not follow:
                 return
             else:
-                _logger.debug("nothing is hardened from LSN %d on; asking again in %.3f s", lsn, min(wait, idle))
-                time.sleep(min(wait, idle))
-                wait = min(wait * 2, idle)
+                wait = waits.next()
+                _logger.debug("nothing is hardened from LSN %d on; asking again in %.3f s", lsn, wait)
+                time.sleep(wait)

@@ -86,6 +86,7 @@ def fill(
             raise refusal
         compare(all_blocks(reader, alike + 1, hard), archive.blocks(alike + 1, hard))
         alike = hard
+        primary.overwrite_sqlite = True  # what it goes on with is the archive's log, as far as that is there
         try:
             for lsn in primary.harden(archive.blocks(hard + 1, archived)):
                 told(lsn, archived)

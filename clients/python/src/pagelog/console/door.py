@@ -6,6 +6,7 @@ import hashlib
 import hmac
 import ipaddress
 import os
+import secrets
 import stat
 import time
 from pathlib import Path
@@ -18,6 +19,8 @@ from pagelog.errors import CredentialsError
 COOKIE = "pagelog_console"
 LASTS = 12 * 3600
 """Seconds for which a login is good."""
+_NUMBER = 16
+"""Digits of the number of a login."""
 LEAST = 16
 """The fewest characters of a token."""
 _LOCAL_NAMES = ("localhost", "127.0.0.1", "[::1]")
@@ -54,6 +57,10 @@ class Door:
         self._token = None if token is None else token.encode()
         self._hosts = {*_LOCAL_NAMES, host}
         self._clock = clock
+        self._key = secrets.token_bytes(32)
+        """Of this process: with it all logins end."""
+        self._ended: dict[str, int] = {}
+        """The cookies that were logged out, and when each would have ended by itself."""
 
     @property
     def wants_token(self) -> bool:
@@ -75,19 +82,26 @@ class Door:
 
     def cookie(self) -> str:
         """A value that is good until a time, which it has in it."""
-        until = str(int(self._clock()) + LASTS)
-        return f"{until}.{self._seal(until)}"
+        until, number = str(int(self._clock()) + LASTS), secrets.token_hex(_NUMBER // 2)
+        return f"{until}.{number}{self._seal(until, number)}"
+
+    def end(self, cookie: str) -> None:
+        """Logs out: this cookie is good no more."""
+        if self._is_good(cookie):
+            now = self._clock()
+            self._ended = {each: until for each, until in self._ended.items() if until > now}
+            self._ended[cookie] = int(cookie.partition(".")[0])
 
     def _is_good(self, cookie: str) -> bool:
-        until, _, seal = cookie.partition(".")
-        is_sealed = hmac.compare_digest(seal.encode("utf-8", "surrogatepass"), self._seal(until).encode())
-        return is_sealed and until.isdecimal() and int(until) > self._clock()
+        until, _, rest = cookie.partition(".")
+        number, seal = rest[:_NUMBER], rest[_NUMBER:]
+        is_sealed = hmac.compare_digest(seal.encode("utf-8", "surrogatepass"), self._seal(until, number).encode())
+        return is_sealed and until.isdecimal() and int(until) > self._clock() and cookie not in self._ended
 
-    def _seal(self, until: str) -> str:
+    def _seal(self, until: str, number: str) -> str:
         assert self._token is not None
-        return hmac.new(
-            self._token, f"pagelog console until {until}".encode("utf-8", "surrogatepass"), hashlib.sha256
-        ).hexdigest()
+        said = f"pagelog console until {until}, login {number}".encode("utf-8", "surrogatepass")
+        return hmac.new(self._key + self._token, said, hashlib.sha256).hexdigest()
 
 
 def _host_of(header: str) -> str:

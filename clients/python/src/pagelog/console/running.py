@@ -3,6 +3,7 @@
 from __future__ import annotations
 
 import asyncio
+import logging
 import signal
 from concurrent.futures import Future
 from functools import partial
@@ -10,12 +11,24 @@ from threading import Thread
 from typing import Callable, Iterable
 
 from aiohttp import web
+from aiohttp.http_exceptions import HttpProcessingError
 
 from pagelog.console.board import Board, Limits
 from pagelog.console.door import Door
 from pagelog.console.source import Source
 from pagelog.console.watcher import Watcher
 from pagelog.console.web import Pages
+
+
+class _OwnFaults(logging.Filter):
+    """Leaves out what somebody has sent that is no HTTP: a traceback for each would fill the log."""
+
+    def filter(self, record: logging.LogRecord) -> bool:
+        return not (record.exc_info and isinstance(record.exc_info[1], HttpProcessingError))
+
+
+_log = logging.getLogger("pagelog.console")
+_log.addFilter(_OwnFaults())
 
 
 async def run(
@@ -25,7 +38,7 @@ async def run(
     """Serves until one of the signals. `listening` is told the port. Raises `OSError` where it cannot listen there."""
     loop, board, ended = asyncio.get_running_loop(), Board(limits), asyncio.Event()
     watcher = Watcher(source, partial(_tell, loop, board.take), partial(_tell, loop, board.miss))
-    runner = web.AppRunner(Pages(board, door, watcher.watch).application(), access_log=None)
+    runner = web.AppRunner(Pages(board, door, watcher.watch).application(), access_log=None, logger=_log)
     await runner.setup()
     try:
         await web.TCPSite(runner, host, port).start()

@@ -10,14 +10,14 @@ from datetime import datetime
 from typing import Any, Iterable, Mapping
 
 import psycopg
-from psycopg.conninfo import conninfo_to_dict, make_conninfo
+from psycopg.conninfo import make_conninfo
 from psycopg.rows import dict_row
 
 from pagelog.archive_engine import without_password
 from pagelog.console import statements
 from pagelog.errors import PagelogError
 from pagelog.keeper.hosts import shut_down, turn_hosts
-from pagelog.keeper.referee import plain_url
+from pagelog.keeper.referee import options_of
 from pagelog.keeper.rows import KeeperRow, Look, Row, StandbyRow, Synchronous
 from pagelog.reply import LINE_SIZE
 from pagelog.trail.store import FORMAT, Piece
@@ -78,7 +78,7 @@ class Source:
 
     def __init__(self, url: str) -> None:
         self._url = url
-        self._options: dict[str, Any] = {**_OPTIONS, **conninfo_to_dict(plain_url(url))}
+        self._options: dict[str, Any] = {**_OPTIONS, **options_of(url)}
         self._connection: psycopg.Connection[dict[str, Any]] | None = None
         self._generations: dict[int, int] = {}
         self._next: dict[int, int] = {}

@@ -97,8 +97,9 @@ class Pages:
         response.set_cookie(COOKIE, self.door.cookie(), max_age=LASTS, httponly=True, samesite="Strict")
         return response
 
-    async def logout(self, _: web.Request) -> web.StreamResponse:
-        """Takes the cookie away."""
+    async def logout(self, request: web.Request) -> web.StreamResponse:
+        """Takes the cookie away, also from who has a copy of it."""
+        self.door.end(request.cookies.get(COOKIE, ""))
         response = web.HTTPSeeOther("/login")
         response.del_cookie(COOKIE)
         return response

@@ -23,6 +23,7 @@ from pagelog.errors import ConnectionLost, OutOfMemory, Unreachable
 from pagelog.fencing import ListGuard
 from pagelog.operator import Operator
 from pagelog.reader import Reader
+from pagelog.repeating import Backoff, Repeats
 from pagelog.request import Role
 from pagelog.rules import UnknownPrincipal
 from pagelog.tables import TableText
@@ -80,6 +81,10 @@ def archive_word(
     sys.exit(LIST_FULL if guard is not None and guard.fenced is not None else 0)
 
 
+LONGEST = 2.0
+"""Seconds between two tries where the service or the archive stays away. As long a stop may be waited for."""
+
+
 class Follower:
     """Follows until it is stopped or the database is fenced, however often the service or the archive is lost for a moment."""
 
@@ -94,6 +99,7 @@ class Follower:
         """Whether it waits to be let in again."""
         self._told = (-1, -1)
         self._told_at = 0.0
+        self._waits, self._repeats = Backoff(0.25, LONGEST), Repeats(lambda _, text: _warn(text))
 
     def run(self) -> None:
         """Archives until it is told to end, or until the database is fenced and all of it is archived."""
@@ -135,7 +141,7 @@ class Follower:
         self._is_denied = True
         for client in self._clients():
             client.forget()
-        time.sleep(1)
+        time.sleep(self._waits.next())
 
     def _is_fenced(self) -> bool:
         return self.guard is not None and self.guard.fenced is not None
@@ -146,13 +152,14 @@ class Follower:
     def tell(self, archived: int, hard: int) -> None:
         """At most one line a second, and none where it is the last one again."""
         self._is_denied = False
+        self._waits.reset()
         if (archived, hard) != self._told and time.monotonic() - self._told_at >= 1:
             self._told, self._told_at = (archived, hard), time.monotonic()
             _tell(archived, hard, self.as_json)
 
     def _wait(self, text: str) -> None:
-        _warn(f"{text}; trying again")
-        time.sleep(1)
+        self._repeats.say("", f"{text}; trying again")
+        time.sleep(self._waits.next())
 
 
 def _tell(archived: int, hard: int, as_json: bool) -> None:

@@ -2,16 +2,20 @@
 
 from __future__ import annotations
 
+from datetime import datetime
+
 import click
 
 from pagelog.credentials import Accounts, keep_of
+from pagelog.desk.deleting import agree, counted, yes_option
 from pagelog.desk.keeper_words import named, referee_of, referee_word
-from pagelog.desk.options import credentials_option, fail, faults
+from pagelog.desk.options import WRONG, credentials_option, fail, faults
 from pagelog.keeper.bases import Bases
-from pagelog.keeper.history import begin_again, position_at, spans
+from pagelog.keeper.history import begin_again, below, extent_of, position_at, spans
 from pagelog.keeper.referee import Referee
 from pagelog.keeper.rows import Row
 from pagelog.keeper.switch import wish_for
+from pagelog.times import FORMS, in_both_zones, moment
 
 
 def _row(referee: Referee, name: str) -> Row:
@@ -40,40 +44,77 @@ def succeed_word(referee: Referee, name: str) -> None:
 
 @click.command("prune")
 @click.argument("name")
-@click.option("--keep", metavar="N|TIME", help="How many bases are kept, or from how far back, as 7d. [default: [archive] keep, or 1]")
+@click.option("--keep", metavar="N|TIME", help="How many bases are kept, or from how far back, as 7d. [default: [archive] keep of the credentials]")
+@yes_option
 @credentials_option
 @faults
-def prune_word(accounts: Accounts, name: str, keep: str | None) -> None:
+def prune_word(accounts: Accounts, name: str, keep: str | None, yes: bool) -> None:
     """Delete what of the archive of a database only older positions need: the blocks below the oldest base that is kept.
 
-    A keeper whose file says [archive] keep does it by itself, after each new base.
+    It says first which positions go, and asks. Without --keep and without [archive] keep nothing is deleted. A keeper whose file
+    says [archive] keep does it by itself, after each new base.
 
     \b
     Example:
       pagelogctl prune shop --keep 7d --credentials keeper.toml
     """
-    wanted = accounts.archive_keep or 1 if keep is None else keep_of(int(keep) if keep.isdecimal() else keep)
-    assert wanted is not None
+    wanted = accounts.archive_keep if keep is None else keep_of(keep)
     with referee_of(accounts) as referee:
         row = _row(referee, name)
-        bases = Bases(referee, row.id)
-        position = bases.oldest_to_keep(wanted)
+        if wanted is None:
+            fail(f"nothing was deleted: say how much is kept, by --keep 1, --keep 7d or [archive] keep; {name} has {_archive_of(referee, row)}",
+                 WRONG)  # fmt: skip
+        position = Bases(referee, row.id).oldest_to_keep(wanted)
         if position == 0:
             click.echo(f"{name} has no base that is old enough: nothing was pruned")
-        else:
-            count = bases.prune(position)
-            click.echo(f"pruned {count} blocks: positions from {position} on are kept")
+            return
+        if goes := _goes(referee, row, position):
+            agree(goes, yes)
+        click.echo(f"pruned {Bases(referee, row.id).prune(position)} blocks: positions from {position} on are kept")
+
+
+def _archive_of(referee: Referee, row: Row) -> str:
+    has = extent_of(referee, row)
+    return f"{has}, and {counted(has.bases, 'base')}"
+
+
+def _goes(referee: Referee, row: Row, position: int) -> str | None:
+    """What pruning up to a base takes away, in sentences; None where that is nothing."""
+    has, gone = extent_of(referee, row), below(referee, row, position)
+    if not gone.blocks and not gone.bases:
+        return None
+    deleted = f"{counted(gone.blocks, 'block')} and {counted(gone.bases, 'base')} of {row.name}"
+    if has.first < position:
+        deleted += (f", with positions {has.first} to {position - 1}, from {in_both_zones(has.first_came)} to {in_both_zones(gone.until)}: none of "
+                    "these can be restored then")  # fmt: skip
+    return (f"to be deleted: {deleted}\n"
+            f"kept: positions {position} to {has.last}, from {in_both_zones(gone.came)} to {in_both_zones(has.last_came)}")  # fmt: skip
 
 
 def restore_named(accounts: Accounts, name: str, at: str, to: str | None) -> None:
     """Begins a read-only database with what another one was at a position or a time."""
+    when = position_or_time(at)
     with referee_of(accounts) as referee:
         row = _row(referee, name)
-        position = position_at(referee, row, at)
+        position = position_at(referee, row, when)
         made = named(to or f"{name}-{position}")
+        if isinstance(when, datetime):
+            click.echo(f"at {in_both_zones(when)} {name} was archived up to position {position}")
         if not begin_again(referee, row, position, made):
             fail(f"there is a database {made}, or was one")
         click.echo(f"{made} is {name} at position {position}, for readers")
+
+
+def position_or_time(at: str) -> int | datetime:
+    """What --at says. A time without a zone is one of this machine's."""
+    if at.isdecimal() and len(at) < 20:
+        return int(at)
+    try:
+        found = moment(at, None, datetime.now())
+        in_both_zones(found)  # at an end of the calendar there is no such time in one of them
+        return found
+    except (ValueError, OverflowError):
+        fail(f"{at!r} is neither a position nor a time as {FORMS}")
 
 
 def columns_of(referee: Referee) -> dict[int, dict[str, int]]:

@@ -1,11 +1,10 @@
-"""keep, create, pause, resume, kept, where, switchover and drop."""
+"""keep, create, pause, resume and where; and what the words of named databases have in common."""
 
 from __future__ import annotations
 
 import asyncio
 import faulthandler
 import functools
-import json
 import logging
 import os
 import secrets
@@ -17,13 +16,11 @@ from pathlib import Path
 from typing import TYPE_CHECKING, Any, Callable, Iterator, Mapping, Sequence
 
 import click
-from click.core import ParameterSource
 
 from pagelog.credentials import Accounts
-from pagelog.desk.options import AGAIN, URL_VARIABLE, credentials_option, fail, faults, url_options
-from pagelog.keeper.aside import asides_of
+from pagelog.desk.options import AGAIN, URL_VARIABLE, credentials_option, fail, faults
 from pagelog.keeper.referee import LONGEST, NAME, Away, Doubt, Referee, Refused
-from pagelog.keeper.rows import Look, Row, told
+from pagelog.keeper.rows import Look, Row
 from pagelog.keeper.settings import Settings
 from pagelog.keeper.table import Form, read_table, table_of_run
 
@@ -53,13 +50,13 @@ def referee_word(word: Callable[..., Any]) -> Callable[..., Any]:
     @faults
     @functools.wraps(word)
     def run(accounts: Accounts, **options: Any) -> Any:
-        with referee_of(accounts, _Asked) as referee:
+        with referee_of(accounts, Asked) as referee:
             return word(referee, **options)
 
     return run
 
 
-class _Asked(Referee):
+class Asked(Referee):
     """For a person, who asks for little: a statement that hangs is cut."""
 
     def _ask(self, statement: str, values: Mapping[str, Any] | Sequence[Any] = (), *, binary: bool = False) -> list[Any]:
@@ -105,7 +102,8 @@ def keep_word(accounts: Accounts, name: str, lines: str, serve: str, folder: Pat
     succeed, trail, metrics, console, console_token (the file with the token of a page that others reach) and require_standby.
 
     It prints `listening HOST:PORT`, and logs each decision with its reason. SIGTERM hands over what it holds; a second one
-    ends it at once, and its services go on until its next life adopts them. Exit status 3: another keeper has its name.
+    ends it at once, and its services go on until its next life adopts them. Exit status 3: another keeper has its name. A name whose
+    keeper lives is refused; one whose heartbeat stands still for a ttl is taken over, in the same folder of a keeper that ended at once.
 
     \b
     Example:
@@ -163,6 +161,9 @@ def create_word(referee: Referee, name: str, table: Path) -> None:
     if not referee.create(name, text, secrets.token_bytes(16)):
         fail(f"there is a database {name}, or was one")
     click.echo(f"created {name}")
+    if not referee.keep_strangers_out():
+        click.echo("every role may connect to the referee's database, and wake keepers: REVOKE CONNECT ON DATABASE .. FROM PUBLIC, "
+                   "and grant it to those of the keepers and of the console", err=True)  # fmt: skip
 
 
 def _paused(referee: Referee, name: str | None, paused: bool) -> None:
@@ -213,57 +214,6 @@ def facts_of(look: Look, row: Row) -> dict[str, Any]:
     }  # fmt: skip
 
 
-@click.command("kept")
-@click.option("--json", "as_json", is_flag=True, help="One line of JSON for each database.")
-@referee_word
-def kept_word(referee: Referee, as_json: bool) -> None:
-    """List the named databases: generation, holder, place, archived position, the oldest one that is kept and the newest base,
-    standbys, entries and MiB left, and the state with what was decided, and why: by its holder, or by all where nobody has it;
-    whether PostgreSQL has a synchronous standby; and services that were set aside.
-
-    \b
-    Example:
-      pagelogctl kept --credentials keeper.toml
-    """
-    from pagelog.desk.history_words import columns_of
-
-    look, columns = referee.everything(), columns_of(referee)
-    found: list[dict[str, Any]] = [{**facts_of(look, row), **columns[row.id]} for row in look.rows if not row.dropped]
-    asides = asides_of(look)
-    if as_json:
-        unknown = {each["name"] for each in asides} - {facts["name"] for facts in found}
-        for facts in (*found, *({"name": name} for name in sorted(unknown))):
-            click.echo(json.dumps({**facts, "set_aside": [each for each in asides if each["name"] == facts["name"]]}))
-        return
-    from rich.console import Console
-    from rich.markup import escape
-    from rich.table import Table
-
-    words = ("name", "generation", "holder", "place", "archived", "oldest", "base")
-    table = Table(*words, "standbys", "entries left", "memory left", "state")
-    for facts in found:
-        standbys = ", ".join(f"{keeper} at {reached}" for keeper, reached in sorted(facts["standbys"].items()))
-        left = (_shown(facts[word]) for word in ("entries_left", "memory_left"))
-        table.add_row(*(_shown(facts[word]) for word in words), standbys, *left, escape(_state_of(facts)))
-    Console().print(table)
-    click.echo(look.synchronous.meaning)
-    for each in asides:
-        click.echo(f"set aside: run {each['run']} of {each['name']} at {each['address']}, process {each['pid']} of keeper {each['keeper']}: "
-                   f"see `pagelogctl rescue {each['name']} --help`")  # fmt: skip
-
-
-def _state_of(facts: dict[str, Any]) -> str:
-    """As `serving, paused: serves; paused`, and without a holder what each keeper says."""
-    said = {"paused": facts["paused"], f"to {facts['wanted']}": facts["wanted"], "succeeds": facts["succeed"], "read-only": facts["read_only"]}
-    state = "nobody" if facts["holder"] is None else _shown(facts["state"])
-    words = ", ".join((state, *(word for word, holds in said.items() if holds)))
-    return ": ".join(filter(None, (words, told(facts["holder"], facts["why"]))))
-
-
-def _shown(value: object) -> str:
-    return "-" if value is None else str(value)
-
-
 @click.command("where")
 @click.argument("name")
 @referee_word
@@ -278,57 +228,3 @@ def where_word(referee: Referee, name: str) -> None:
     if row is None or row.address is None:
         fail(f"there is no database {name}" if row is None else f"nobody serves {name} now")
     click.echo(row.address)
-
-
-@click.command("switchover")
-@click.argument("name")
-@click.option("--to", "keeper", default="*", metavar="K", help="The keeper that is to have it. [default: any other]")
-@referee_word
-def switchover_word(referee: Referee, name: str, keeper: str) -> None:
-    """Ask for a database to be handed over, with nothing lost. The target makes a standby first, if it has none.
-
-    \b
-    Example:
-      pagelogctl switchover shop --to b --credentials keeper.toml
-    """
-    if keeper != "*" and referee.everything().keeper(keeper) is None:
-        fail(f"there is no keeper {keeper}")
-    if not referee.wish(named(name), keeper):
-        fail(f"there is no database {name}")
-    click.echo(f"asked for {name} to go to {'another keeper' if keeper == '*' else keeper}")
-
-
-@click.command("drop")
-@credentials_option
-@url_options
-@click.argument("name", required=False)
-@click.option("--yes", "--force", "yes", is_flag=True, help="Do not ask.")
-@faults
-def drop_word(accounts: Accounts, url: str | None, log: str | None, name: str | None, yes: bool) -> None:
-    """Remove a named database for good, or with --log and without a NAME a log of an archive. Needs no service.
-
-    \b
-    Example:
-      pagelogctl drop shop --credentials keeper.toml
-      pagelogctl drop --url sqlite:///db0.db --log 0
-    """
-    if name is None:
-        from pagelog.desk import logs_words
-
-        logs_words.drop_word.callback(accounts=accounts, url=url, log=log, yes=yes)  # type: ignore[misc]
-    elif log is not None or click.get_current_context().get_parameter_source("url") is ParameterSource.COMMANDLINE:
-        raise click.UsageError("a NAME is a named database: it has neither --url nor --log")
-    else:
-        with referee_of(accounts) as referee:
-            _drop_named(referee, named(name), yes)
-
-
-def _drop_named(referee: Referee, name: str, yes: bool) -> None:
-    row = referee.everything().row(name)
-    if row is None and not referee.drop(name):  # one that was broken off has rows left
-        fail(f"there is no database {name}")
-    if row is not None and not yes:
-        click.confirm(f"remove {name}, with its {row.archived} archived blocks", abort=True)
-    if row is not None:
-        referee.drop(name)
-    click.echo(f"dropped {name}")

@@ -31,11 +31,12 @@ def pressed_q(seconds: float) -> bool:
     if not sys.stdin.isatty():
         time.sleep(seconds)
         return False
-    deadline = time.monotonic() + seconds
+    deadline, poll = time.monotonic() + seconds, select.poll()
+    poll.register(sys.stdin, select.POLLIN)
     while True:
         left = deadline - time.monotonic()
-        # Not by sys.stdin.read, which would keep what it reads too much where no select sees it.
-        if select.select([sys.stdin], [], [], max(0.0, min(left, 0.2)))[0] and b"q" in os.read(sys.stdin.fileno(), 1024):
+        # Not by sys.stdin.read, which would keep what it reads too much where no poll sees it.
+        if poll.poll(1000 * max(0.0, min(left, 0.2))) and b"q" in os.read(sys.stdin.fileno(), 1024):
             return True
         if left <= 0:
             return False

@@ -1,4 +1,4 @@
-"""logs, mend and drop: what an archive has, and the care of it."""
+"""logs and mend: what an archive has, and the care of it."""
 
 from __future__ import annotations
 
@@ -9,7 +9,7 @@ from dataclasses import asdict
 import click
 
 from pagelog.archive import Archive
-from pagelog.archive_care import drop, logs_of, mend
+from pagelog.archive_care import logs_of, mend
 from pagelog.credentials import Accounts
 from pagelog.desk.options import FAULT, bar, client, credentials_option, db_option, faults, json_option, url_of, url_options
 from pagelog.reader import Reader
@@ -61,23 +61,3 @@ def mend_word(accounts: Accounts, db: int, url: str | None, log: str | None, as_
 
 def _lsns(lsns: list[int]) -> str:
     return ": LSN " + ", ".join(map(str, lsns[:20])) + (" .." if len(lsns) > 20 else "") if lsns else ""
-
-
-@click.command("drop")
-@credentials_option
-@url_options
-@click.option("--yes", is_flag=True, help="Do not ask.")
-@faults
-def drop_word(accounts: Accounts, url: str | None, log: str | None, yes: bool) -> None:
-    """Remove a log from an archive, for good: what no service has any more is lost then. Needs no service.
-
-    \b
-    Example:
-      pagelogctl drop --url sqlite:///db0.db --log 0
-    """
-    if log is None:
-        raise click.UsageError("which log? --log NAME; `logs` lists them")
-    with Archive(url_of(url, accounts), log) as archive:
-        if not yes:
-            click.confirm(f"remove log {log}, with its {archive.archived} blocks", abort=True)
-        click.echo(f"dropped {drop(archive)} blocks of log {log}")

@@ -2,8 +2,13 @@
 
 from __future__ import annotations
 
+import io
+import ipaddress
 import socket
 import threading
+import time
+from contextlib import suppress
+from http import HTTPStatus
 from socketserver import ThreadingMixIn
 from typing import Any, Callable, Iterable, Mapping
 from wsgiref.simple_server import WSGIRequestHandler, WSGIServer, make_server
@@ -36,6 +41,9 @@ _COUNTERS = {
 }
 _PULL_BLOCKS = 16
 _IDLE_SECONDS = 10.0
+"""For how many seconds a request may come."""
+_MOST_THREADS = 32
+"""How many requests are answered at once."""
 
 
 class WatchedDatabase:
@@ -132,18 +140,77 @@ def _add_look(
 
 
 class _Server(ThreadingMixIn, WSGIServer):
-    """A thread for each connection, which ends with the program."""
+    """A thread for each connection, which ends with the program. Where there are many, another one is ended at once."""
 
     daemon_threads = True
 
+    def __init__(self, *arguments: Any) -> None:
+        self._free = threading.BoundedSemaphore(_MOST_THREADS)
+        super().__init__(*arguments)
+
+    def process_request(self, request: Any, address: Any) -> None:
+        if not self._free.acquire(blocking=False):
+            return self.shutdown_request(request)
+        try:
+            super().process_request(request, address)
+        except BaseException:
+            self._free.release()
+            raise
+
+    def process_request_thread(self, request: Any, address: Any) -> None:
+        try:
+            super().process_request_thread(request, address)
+        finally:
+            self._free.release()
+
+
+class _Within(io.RawIOBase):
+    """What comes over a connection within a time, however slowly it comes. Then it raises `TimeoutError`."""
+
+    def __init__(self, line: socket.socket, seconds: float) -> None:
+        self._line, self._ends = line, time.monotonic() + seconds
+
+    def readable(self) -> bool:
+        return True
+
+    def readinto(self, buffer: Any) -> int:
+        left = self._ends - time.monotonic()
+        if left <= 0:
+            raise TimeoutError("the request does not come to its end")
+        self._line.settimeout(left)
+        return self._line.recv_into(buffer)
+
 
 class _Handler(WSGIRequestHandler):
-    """One that says nothing on standard error, and ends a connection that asks nothing."""
+    """One that says nothing on standard error, and ends a connection whose request does not come to its end. At an address of this
+    machine alone it answers who names this machine: a page of another site could else read all, by a name of its own that leads here."""
 
-    timeout = _IDLE_SECONDS
+    def setup(self) -> None:
+        super().setup()
+        self.rfile = io.BufferedReader(_Within(self.connection, _IDLE_SECONDS))
+
+    def handle(self) -> None:
+        with suppress(TimeoutError, ConnectionError):
+            super().handle()
+
+    def parse_request(self) -> bool:
+        if not super().parse_request():
+            return False
+        listens = str(self.connection.getsockname()[0])
+        named = _host_of(self.headers.get("Host", ""))
+        if ipaddress.ip_address(listens).is_loopback and named not in ("localhost", "127.0.0.1", "[::1]", listens):
+            self.send_error(HTTPStatus.MISDIRECTED_REQUEST, "these metrics are for this machine alone: ask for them as localhost")
+            return False
+        return True
 
     def log_message(self, format: str, *arguments: object) -> None:
         """Nothing."""
+
+
+def _host_of(header: str) -> str:
+    """The host of a header, without its port: `[::1]:9500` is `[::1]`."""
+    name, colon, port = header.rpartition(":")
+    return (name if colon and port.isdecimal() else header).lower()
 
 
 def serve(collector: Collector, host: str, port: int) -> int:

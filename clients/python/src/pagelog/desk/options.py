@@ -27,9 +27,9 @@ URL_VARIABLE = "PAGELOG_ARCHIVE_URL"
 """The variable of the environment that has the archive's URL, with a password if need be."""
 
 
-FAULT, AGAIN, LIST_FULL = 1, 3, 4
-"""Exit statuses, beside 0 for done and 2 for wrong arguments: a person has to look; it may be tried again later as it is; the
-audit list is full, or so near to it that the database was fenced.
+FAULT, WRONG, AGAIN, LIST_FULL = 1, 2, 3, 4
+"""Exit statuses, beside 0 for done: a person has to look; wrong arguments, or one that is missing; it may be tried again later as it
+is; the audit list is full, or so near to it that the database was fenced.
 """
 NOT_YET = "service: denied A1, though let in before: it waits for its restore, or the table has another token; trying again"
 DEFAULT_TIMEOUT = 10.0

@@ -17,6 +17,7 @@ from pagelog.archive import Archive, NoArchive
 from pagelog.block import Block
 from pagelog.connection import Connection
 from pagelog.credentials import FILE_VARIABLE, Accounts, load
+from pagelog.desk.archive_words import LONGEST
 from pagelog.desk.audit_words import entry_fields, entry_line
 from pagelog.desk.options import (
     NOT_YET, URL_VARIABLE, _url, bar, client, credentials_option, db_option, fail, faults, first_line_of, is_lost_archive,
@@ -28,12 +29,14 @@ from pagelog.keeping import all_blocks, compare
 from pagelog.operator import Operator
 from pagelog.place import Keepers
 from pagelog.reader import Reader
+from pagelog.repeating import Backoff, Repeats
 from pagelog.request import Operation, Role
 from pagelog.rules import UnknownPrincipal
 from pagelog.trail.keeper import TrailKeeper
 from pagelog.trail.logs import Log, log_of
 from pagelog.trail.pages import compare_pages
-from pagelog.trail.question import Question, Seen, Summary, answer, micros, moment
+from pagelog.times import FORMS, in_both_zones, moment
+from pagelog.trail.question import Question, Seen, Summary, answer, micros
 from pagelog.trail.replay import Replayed, replay
 from pagelog.trail.seal import seal
 from pagelog.trail.store import NoTrail, Start, Trail, TrailList
@@ -87,8 +90,8 @@ def chosen(trail: Trail, run: int | None) -> list[TrailList]:
 @click.option("--follow", is_flag=True, help="Go on with what comes, until SIGTERM or SIGINT.")
 @click.option("--idle", default=15.0, show_default=True, type=click.FloatRange(0), metavar="SECONDS",
               help="The longest wait before the service is asked again. Each question is an entry of the audit list too.")  # fmt: skip
-@click.option("--keep", metavar="DAYS", type=click.IntRange(1), help="Take away what was seen on earlier days. A list without its "
-              "beginning cannot be replayed. [default: keep all]")  # fmt: skip
+@click.option("--keep", metavar="DAYS", type=click.IntRange(1), help="Delete what was seen on earlier days, and say which lines, "
+              "without asking. A list without its beginning cannot be replayed. [default: keep all]")  # fmt: skip
 @faults
 def record_word(
     name: str, accounts: Accounts, db: int, url: str | None, table: Path | None, primary: int | None, texts: tuple[Path, ...],
@@ -113,9 +116,9 @@ def record_word(
                 for text in texts:
                     keeper.give_table(text.read_bytes())
                 if not follow:
-                    keeper.run(follow=False, keep=keep, told=tell, stop=stop)
+                    keeper.run(follow=False, keep=keep, told=tell, stop=stop, pruning=tell.pruning)
                 while follow and not stop():
-                    _follow(keeper, tell, lambda: keeper.run(follow=True, idle=idle, keep=keep, told=tell, stop=stop))
+                    _follow(keeper, tell, lambda: keeper.run(follow=True, idle=idle, keep=keep, told=tell, stop=stop, pruning=tell.pruning))
             _seal(trail)
         finally:
             for one in trail.lists()[-1:]:
@@ -142,22 +145,25 @@ def _follow(keeper: TrailKeeper, tell: _Told, run: Callable[[], int]) -> None:
 
 
 class _Told:
-    """Says how far the trail is and seals what was archived, once a minute, and when a new list begins; and why it waits, once."""
+    """Says how far the trail is and seals what was archived, once a minute, and when a new list begins; and why it waits, once a minute."""
 
     def __init__(self, trail: Trail) -> None:
         self._trail = trail
         self._run, self._last = 0, 0.0
-        self._wait = ""
+        self._waits, self._repeats = Backoff(0.25, LONGEST), Repeats(lambda _, text: click.echo(f"pagelogctl: {text}", err=True))
 
     def wait(self, text: str) -> None:
-        """Waits a second before the next try."""
-        if text != self._wait:
-            click.echo(f"pagelogctl: {text}", err=True)
-        self._wait = text
-        time.sleep(1)
+        """Says why, once a minute, and waits before the next try."""
+        self._repeats.say("", text)
+        time.sleep(self._waits.next())
+
+    def pruning(self, before: int) -> None:
+        """Says which lines go, before they do. It does not ask: --keep says so each time, also where nobody is at a terminal."""
+        for one, last in self._trail.older(before):
+            click.echo(f"pagelogctl: deletes lines {one.pruned + 1} to {last} of list {one.run}, seen before {in_both_zones(_time(before))}", err=True)
 
     def __call__(self, one: TrailList) -> None:
-        self._wait = ""
+        self._waits.reset()
         if one.run != self._run or time.monotonic() - self._last >= 60:
             _seal(self._trail)
             _say_recorded(one)
@@ -245,7 +251,7 @@ def _times(since: str | None, until: str | None) -> tuple[int | None, int | None
         first = moment(since, None, now) if since else None
         last = moment(until, first, now) if until else None
     except ValueError as error:
-        raise click.UsageError(f"a time is as 14:05, 14:05:30 or 2026-11-28T14:05: {error}")
+        raise click.UsageError(f"a time is as {FORMS}: {error}")
     return (micros(first) if first else None), (micros(last) if last else None)
 
 

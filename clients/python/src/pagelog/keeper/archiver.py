@@ -3,20 +3,24 @@
 from __future__ import annotations
 
 import asyncio
+import time
 from contextlib import asynccontextmanager
 from typing import TYPE_CHECKING, AsyncIterator, Callable, Literal, Sequence
 
 from pagelog.errors import AuditListFull, PagelogError, TurnsSpent
 from pagelog.keeper.committer import Committer, Fenced
-from pagelog.keeper.quick_way import End, QuickWay, QuickWays
+from pagelog.keeper.quick_way import End, QuickPool, QuickWay
 from pagelog.keeper.referee import digest
 from pagelog.keeper.rows import Batch, Kept, Lines, Row
 from pagelog.keeper.served import Served
 from pagelog.keeper.waits import Waits
+from pagelog.repeating import Backoff
 
 if TYPE_CHECKING:
     from pagelog.keeper.recorder import Recorder
 
+_LONGEST = 5.0
+"""Seconds after which it is tried again in any case: PostgreSQL may have room again."""
 FEW = 8
 """Of a service that is known to have more than so many new blocks, a thread pulls a thousand at once."""
 
@@ -29,7 +33,7 @@ class Archiver:
 
     def __init__(
         self, row: Row, served: Served, waits: Waits, committer: Committer, say: Callable[[str, str], None], changed: Callable[[], None],
-        ways: QuickWays | None = None,
+        ways: QuickPool | None = None,
     ) -> None:  # fmt: skip
         self._row, self._served, self._waits, self._committer = row, served, waits, committer
         self._say, self._changed = say, changed
@@ -40,7 +44,11 @@ class Archiver:
         self._way: QuickWay | None = None
         self._is_asked = False
         """Whether somebody waited for the last batch."""
-        self._wait = 0.05
+        self._pauses, self._not_before = Backoff(0.05, _LONGEST), 0.0
+        """How long it waits after a pull that failed, or a batch that was refused, and until when."""
+        self._refused: tuple[int, Sequence[bytes]] = 0, ()
+        """What was pulled behind a position, and not kept: it is tried again, and the service is asked for nothing."""
+        self._was_full = served.is_full
         self.recorder: Recorder | None = None
         """Who keeps the lines of its audit list, if they are kept."""
         self.is_over = False
@@ -96,6 +104,8 @@ class Archiver:
         self.ring()
         while True:
             await self._doorbell.wait()
+            if (left := self._not_before - time.monotonic()) > 0:
+                await asyncio.sleep(left)  # whoever rings meanwhile
             async with self.turn:
                 self._doorbell.clear()
                 if not await self.archived() or not await self._quickly():
@@ -118,15 +128,26 @@ class Archiver:
             return False
         except PagelogError as error:
             self._say(self._row.name, f"a pull failed: {error}")
-            await asyncio.sleep(self._wait)
-            self._wait = min(1.0, 2 * self._wait)
-            self.ring()
+            self._see_memory()
+            self._pause()
             return True
-        self._wait = 0.05
+        self._see_memory()
         if not batch.blocks:
+            self._pauses.reset()
             self._waits.tell_above(waited, served.generation, served.reached)
             return True
         return await self._kept(batch)
+
+    def _pause(self) -> None:
+        """Tries again, and not at once."""
+        self._not_before = time.monotonic() + self._pauses.next()
+        self.ring()
+
+    def _see_memory(self) -> None:
+        """A service that had no memory for a pull is followed by another, as where it had none for a writer."""
+        if self._served.is_full and not self._was_full:
+            self._was_full = True
+            self._changed()
 
     async def rest(self, end: int, recorder: Recorder | None) -> Batch | None:
         """What is not archived of a log that ends there; None where that is much, or cannot be pulled. Both turns are the caller's."""
@@ -139,6 +160,9 @@ class Archiver:
 
     async def _next_batch(self, recorder: Recorder | None) -> Batch:
         served = self._served
+        position, refused = self._refused
+        if refused and position == served.reached:
+            return await self._batch_of(refused, recorder)
         blocks = None if served.hard > served.reached + FEW else await served.pulled_at_once(served.reached)
         if blocks is None:
             blocks = await asyncio.to_thread(served.pulled, served.reached)
@@ -156,7 +180,14 @@ class Archiver:
             kept = await self._told(batch)
         except Fenced:
             return False  # the next look shows by whom
-        return await self._entered(kept, (batch.new, batch.chain))
+        goes_on = await self._entered(kept, (batch.new, batch.chain))
+        if goes_on and served.reached == batch.old:
+            self._refused, self._is_asked = (batch.old, batch.blocks), False
+            self._pause()
+        else:
+            self._refused = 0, ()
+            self._pauses.reset()
+        return goes_on
 
     async def _entered(self, kept: Kept, expected: tuple[int, bytes]) -> bool:
         """Takes what is archived of the run, which may be what was expected. False where the archive has something else."""
@@ -169,8 +200,8 @@ class Archiver:
             self.ring()
             return True  # the next pull shows why
         if not has:
-            self._say(self._row.name, f"the archive went back, to position {kept.archived}: nothing becomes durable, and the service is kept")
-            self.is_stuck = served.went_back = True
+            self._say(self._row.name, f"the archive went back, to position {kept.archived}, and has other blocks there: the service is set aside")
+            self.is_stuck = served.went_back = served.is_apart = True
             return False
         if kept.archived < served.reached:
             self._say(self._row.name, f"the archive went back, to position {kept.archived}: what the service has after it is archived again")
@@ -211,6 +242,10 @@ class Archiver:
         except Fenced:
             return False
         return await self._entered(kept, way.last)
+
+    def leave_way(self) -> None:
+        """What is asked is to be answered here from now on: by a way that knows more."""
+        self._end_way()
 
     def _end_way(self) -> None:
         """Somebody else wants the turn."""

@@ -1,15 +1,31 @@
-"""Services that were set aside: each may be the only copy of what PostgreSQL has lost, and goes on, also without a keeper."""
+"""Services of which PostgreSQL has lost something. What was set aside goes on, also without a keeper; each may be the only copy."""
 
 from __future__ import annotations
 
+from dataclasses import dataclass
 from pathlib import Path
-from typing import Any
+from typing import Any, Iterable
 
 from pagelog.keeper.rows import Look
-from pagelog.keeper.run import Facts, is_running, kept_in
+from pagelog.keeper.run import Facts, Seen, is_running, kept_in, seen_of
 
 ASIDE = "set aside"
 """Under which a keeper's report has them; no name of a database has a space."""
+
+
+@dataclass(frozen=True)
+class Aside:
+    """One of them. `seen` is what PostgreSQL has had of its run, and `is_kept` whether it was set aside: else its keeper has it still."""
+
+    facts: Facts
+    seen: Seen
+    is_kept: bool = True
+
+    def report(self) -> dict[str, Any]:
+        """As a keeper's report has it."""
+        facts = self.facts
+        return {"name": facts.name, "run": facts.run, "address": facts.address, "pid": facts.pid, "shift": facts.shift, "images": facts.images,
+                "had": self.seen.archived, "kept": self.is_kept}  # fmt: skip
 
 
 class Asides:
@@ -27,12 +43,14 @@ class Asides:
         """Another one."""
         self._facts.append(facts)
 
-    def report(self) -> dict[str, list[dict[str, Any]]]:
-        """What the keeper says of those that still run."""
+    def __len__(self) -> int:
+        return len(self._facts)
+
+    def report(self, others: Iterable[Aside] = ()) -> dict[str, list[dict[str, Any]]]:
+        """What the keeper says of those that still run, and of `others`, which it has not set aside."""
         self._facts = [facts for facts in self._facts if is_running(facts)]
-        found = [{"name": each.name, "run": each.run, "address": each.address, "pid": each.pid, "shift": each.shift, "images": each.images}
-                 for each in self._facts]  # fmt: skip
-        return {ASIDE: found} if found else {}
+        found = [*(Aside(facts, seen_of(self._folder, facts)) for facts in self._facts), *others]
+        return {ASIDE: [each.report() for each in found]} if found else {}
 
 
 def asides_of(look: Look) -> list[dict[str, Any]]:

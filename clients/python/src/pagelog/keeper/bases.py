@@ -4,7 +4,7 @@ from __future__ import annotations
 
 import hashlib
 import zlib
-from contextlib import contextmanager
+from contextlib import AbstractContextManager, contextmanager
 from dataclasses import dataclass, field
 from typing import Iterable, Iterator, Sequence
 
@@ -52,11 +52,10 @@ NOTHING = Base(0, b"", b"", 0)
 
 
 @contextmanager
-def snapshot(referee: Referee) -> Iterator[None]:
-    """All that is read within it is of one moment: pruning goes on beside it."""
+def _begun(referee: Referee, begin: str) -> Iterator[None]:
     connection = referee._connected()
     try:
-        connection.execute("BEGIN ISOLATION LEVEL REPEATABLE READ READ ONLY")
+        connection.execute(begin)
         yield
         connection.execute("COMMIT")
     except psycopg.Error as error:
@@ -64,6 +63,16 @@ def snapshot(referee: Referee) -> Iterator[None]:
     finally:
         if connection.info.transaction_status != TransactionStatus.IDLE:
             referee.close()
+
+
+def snapshot(referee: Referee) -> AbstractContextManager[None]:
+    """All that is read within it is of one moment: pruning goes on beside it."""
+    return _begun(referee, "BEGIN ISOLATION LEVEL REPEATABLE READ READ ONLY")
+
+
+def transaction(referee: Referee) -> AbstractContextManager[None]:
+    """All that is asked within it is committed as one, or nothing where it raises."""
+    return _begun(referee, "BEGIN")
 
 
 class Bases:
@@ -156,6 +165,15 @@ class Bases:
                           "(SELECT 1 FROM pagelog_base WHERE log = %s AND base >= %s) RETURNING base",
                           (self._log, position, chain, heads.digest(), pages, self._log, position, self._log, position))  # fmt: skip
         return Base(position, chain, heads.digest(), pages)
+
+    def keep_all(self, position: int, images: Sequence[Image], chain: bytes) -> Base:
+        """Keeps a base of these images and no others, whatever older ones have."""
+        ranges = {image.range for image in images}
+        older = self._referee._ask("SELECT DISTINCT range FROM pagelog_image WHERE log = %s", (self._log,))
+        empty = [Image(range, 0, b"") for (range,) in older if range not in ranges]
+        self.keep_images(position, sorted([*images, *empty], key=lambda image: image.range))
+        self._referee._ask("DELETE FROM pagelog_base WHERE log = %s AND base >= %s RETURNING base", (self._log, position))
+        return self.keep_base(position, chain)
 
     # Pruning.
 

@@ -7,14 +7,28 @@ from dataclasses import replace
 from typing import TYPE_CHECKING
 
 from pagelog.errors import PagelogError
+from pagelog.keeper.bases import Bases, transaction
+from pagelog.keeper.images import Replay
 from pagelog.keeper.machine import Kind, Stillness
-from pagelog.keeper.referee import PIECE, Away, Doubt, Refused
-from pagelog.keeper.rows import Row, Where
+from pagelog.keeper.referee import PIECE, Away, Doubt, Referee, Refused
+from pagelog.keeper.rows import Kept, Row, Where
 from pagelog.keeper.run import Run, new_run
 from pagelog.keeper.served import Served
 
 if TYPE_CHECKING:
     from pagelog.keeper.database import Database
+
+
+def continued_from_images(referee: Referee, served: Served, row: Row, beat: int | None, least: int, start: tuple[int, bytes]) -> Kept | None:
+    """As `continue_run` of the referee, with the images that the service began with as a base: all of it, or nothing."""
+    replay = Replay(lambda _: None)
+    for blocks in served.began_with():
+        replay.apply(blocks)
+    with transaction(referee):
+        kept = referee.continue_run(row, served.run, beat, served.where, least, start)
+        if kept is not None:
+            Bases(referee, row.id).keep_all(start[0], list(replay.images()), start[1])
+    return kept
 
 
 class Beginning:
@@ -43,14 +57,15 @@ class Beginning:
             raise
         except PagelogError as error:
             return await database.standing.give_up(served, error)
-        kept = await self._shared.ask(self._shared.referee.take, row, served.run, beat, where)
+        kept = await self._shared.ask(self._shared.referee.take, row, served.run, beat, where, self._shared.numbers.least(row))
         if kept is None:
             return False
+        self._shared.numbers.note(row.identity, kept.generation)
         served.kind, served.generation, database.served = Kind.HOLDER, kept.generation, served
         served.is_after_release = row.run is None and row.generation not in (0, database.let_go)
         database.row = replace(row, generation=kept.generation, run=served.run, holder=self._shared.settings.name, address=where.address,
                            archived=kept.archived, base=kept.archived, shift=served.shift, images=served.images, chain=kept.chain,
-                           wanted=None)  # fmt: skip
+                           wanted=None, next_generation=kept.generation + 1)  # fmt: skip
         return True
 
     async def _ready(self, served: Served, row: Row) -> Where:
@@ -77,18 +92,21 @@ class Beginning:
                 await database.filled(served, row.base, row.chain)
                 await asyncio.to_thread(served.check, row.base, row.chain)
             await asyncio.to_thread(served.open)
+            served.note_place()
         except PagelogError as error:
             is_away = isinstance(error, (Away, Doubt))
             if is_away and not self._is_stuck(served):
                 raise  # it goes on from there
-            self._shared.say(row.name, f"it could not be filled: {error}")
+            self._shared.repeats.say(row.name, f"it could not be filled: {error}")
             served.is_broken = True
             if is_fresh or is_away:  # else it was a standby, and a fresh one may do better
                 database.has_failed()
             return True
         self._stuck_at = None
+        database.has_filled()
         if database.work.archiver is None:
             database.work.begin(database.row, served)  # first: whether the address is published may be in doubt
+        database.note_seen()  # before anybody writes there
         where = served.where
         if row.address is None and not await self._shared.ask(self._shared.referee.publish, row.id, served.run, where):
             return False
@@ -97,6 +115,44 @@ class Beginning:
         database.row = replace(database.row, address=where.address, shift=served.shift, images=served.images)
         self._shared.changed(row.name)
         return True
+
+    async def continue_run(self) -> bool:
+        """Makes this keeper the holder again with the service that is here, of which PostgreSQL has lost a part: that is archived again."""
+        database = self._database
+        served, row = database.own, database.row
+        beat = None if row.holder == self._shared.settings.name else database.beat  # its own rises with each look
+        is_before = (row.generation, row.run) == database.before
+        try:
+            start = await asyncio.to_thread(served.continues, row.archived, row.chain, is_before=is_before)
+        except PagelogError as error:
+            self._say(f"the service does not answer its keeper: {error}")
+            return False
+        served.is_apart = start is None
+        if start is None:
+            return True
+        least = max(served.generation + 1, self._shared.numbers.least(row))
+        kept = await self._continued(served, row, beat, least, start)
+        if kept is None:
+            return False  # the next look shows by whom
+        self._shared.numbers.note(row.identity, kept.generation)
+        database.work.stop()  # what was archived of it before is known no more
+        served.kind, served.generation, served.went_back, served.back_since = Kind.HOLDER, kept.generation, False, None
+        served.reached, served.chain = kept.archived, kept.chain
+        database.row = replace(row, generation=kept.generation, run=served.run, holder=self._shared.settings.name, address=served.where.address,
+                               archived=kept.archived, chain=kept.chain, base=kept.archived, shift=served.shift, images=served.images,
+                               wanted=None, succeed=False, next_generation=kept.generation + 1)  # fmt: skip
+        return await self.fill()
+
+    async def _continued(self, served: Served, row: Row, beat: int | None, least: int, start: tuple[int, bytes]) -> Kept | None:
+        """Where it starts behind what is archived, its images are kept with the statement, as the base from which the archive goes on."""
+        if start[0] == row.archived:
+            return await self._shared.ask(self._shared.referee.continue_run, row, served.run, beat, served.where, least, start)  # type: ignore[no-any-return]
+        settings = self._shared.settings
+        referee = Referee(settings.url, settings.name, self._shared.life, requires_standby=settings.require_standby)
+        try:
+            return await asyncio.to_thread(continued_from_images, referee, served, row, beat, least, start)
+        finally:
+            referee.close()
 
     def _is_stuck(self, served: Served) -> bool:
         """Whether PostgreSQL has refused it for a ttl what it is to be filled with, and nothing to the looks: while this keeper beats,
@@ -113,17 +169,21 @@ class Beginning:
         assert row.run is not None
         served, kept = await database.new_served(row.run), await self._shared.ask(self._shared.referee.kept, row.id, row.run)
         process = await asyncio.to_thread(Run.adopt, settings.program.folder, row.name, row.run)  # last: it opens a descriptor
+        shift, images = row.shift, row.images
         if process is not None and row.address is None:
-            await self._put_away(served, process)
-            process = None
+            if not await self._is_lost(served, process):
+                await self._put_away(served, process)
+                process = None
+            else:  # PostgreSQL has lost where it is, and where positions are there
+                shift, images, served.is_open = process.facts.shift, process.facts.images, True
         if process is None:
             database.let_go = row.generation
             await self._shared.ask(self._shared.referee.release, row.id, row.run)
             database.row = replace(row, run=None, holder=None, address=None)
             return True
         archived, chain = (row.archived, row.chain) if kept is None else (kept.archived, kept.chain)
-        served.adopt(process, archived, chain)
-        served.generation, served.shift, served.images = row.generation, row.shift, row.images
+        served.adopt(process, archived, chain, shift=shift, images=images)
+        served.generation = row.generation
         database.served = served
         database.watch(served)
         if kept is None:
@@ -137,13 +197,18 @@ class Beginning:
         database.work.begin(database.row, served)
         return True
 
-    async def _put_away(self, served: Served, process: Run) -> None:
-        """Ends a service that was filled in an earlier life; where clients have written to it, PostgreSQL has lost its address since."""
+    async def _is_lost(self, served: Served, process: Run) -> bool:
+        """Whether clients have been let into a service that PostgreSQL says nobody was told of: it went back."""
         served.serve(process)
         try:
-            served.went_back = await asyncio.to_thread(served.was_written)
+            return await asyncio.to_thread(served.was_written)
         except PagelogError as error:
             self._say(f"the service does not answer its keeper: {error}")
+            served.went_back = process.seen.generation > 0  # PostgreSQL had it: it may be the only copy
+            return False
+
+    async def _put_away(self, served: Served, process: Run) -> None:
+        """Ends a service that was filled in an earlier life, and that no client has written to."""
         self._database.watch(served)
         await self._database.ending.end_process(served)
 

@@ -3,15 +3,16 @@
 from __future__ import annotations
 
 import asyncio
-from contextlib import suppress
 from dataclasses import dataclass, field
 from functools import partial
 from typing import Callable, Sequence
 
 from pagelog.keeper.quick import SMALL
-from pagelog.keeper.referee import Away, Doubt, KeeperError, OneDisk, Refused
+from pagelog.keeper.referee import KeeperError, OneDisk
+from pagelog.keeper.refusal import line_of
 from pagelog.keeper.rows import Batch, Kept
 from pagelog.keeper.session import Session
+from pagelog.repeating import Backoff, Repeats
 
 MOST = 16 << 20
 """The most bytes of one statement, unless one batch alone has more."""
@@ -39,10 +40,10 @@ class Committer:
     """
 
     def __init__(self, session: Session, idle: float, say: Callable[[str], None] = _nothing, beside: Session | None = None) -> None:
-        """Without a batch for `idle` seconds the connection is closed. What PostgreSQL refuses is said, once. `beside` is connected in
+        """Without a batch for `idle` seconds the connection is closed. What PostgreSQL refuses is said, once a minute. `beside` is connected in
         any case, and keeps what is small while the connection is made, which may take longer than a whole switchover."""
         self._session, self._beside = session, beside
-        self._say, self._said = say, ""
+        self._repeats = Repeats(lambda _, sentence: say(sentence))
         self._idle = idle
         self._due: list[_Due] = []
         self._came = asyncio.Event()
@@ -63,8 +64,12 @@ class Committer:
         """Connects, so that the first batch of a database that is wanted here finds a connection with its statement prepared."""
         self._warming += 1
         try:
-            with suppress(Doubt, Refused, Away):
+            try:
                 await self._session.keep(())
+            except KeeperError:
+                pass  # the first batch shows it
+            except Exception as error:
+                await self._failed(error)
         finally:
             self._warming -= 1
         self._is_warm = True  # it is closed again if none comes
@@ -93,9 +98,8 @@ class Committer:
                 continue
             try:
                 kept = await self._keep([due.batch for due in batches])
-                self._said = ""
-            except (Doubt, Refused, Away) as error:
-                self._tell(error)
+            except Exception as error:  # also what nobody expected: it ends the connection, and nothing else
+                await self._failed(error)
                 kept = frozenset()
             for due in batches:
                 if due.batch.log in kept:
@@ -133,24 +137,25 @@ class Committer:
 
     async def look_up(self, log: int, run: str) -> Kept:
         """What is archived of a run, after a batch that is in doubt, or was not kept. Raises `Fenced`."""
-        wait = 0.05
+        waits = Backoff(0.05, 1.0)
         while True:
             try:
                 found = await self._session.ask(self._session.referee.kept, log, run)
-                self._said = ""
-            except (Doubt, Refused, Away) as error:
-                self._tell(error)
-                await asyncio.sleep(wait)
-                wait = min(1.0, 2 * wait)
+            except Exception as error:
+                await self._failed(error)
+                await asyncio.sleep(waits.next())
                 continue
             if found is None:
                 raise Fenced("the run holds its database no more")
             return found
 
-    def _tell(self, error: KeeperError) -> None:
-        if str(error) != self._said and not isinstance(error, OneDisk):  # which is said with the looks
-            self._say(f"nothing is archived: {error}")
-        self._said = str(error)
+    async def _failed(self, error: Exception) -> None:
+        """Says so. Of an error that is no answer of the referee's, a part of a statement may be left in the connection."""
+        sentence = str(error) if isinstance(error, KeeperError) else line_of(error)
+        if not isinstance(error, OneDisk):  # which is said with the looks
+            self._repeats.say("", f"nothing is archived: {sentence}")
+        if not isinstance(error, KeeperError):
+            await self._session.close()
 
     def _begin_look_up(self, due: _Due) -> None:
         looking = asyncio.create_task(self._look_up(due))

@@ -3,51 +3,73 @@
 from __future__ import annotations
 
 import asyncio
+from contextlib import suppress
 from dataclasses import replace
+from typing import Any, Mapping
 
 from pagelog.keeper.beginning import Beginning
 from pagelog.keeper.ending import Ending
 from pagelog.keeper.fates import Moves
-from pagelog.keeper.lines import Line
-from pagelog.keeper.machine import Action, Facts, Kind, Own, State, Stillness, decide, state_of, went_back
+from pagelog.keeper.fate import Of
+from pagelog.keeper.lines import Line, of_word
+from pagelog.keeper.machine import Action, Decision, Facts, Kind, Own, Rival, State, Stillness, decide, is_only_copy, state_of, went_back
 from pagelog.keeper.referee import Away, Doubt, Refused
 from pagelog.keeper.rows import Row, StandbyRow
+from pagelog.keeper.run import Seen, is_there
 from pagelog.keeper.served import Served, seconds
-from pagelog.keeper.shared import Shared
+from pagelog.keeper.shared import LONGEST_REST, Shared
 from pagelog.keeper.standing import Standing
 from pagelog.keeper.succession import Succession
 from pagelog.keeper.switch import Switch
 from pagelog.keeper.waits import Waits
 from pagelog.keeper.work import Work
+from pagelog.repeating import Backoff
 
 _BESIDE = 0.05
 """For at most so many seconds a service goes on beside the next one, until that has a new block: to free much memory takes a processor,
 and meanwhile it would let a writer wait that asks it still."""
 
+_MOST_ENDS = 64
+"""How many runs that were ended are known."""
+
 
 class Database:
     """The facts of one database, and the work on it: one action at a time, and beside it the archiving."""
 
-    def __init__(self, shared: Shared, row: Row) -> None:
+    def __init__(self, shared: Shared, row: Row, served: Served | None = None) -> None:
         self.shared = shared
         self.row = row
         self.is_known = True
         """Whether the referee has it, as far as a look has shown."""
-        self.served: Served | None = None
+        self.served = served
         self.doing = Action.NOTHING
-        self.why = self.decision = ""
-        """The reason of the last decision, and all of it, as it is logged and shown."""
+        self.decision: Decision | None = None
+        """The last one."""
         self.waits = Waits(row.name)
         self.beat: int | None = None
         """That of its holder."""
         self.is_noted = False
         """Whether a standby of this keeper is noted."""
+        self.after: tuple[int, str] | None = None
+        """A generation that has followed here directly on another, and the run of that."""
+        self._ends: dict[str, int] = {}
+        """The last runs that were ended here, and the positions at which: who asks while PostgreSQL is away is told so all the same."""
+        self.before: tuple[int, str] | None = None
+        """The generation, and its run, from which the one that is held here came by a succession."""
         self.let_go = -1
         """The generation that this keeper ended last."""
         self.still_for = 0.0
         """For how many seconds the row and the beat have not changed."""
         self._others: tuple[StandbyRow, ...] = ()
         self._failed_at, self._switched_at, self._confirmed = float("-inf"), 0.0, 0
+        self._seen_back_at = float("-inf")
+        """When a look showed less than one before."""
+        self._reports: Mapping[str, Mapping[str, Any]] = {}
+        """What the other keepers that are alive have last said of it."""
+        self._noted, self._noted_at = Seen(), float("-inf")
+        self._known: tuple[str, str | None, bool] | None = None
+        """Whether PostgreSQL knew this run, when it named that one."""
+        self._rest, self._rests = shared.settings.ttl, Backoff(shared.settings.ttl, max(LONGEST_REST, shared.settings.ttl))
         self._still = Stillness(shared.settings.ttl)
         self._acting: asyncio.Task[None] | None = None
         self._news = False
@@ -55,14 +77,23 @@ class Database:
         self.moves = Moves()
         self.succession = Succession(self)
         self.beginning, self.standing, self.ending = Beginning(self), Standing(self), Ending(self)
+        if served is not None:
+            self.watch(served)
 
     # Facts.
 
-    def see(self, row: Row, beat: int | None, others: tuple[StandbyRow, ...], *, is_noted: bool, began: float) -> None:
-        """What a look has shown that began then. `beat` is the holder's, and `is_noted` is of a standby of this keeper."""
+    def see(self, row: Row, beat: int | None, others: tuple[StandbyRow, ...], *, is_noted: bool, began: float,
+            reports: Mapping[str, Mapping[str, Any]] = {}) -> None:  # fmt: skip
+        """What a look has shown that began then. `beat` is the holder's, and `is_noted` is of a standby of this keeper. `reports` are
+        what the other keepers that are alive say of it."""
         if began <= self._switched_at:
             return  # over another connection a switch was committed meanwhile, which it may not have seen
+        if row.generation < self.row.generation:
+            self._ends.clear()  # PostgreSQL went back
+        if (row.generation, row.archived) < (self.row.generation, self._confirmed):
+            self._seen_back_at = seconds()
         self.row, self.beat, self._others, self.is_noted, self.is_known = row, beat, others, is_noted, True
+        self._reports = reports
         self._confirmed = row.archived
         if self.served is not None and not is_noted:
             self.served.is_noted = False  # PostgreSQL has lost that
@@ -70,6 +101,10 @@ class Database:
         self.beginning.see(seconds())
         served, archiver = self._seen_service(), self.work.archiver
         self._see_whether_it_went_back()
+        if self.served is not None and 0 < self.served.generation <= row.doubted and self.served.is_told_by_number:
+            self.served.is_told_by_number = False
+            self.work.leave_quick_way()
+            self.shared.say(row.name, f"number {row.doubted} of its generations was given twice: clients of version 1 are told nothing of it")
         is_idle = self.doing is Action.NOTHING  # else what is done now has the archiver, and its turn
         if served is not None and archiver is not None and archiver.may_begin_again and self.holds and served.is_alive and is_idle:
             self.work.begin(row, served)  # it was told that it is fenced, and is not
@@ -77,17 +112,19 @@ class Database:
             self.succession.tend()
         if served is not None and served.kind is Kind.STANDBY and row.wanted in ("*", self.shared.settings.name):
             self.shared.spawn(self.shared.committer.warm(), row.name)
+        self.note_seen()
         self.kick()
 
-    def hear(self, generation: int, archived: int, chain: bytes) -> asyncio.Task[None] | None:
-        """Its holder has said that it released this generation at this position. It is tried at once: a take has its conditions.
-        Returns the task."""
-        if not self.is_known or self.holds or self.row.run is None or self.row.generation != generation:
-            return None
-        self.row = replace(self.row, run=None, holder=None, address=None, archived=archived, chain=chain)
-        self.beat, self.still_for = None, 0.0
-        self.kick()
-        return self._acting
+    def note_seen(self) -> None:
+        """Notes what PostgreSQL has of the run that is held here, at most once in a ttl: a later life knows by that whether it went back."""
+        served = self.served
+        if served is None or served.process is None or not self.holds:
+            return
+        seen = Seen(served.generation, self.row.archived)
+        if seen != self._noted and (seen.generation != self._noted.generation or seconds() - self._noted_at >= self.shared.settings.ttl):
+            self._noted, self._noted_at = seen, seconds()
+            with suppress(OSError):  # what a full disk takes away is that a later life may not see that PostgreSQL went back
+                served.process.note_seen(seen)
 
     def _seen_service(self) -> Served | None:
         if self.served is None or self.served.process is None:
@@ -98,8 +135,9 @@ class Database:
     def lose(self) -> None:
         """A look has not shown it any more: PostgreSQL went back. Who waits is told to ask where it is."""
         self.is_known = False
+        self._ends.clear()
         for line in self.waits.taken():
-            line.say("elsewhere", self.row.name, self.row.generation)
+            line.say("elsewhere", self.row.name, self.row.generation, *of_word(self.waits.of))
         self._seen_service()
         self._see_whether_it_went_back()
         self.kick()
@@ -107,29 +145,74 @@ class Database:
     def _see_whether_it_went_back(self) -> None:
         """Once PostgreSQL was seen to lack something of a run, that stays so until it holds the database again, or all of it is archived."""
         own, served, row, archiver = self._own(), self.served, self.row, self.work.archiver
-        if own is None or served is None or (archiver is not None and archiver.is_stuck):
+        if own is None or served is None:
             return
-        if self.is_known and (row.run == own.run or (row.archived, row.chain) == (served.reached, served.chain)):
-            served.went_back = False
-        elif went_back(row if self.is_known else None, own):
-            served.went_back = True
+        if archiver is None or not archiver.is_stuck:
+            if self.is_known and (row.run == own.run or (row.archived, row.chain) == (served.reached, served.chain)):
+                served.went_back = False
+            elif went_back(row if self.is_known else None, own):
+                served.went_back = True
+        served.back_since = (served.back_since or seconds()) if is_only_copy(self.facts()) else None
 
     def _own(self) -> Own | None:
         settings, served = self.shared.settings, self.served
         if served is None:
             return None
         share = served.share(settings.program.audit, settings.memory)
+        is_known = self._known[2] if self._known is not None and self._known[:2] == (served.run, self.row.run) else None
+        back_for = 0.0 if served.back_since is None else seconds() - served.back_since
         return Own(served.run, served.kind, served.generation, served.reached, served.is_alive, served.silent, share, served.went_back,
-                   served.is_open, served.was_closed, served.is_full)  # fmt: skip
+                   served.is_open, served.was_closed, served.is_full and self._may_be_asked_for_more, is_known, served.is_apart,
+                   back_for)  # fmt: skip
+
+    @property
+    def _may_be_asked_for_more(self) -> bool:
+        """Whether a writer without memory may have a succession now: anybody may say that he is one."""
+        return seconds() - self._switched_at >= self.shared.settings.ttl
 
     def facts(self) -> Facts:
         """All that is known, for a decision."""
         settings, own = self.shared.settings, self._own()
         # Also where another keeper has failed at a later one meanwhile: two that fail would go on by turns without a rest.
-        failed = self.row.generation if seconds() - self._failed_at < settings.ttl else -1
+        failed = self.row.generation if seconds() - self._failed_at < self._rest else -1
         return Facts(settings.name, settings.ttl, self.row if self.is_known else None, own, self.still_for, self._others,
-                     self.is_noted, settings.standby, self.shared.ending, self.let_go, failed, settings.succeed or 1.0,
-                     self.succession.stage)  # fmt: skip
+                     self.is_noted, settings.standby, self.shared.ending, self.let_go, failed, self._rest, settings.succeed or 1.0,
+                     self.succession.stage, self._rival(), self._further(), self._settles())  # fmt: skip
+
+    # What others have, where PostgreSQL went back.
+
+    def _rival(self) -> Rival:
+        """What is known of the service of the run that PostgreSQL names, which is not the one that is here."""
+        row, settings = self.row, self.shared.settings
+        if row.run is None or self.holds:
+            return Rival.NOT_KNOWN
+        if row.holder == settings.name:
+            return Rival.LIVES if is_there(settings.program.folder, row.name, row.run) else Rival.GONE
+        return Rival.LIVES if self._reports.get(row.holder or "", {}).get("run") == row.run else Rival.NOT_KNOWN
+
+    def _further(self) -> str | None:
+        """A keeper that has more of what PostgreSQL has lost than this one; of two that have as much it is the one whose name is first."""
+        served, name = self.served, self.shared.settings.name
+        mine = (self.row.archived, "") if served is None else (max(served.hard, served.reached), name)
+        found = [(int(report["back"]), keeper) for keeper, report in self._reports.items() if report.get("back") is not None]
+        most = min(found, key=lambda each: (-each[0], each[1]), default=None)
+        return most[1] if most is not None and (-most[0], most[1]) < (-mine[0], mine[1]) else None
+
+    def _settles(self) -> bool:
+        """Whether PostgreSQL went back just now, so that another keeper that is alive may have more than this one, and say so."""
+        since = max(self._seen_back_at, (self.served.back_since if self.served is not None else None) or float("-inf"))
+        return bool(self._reports) and seconds() - since < self.shared.settings.ttl
+
+    @property
+    def back(self) -> int | None:
+        """The end of the log of a run that went back with nothing: of a service that is here and may be the only copy of something."""
+        return self.served.hard if self.served is not None and self.served.back_since is not None else None
+
+    @property
+    def may_be_only_copy(self) -> bool:
+        """Whether its service may have what PostgreSQL has lost."""
+        own = self._own()
+        return own is not None and own.alive and (own.went_back or went_back(self.row if self.is_known else None, own))
 
     @property
     def state(self) -> State:
@@ -188,18 +271,29 @@ class Database:
         while goes_on or self._news:
             self._news = False
             decision = decide(self.facts())
-            if str(decision) != self.decision:
-                self.why, self.decision = decision.why, str(decision)
-                self.shared.say(self.row.name, self.decision)
+            self._say(decision)
             self.doing = decision.action
             try:
                 goes_on = await self._do(decision.action)
             except (Away, Doubt, Refused) as error:
-                self.shared.say(self.row.name, f"{decision.action.value}: {error}")
+                self.shared.repeats.say(self.row.name, f"{decision.action.value}: {error}")
                 goes_on = False  # the next look shows what became of it
             finally:
                 self.doing = Action.NOTHING
                 self.moves.tell()
+
+    def _say(self, decision: Decision) -> None:
+        """Where action or reason is another: else what changes, as a position, is said once a minute."""
+        before, self.decision = self.decision, decision
+        if not decision.is_as(before):
+            self.shared.repeats.say_now(self.row.name, str(decision))
+        elif decision != before:
+            self.shared.repeats.say(self.row.name, str(decision))
+
+    @property
+    def why(self) -> str:
+        """The reason of the last decision."""
+        return "" if self.decision is None else self.decision.sentence
 
     async def _do(self, action: Action) -> bool:
         """Does it. Returns whether there are new facts to decide from."""
@@ -227,12 +321,25 @@ class Database:
                 return False
             case Action.SUCCEED:
                 return self.work.archiver is not None and await self.succession.switch(self.work.archiver)
+            case Action.LOOK_UP:
+                return await self._look_up()
+            case Action.CONTINUE:
+                return await self.beginning.continue_run()
             case Action.UNWISH:
                 me = self.shared.settings.name
                 await self.shared.ask(lambda: self.shared.referee.wish(self.row.name, None, instead_of=me))
                 return False
             case _:
                 return await self.standing.follow()
+
+    async def _look_up(self) -> bool:
+        """Asks PostgreSQL whether it knows the run that is here, by a statement that writes."""
+        run, named = self.own.run, self.row.run
+        known = await self.shared.ask(self.shared.referee.knows, self.row.id, run)
+        if known is not None and self.served is not None and self.served.run == run:
+            self._known = run, named, bool(known)
+            self._see_whether_it_went_back()
+        return known is not None
 
     async def new_served(self, run: str) -> Served:
         """What is to be the service of this run."""
@@ -245,7 +352,11 @@ class Database:
 
     def has_failed(self) -> None:
         """No fresh service of it can be filled here for now."""
-        self._failed_at = seconds()
+        self._failed_at, self._rest = seconds(), self._rests.next()
+
+    def has_filled(self) -> None:
+        """One could be."""
+        self._rests.reset()
 
     # What goes on.
 
@@ -256,13 +367,19 @@ class Database:
         self.work.stop()
         successor.kind, successor.generation, self.served = Kind.HOLDER, generation, successor
         self.row = replace(self.row, generation=generation, run=successor.run, address=switch.address, base=switch.end,
-                           archived=switch.end, shift=switch.shift, images=switch.images, chain=switch.chain, succeed=False)  # fmt: skip
+                           archived=switch.end, shift=switch.shift, images=switch.images, chain=switch.chain, succeed=False,
+                           next_generation=max(self.row.next_generation, generation + 1))  # fmt: skip
+        self.after, self.before = (generation, before.run), (before.generation, before.run)
+        self.has_ended(before.run, switch.end)
+        self.shared.numbers.note(self.row.identity, generation)  # before a look shows it: a server that fails over may forget it
         self.watch(successor)
+        successor.note_place()
+        self.note_seen()
         self.work.begin(self.row, successor, records=False)
         self.moves.tell()
         self.shared.changed(name)
         for line in self.waits.taken():
-            line.say("over", name, before.generation, switch.end)
+            line.say("over", name, before.generation, switch.end, *of_word(self.of(before)))
         try:
             await self.work.recorded(recorder)
             await self.work.catch_up(switch.end + 1, _BESIDE)
@@ -291,14 +408,30 @@ class Database:
 
     # Who waits.
 
-    def wait(self, line: Line, generation: int, position: int) -> None:
-        """Answers `durable`, at once or later."""
+    def has_ended(self, run: str, end: int) -> None:
+        """A statement that has returned has ended this run at this position."""
+        self._ends[run] = end
+        while len(self._ends) > _MOST_ENDS:
+            del self._ends[next(iter(self._ends))]
+
+    def of(self, served: Served) -> Of:
+        """The word of this run."""
+        return Of(self.row.identity, served.run)
+
+    def wait(self, line: Line, generation: int, position: int, of: Of | None = None) -> None:
+        """Answers `durable`, at once or later. An older client names no run: a number that two may have had tells it nothing."""
         served = self.served
-        if served is None or not self.holds or generation != served.generation:
-            self.shared.spawn(self.shared.tell_fate(line, self.row.name, generation), self.row.name)
-        elif position <= served.reached:
-            line.say("durable", self.row.name, generation, served.reached)
+        is_of_another = of is not None and served is not None and of != self.of(served)
+        if served is None or not self.holds or generation != served.generation or is_of_another or (of is None and not served.is_told_by_number):
+            if of is not None and of.run in self._ends:
+                line.say("over", self.row.name, generation, self._ends[of.run], *of_word(of))
+            else:
+                self.shared.spawn(self.shared.tell_fate(line, self.row.name, generation, of), self.row.name)
+            return
+        self.waits.of = self.of(served)
+        if position <= served.reached:
+            line.say("durable", self.row.name, generation, served.reached, *of_word(of))
         elif self.waits.add(line, position):
             self.work.ring()
         else:
-            line.say("elsewhere", self.row.name, generation)
+            line.say("elsewhere", self.row.name, generation, *of_word(of))

@@ -8,8 +8,9 @@ from typing import TYPE_CHECKING
 
 from pagelog.errors import PagelogError
 from pagelog.keeper.archiver import Archiver, turn_of
+from pagelog.keeper.lines import of_word
 from pagelog.keeper.machine import Action, Kind
-from pagelog.keeper.run import Run
+from pagelog.keeper.run import Run, Seen
 from pagelog.keeper.served import Served
 from pagelog.keeper.switch import rehearse_release, release
 
@@ -34,7 +35,7 @@ class Ending:
             await database.succession.give_up()
             end = await asyncio.to_thread(served.close)
         except PagelogError as error:
-            self._say(f"its table could not be closed: {error}")
+            self._shared.repeats.say(database.row.name, f"its table could not be closed: {error}")
             return False
         archiver = database.work.archiver
         if archiver is None:
@@ -75,10 +76,11 @@ class Ending:
         database = self._database
         served, row = database.own, database.row
         database.served = None
+        database.has_ended(served.run, archived)
         database.row = replace(row, run=None, holder=None, address=None, archived=archived)
         database.still_for = 0.0  # that was of the row before
         for line in database.waits.taken():
-            line.say("over", row.name, row.generation, archived)
+            line.say("over", row.name, row.generation, archived, *of_word(database.of(served)))
         if database.doing is Action.CLOSE:
             await database.work.recorded(recorder)
         await self._ended(served)
@@ -96,7 +98,8 @@ class Ending:
         await database.succession.give_up()
         await self._ended(served)
         for line in database.waits.taken():
-            self._shared.spawn(self._shared.tell_fate(line, database.row.name, served.generation), database.row.name)
+            of = database.of(served) if line.version > 1 else None
+            self._shared.spawn(self._shared.tell_fate(line, database.row.name, served.generation, of), database.row.name)
         return await database.standing.stand_down() if served.kind is Kind.STANDBY else True
 
     async def _ended(self, served: Served) -> None:
@@ -117,16 +120,25 @@ class Ending:
             return
         self._say(f"the service of run {served.run}, process {process.facts.pid} at {process.address}, may be the only copy of its log: "
                   "it is set aside")  # fmt: skip
+        await self._close(served)
         while not await self._is_set_aside(process, served):
             await asyncio.sleep(self._shared.settings.ttl)
         self._shared.asides.add(process.facts)
 
+    async def _close(self, served: Served) -> None:
+        """Nobody writes any more to what is set aside: who writes is to find the run that holds the database."""
+        try:
+            await asyncio.to_thread(served.close)
+        except PagelogError as error:
+            self._say(f"the service that is set aside could not be closed, so that clients may still write to it: {error}")
+
     async def _is_set_aside(self, process: Run, served: Served) -> bool:
         """Whether that is noted: what is not noted is ended by the next life of this keeper."""
         try:
+            await asyncio.to_thread(process.note_seen, Seen(served.generation, max(served.reached, process.seen.archived)))
             await asyncio.to_thread(process.set_aside, served.shift, served.images)
         except OSError as error:
-            self._say(f"it could not be noted that it is set aside: {error}")
+            self._shared.repeats.say(self._database.row.name, f"it could not be noted that it is set aside: {error}")
             return False
         return True
 

@@ -6,13 +6,17 @@ import asyncio
 from typing import Any, Callable
 
 from pagelog.keeper import statements
-from pagelog.keeper.lines import Line
+from pagelog.keeper.fate import Fate, Of
+from pagelog.keeper.lines import Key, Line, of_word
+from pagelog.keeper.quota import Quota
 from pagelog.keeper.referee import Away, Doubt, Referee, Refused
 from pagelog.keeper.session import Session
 
 
 _AT_ONCE, _MOST = 4, 10_000
 """How many questions of clients are asked at once, and how many may wait."""
+EACH_FATE, EACH_BLOCK = 100, 4
+"""How many of them one connection may have under way: what became of a generation, and which block the archive has."""
 
 
 class Moves:
@@ -37,44 +41,57 @@ class Moves:
 class Questions:
     """What clients ask PostgreSQL over the connection of the looks: a few at a time, since a beat that waited for many would stand still."""
 
-    def __init__(self, session: Session) -> None:
+    def __init__(self, session: Session, each: int = EACH_FATE) -> None:
+        """`each` is how many one connection may have under way."""
         self.referee = session.referee
-        self._session, self._turns, self._count = session, asyncio.Semaphore(_AT_ONCE), 0
+        self._session, self._turns, self._quota = session, asyncio.Semaphore(_AT_ONCE), Quota(each, _MOST)
 
-    async def ask(self, call: Callable[..., Any], *arguments: Any) -> Any:
-        """What the call returns or raises, which asks the referee. Raises `Away` where very many wait."""
-        if self._count >= _MOST:
-            raise Away(f"{_MOST} questions of clients wait for PostgreSQL")
-        self._count += 1
+    def __contains__(self, line: Line) -> bool:
+        """Whether anything is asked over this connection."""
+        return line in self._quota
+
+    async def ask(self, line: Line, call: Callable[..., Any], *arguments: Any) -> Any:
+        """What the call returns or raises, which asks the referee. Raises `Away` where very many wait, or many of this connection."""
+        if len(self._quota) >= _MOST or not self._quota.acquire(line):
+            raise Away("too many questions of clients wait for PostgreSQL")
         try:
             async with self._turns:
                 return await self._session.ask(call, *arguments)
         finally:
-            self._count -= 1
+            self._quota.release(line)
 
 
-async def tell_fate(questions: Questions, line: Line, name: str, generation: int) -> None:
+async def tell_fate(questions: Questions, line: Line, name: str, generation: int, of: Of | None = None) -> None:
     """What became of a generation that is not this keeper's: by a statement that writes, as its end is final."""
     try:
-        end = await questions.ask(questions.referee.fate, name, generation)
+        fate = await questions.ask(line, _fate, questions.referee, name, generation, of)
     except (Away, Doubt, Refused):
-        end = None
-    if end is None:
-        line.say("elsewhere", name, generation)
+        fate = Fate()
+    said = of_word(of)
+    if fate.loss is not None:
+        line.say("lost", name, generation, fate.loss.value, Key(f"by={fate.by}"), *said)
+    elif fate.end is None:
+        line.say("elsewhere", name, generation, *said)
     else:
-        line.say("over", name, generation, end)
+        line.say("over", name, generation, fate.end, *said)
 
 
-async def tell_block(questions: Questions, line: Line, name: str, position: int) -> None:
-    """Says which block the archive has at a position; `elsewhere` where PostgreSQL does not answer."""
+def _fate(referee: Referee, name: str, generation: int, of: Of | None) -> Fate:
+    """An older client says a number alone, which is enough where one run has had it."""
+    return Fate(end=referee.fate(name, generation)) if of is None else referee.fate_of(name, generation, of)
+
+
+async def tell_block(questions: Questions, line: Line, name: str, position: int, of: Of | None = None) -> None:
+    """Says which block the archive has at a position; `elsewhere` where PostgreSQL does not answer, or the client asks too much at once."""
     try:
-        found = await questions.ask(_block, questions.referee, name, position)
+        found = await questions.ask(line, _block, questions.referee, name, position, of)
     except (Away, Doubt, Refused):
-        return line.say("elsewhere", name, position)
-    line.say("block", name, position, found or "-")
+        return line.say("elsewhere", name, position, *of_word(of))
+    line.say("block", name, position, found or "-", *of_word(of))
 
 
-def _block(referee: Referee, name: str, position: int) -> str | None:
+def _block(referee: Referee, name: str, position: int, of: Of | None) -> str | None:
     """By a statement that writes: a server that was cut off may have another block there."""
-    found = referee._ask(statements.BLOCK, {"me": referee.me, "name": name, "position": position})
+    database = None if of is None else of.database
+    found = referee._ask(statements.BLOCK, {"me": referee.me, "name": name, "database": database, "position": position})
     return str(found[0][0]) if found else None

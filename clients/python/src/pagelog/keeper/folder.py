@@ -4,7 +4,11 @@ from __future__ import annotations
 
 import fcntl
 import os
+from contextlib import suppress
 from pathlib import Path
+
+_MOST = 16
+"""Lives that are noted, where none comes to have the name."""
 
 
 class Folder:
@@ -14,8 +18,12 @@ class Folder:
         """`name` is the keeper's. The folder is made if it is not there."""
         path.mkdir(parents=True, exist_ok=True, mode=0o700)
         self.path, self._name = path, name
-        self._note = path / "keeper"
+        self._note, self._lives = path / "keeper", path / "lives"
         self._descriptor = os.open(path, os.O_RDONLY | os.O_DIRECTORY)
+        told = os.fstat(self._descriptor)
+        boot = Path("/proc/sys/kernel/random/boot_id").read_text().strip()
+        self._here = f"{boot}:{told.st_dev}:{told.st_ino}"
+        """This very folder, since the machine was started: a copy of it, or of the machine, is another."""
         self._is_taken = False
 
     def take(self) -> bool:
@@ -36,6 +44,31 @@ class Folder:
             return self._note.read_text()
         except OSError:
             return ""
+
+    @property
+    def lives(self) -> tuple[str, ...]:
+        """The lives of keepers that began in this very folder, of which one may still have the name. Who has the folder knows that they
+        are over."""
+        try:
+            here, *lives = self._lives.read_text().split()
+        except (OSError, ValueError):
+            return ()
+        return tuple(lives) if here == self._here else ()
+
+    def note(self, life: str) -> None:
+        """Notes a life that is about to take the name, beside the earlier ones: whether it has it may be in doubt."""
+        if life not in self.lives:
+            self._write((*self.lives[1 - _MOST :], life))
+
+    def settle(self, life: str) -> None:
+        """Notes the life that has the name, and no other."""
+        self._write((life,))
+
+    def _write(self, lives: tuple[str, ...]) -> None:
+        fresh = self._lives.with_name("lives~")
+        with suppress(OSError):  # as on a full disk: then the next life waits for a ttl
+            fresh.write_text(" ".join((self._here, *lives)))
+            fresh.replace(self._lives)
 
     def leave(self) -> None:
         """Leaves it to the next one."""

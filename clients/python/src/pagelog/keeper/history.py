@@ -11,6 +11,7 @@ from pagelog.keeper.bases import Bases, snapshot
 from pagelog.keeper.referee import KeeperError, Referee, Refused, digest
 from pagelog.keeper.rows import Row
 from pagelog.keeper.schema import CHANNEL, FORMAT
+from pagelog.times import in_both_zones
 
 _SPANS = """
 SELECT l.id, CASE WHEN b.first IS NULL OR EXISTS (SELECT 1 FROM pagelog_block WHERE log = l.id AND lsn = 1) THEN 0 ELSE b.first END,
@@ -18,14 +19,25 @@ SELECT l.id, CASE WHEN b.first IS NULL OR EXISTS (SELECT 1 FROM pagelog_block WH
 FROM pagelog_log l LEFT JOIN (SELECT log, min(base) AS first, max(base) AS last, count(*)::integer AS count FROM pagelog_base GROUP BY log) b
   ON b.log = l.id
 """
-_AT = """
-SELECT COALESCE((SELECT min(lsn) - 1 FROM pagelog_block WHERE log = %(log)s AND came > %(time)s), %(archived)s),
-  (SELECT came > %(time)s FROM pagelog_base WHERE log = %(log)s AND base = %(oldest)s)
+_AT = "SELECT COALESCE((SELECT min(lsn) - 1 FROM pagelog_block WHERE log = %(log)s AND came > %(time)s), %(last)s)"
+_TIMES = """
+SELECT CASE WHEN %(first)s = 0 THEN (SELECT LEAST(min(began), (SELECT came FROM pagelog_block WHERE log = %(log)s AND lsn = 1))
+    FROM pagelog_generation WHERE log = %(log)s)
+  ELSE (SELECT came FROM pagelog_base WHERE log = %(log)s AND base = %(first)s) END,
+  COALESCE((SELECT came FROM pagelog_block WHERE log = %(log)s AND lsn = %(last)s),
+    (SELECT came FROM pagelog_base WHERE log = %(log)s AND base = %(last)s)), clock_timestamp()
+"""
+_BELOW = """
+SELECT (SELECT %(position)s - min(lsn) + 1 FROM pagelog_block WHERE log = %(log)s AND lsn <= %(position)s),
+  (SELECT count(*) FROM pagelog_base WHERE log = %(log)s AND base < %(position)s),
+  (SELECT came FROM pagelog_block WHERE log = %(log)s AND lsn = %(position)s - 1),
+  (SELECT came FROM pagelog_base WHERE log = %(log)s AND base = %(position)s)
 """
 _MAKE = f"""
 WITH made AS (
-  INSERT INTO pagelog_log (name, format, archived, epoch, chain, read_only)
-  SELECT %(name)s, {FORMAT}, %(position)s, 1, %(chain)b::bytea, true
+  INSERT INTO pagelog_log (name, format, archived, epoch, chain, read_only, ancestor, next_generation)
+  SELECT %(name)s::text, {FORMAT}, %(position)s, 1, %(chain)b::bytea, true, (SELECT COALESCE(ancestor, name) FROM pagelog_log WHERE id = %(log)s),
+    COALESCE((SELECT max(d.next_generation) + 1 FROM pagelog_log d WHERE d.dropped AND d.name = %(name)s::text || '!' || d.id), 1)
   WHERE (%(base)s = 0 OR EXISTS (SELECT 1 FROM pagelog_base WHERE log = %(log)s AND base = %(base)s))
     AND (SELECT count(*) FROM pagelog_block WHERE log = %(log)s AND lsn > %(base)s AND lsn <= %(position)s) = %(position)s - %(base)s
   ON CONFLICT (name) DO NOTHING RETURNING id),
@@ -59,23 +71,63 @@ def spans(referee: Referee) -> dict[int, Span]:
     return {int(log): Span(*found) for log, *found in referee._ask(_SPANS)}
 
 
-def position_at(referee: Referee, row: Row, at: str) -> int:
-    """The position that `at` names: itself, or the last one that was archived by this time. Raises `KeeperError` where it is not kept."""
+@dataclass(frozen=True)
+class Extent:
+    """What is kept of a database: the positions from `first` to `last`, and by when each of the two was archived; None where nobody
+    noted it, as of what is older than the column. `now` is PostgreSQL's clock."""
+
+    first: int
+    last: int
+    first_came: datetime | None
+    last_came: datetime | None
+    now: datetime
+    bases: int
+
+    def __str__(self) -> str:
+        if self.last == 0:
+            return "position 0 alone, at which it is empty"
+        return f"positions {self.first} to {self.last}, from {in_both_zones(self.first_came)} to {in_both_zones(self.last_came)}"
+
+
+def extent_of(referee: Referee, row: Row) -> Extent:
+    """What is kept of a database."""
     span = spans(referee)[row.id]
-    if at.isdecimal():
-        position = int(at)
+    [[first, last, now]] = referee._ask(_TIMES, {"log": row.id, "first": span.oldest, "last": row.archived})
+    return Extent(span.oldest, row.archived, first, last, now, span.bases)
+
+
+def position_at(referee: Referee, row: Row, at: int | datetime) -> int:
+    """The position that `at` names: itself, or the last one that was archived by this time. Raises `KeeperError` where it is not there."""
+    has = extent_of(referee, row)
+    if isinstance(at, int):
+        position, what = at, f"position {at}"
     else:
-        try:
-            time = datetime.fromisoformat(at).astimezone()
-        except ValueError:
-            raise KeeperError(f"{at!r} is neither a position nor a time as 2026-01-31T12:00:00+00:00") from None
-        values = {"log": row.id, "time": time, "archived": row.archived, "oldest": span.oldest}
-        [[position, is_before]] = referee._ask(_AT, values)
-        if is_before:
-            raise KeeperError(f"nothing of {row.name} is kept from before position {span.oldest}, which is later than {time.isoformat()}")
-    if not span.oldest <= position <= row.archived:
-        raise KeeperError(f"position {position} of {row.name} is not kept: positions {span.oldest} to {row.archived} are")
+        what = in_both_zones(at)
+        if at > has.now:
+            raise KeeperError(f"{what} is later than PostgreSQL's clock; {row.name} has {has}")
+        if has.first_came is not None and at < has.first_came:
+            raise KeeperError(f"nothing of {row.name} is kept from {what}; it has {has}")
+        [[position]] = referee._ask(_AT, {"log": row.id, "time": at, "last": has.last})
+    if not has.first <= position <= has.last:
+        raise KeeperError(f"{what} of {row.name} is not kept; it has {has}")
     return position
+
+
+@dataclass(frozen=True)
+class Below:
+    """What only positions below a base need: so many blocks and older bases. `until` is by when the last position below it was archived,
+    and `came` that of the base."""
+
+    blocks: int
+    bases: int
+    until: datetime | None
+    came: datetime | None
+
+
+def below(referee: Referee, row: Row, position: int) -> Below:
+    """What pruning up to this base deletes."""
+    [[blocks, bases, until, came]] = referee._ask(_BELOW, {"log": row.id, "position": position})
+    return Below(blocks or 0, bases, until, came)
 
 
 def begin_again(referee: Referee, row: Row, position: int, name: str) -> bool:

@@ -9,33 +9,42 @@ import logging
 import secrets
 import signal
 from concurrent.futures import ThreadPoolExecutor
+from contextlib import suppress
+from dataclasses import replace
 from functools import partial
-from typing import TYPE_CHECKING, Any
+from typing import TYPE_CHECKING, Any, Mapping
 
+from pagelog.keeper.aside import Aside
 from pagelog.keeper.committer import Committer
 from pagelog.keeper.database import Database
+from pagelog.keeper.fate import Of
 from pagelog.keeper.fates import tell_block
 from pagelog.keeper.folder import Folder
-from pagelog.keeper.lines import Line, Server
+from pagelog.keeper.lines import Key, Line, Server, of_word
 from pagelog.keeper.machine import Stillness
 from pagelog.keeper.notify import notify
+from pagelog.keeper.orphans import Fate, seen_to
 from pagelog.keeper.places import Places
 from pagelog.keeper.quick import QuickReferee, QuickSession
-from pagelog.keeper.quick_way import QuickWays
-from pagelog.keeper.referee import NAME, KeeperError, Referee, Superseded
-from pagelog.keeper.rows import Look, StandbyRow, Synchronous, released_of
-from pagelog.keeper.run import end_orphans, has_services
+from pagelog.keeper.quick_way import QuickPool, QuickWays
+from pagelog.keeper.quota import Quota
+from pagelog.keeper.referee import NAME, KeeperError, NameInUse, Referee, Superseded
+from pagelog.keeper.rows import Look, Named, Row, StandbyRow, Synchronous
+from pagelog.keeper.run import Run, Seen, has_services, orphans_of
 from pagelog.keeper.served import Served, seconds
 from pagelog.keeper.session import Session
 from pagelog.keeper.settings import Settings
 from pagelog.keeper.shared import Shared
 from pagelog.keeper.turns import AllTurns
+from pagelog.repeating import Backoff, Repeats
 
 if TYPE_CHECKING:
     from pagelog.keeper.recorder import Trails
 
 HELD_BACK = 1.0
 """Seconds for which the answer to a `where` may wait for the next generation."""
+EACH_WHERE, ALL_WHERE = 4, 10_000
+"""How many of these answers one connection may wait for, and how many all of them: who asks for more is answered at once."""
 LOOKS = 4
 """How many looks there are in a ttl."""
 _SOON = 0.05
@@ -49,6 +58,7 @@ class Keeper:
     def __init__(self, settings: Settings) -> None:
         self.settings = settings
         self._folder = Folder(settings.program.folder, settings.name)
+        self._repeats = Repeats(self._say)
         self.life = secrets.token_hex(8)
         self.databases: dict[int, Database] = {}
         self._by_name: dict[str, Database] = {}
@@ -63,7 +73,14 @@ class Keeper:
         self._shared = Shared(settings, self.life, self._session, committer, self._say, self._changed, self._trails(), self._ways())
         self._server = Server(self)
         self._places = Places(self.where)
-        self._turns = AllTurns()
+        self._moving = Quota(EACH_WHERE, ALL_WHERE)
+        """The answers to `where` that wait."""
+        self._turns = AllTurns(ttl=settings.ttl)
+        self._rival: Named | None = None
+        """Who had the name when it was asked for last."""
+        self._rival_stillness, self._rival_still = Stillness(settings.ttl), 0.0
+        self._is_disowned = False
+        """Whether a keeper of another folder has the name."""
         self._lives: dict[str, Stillness] = {}
         self._living: set[str] = set()
         self.synchronous = Synchronous()
@@ -73,6 +90,10 @@ class Keeper:
         self._stops = False
         self._may_have = False
         """Whether there are services of an earlier life, and no look has shown yet what they have."""
+        self._left: list[Run] = []
+        """Those whose runs nobody holds, and of which it is not known yet what is to become."""
+        self._orphans: dict[str, Served] = {}
+        """Those of them that go on, by the names of their databases."""
 
     def _trails(self) -> Trails | None:
         if not self.settings.trail:
@@ -81,12 +102,16 @@ class Keeper:
 
         return Trails(self.settings.url, self.settings.trail, self.settings.ttl)
 
-    def _ways(self) -> QuickWays | None:
+    def _ways(self) -> QuickPool | None:
         settings = self.settings
         if settings.trail:
             return None  # each statement has lines of an audit list with it
-        ways = QuickWays(QuickReferee(settings.url, settings.name, self.life), idle=settings.ttl, deadline=2 * settings.ttl,
-                         confirms=settings.require_standby)  # fmt: skip
+
+        def make() -> QuickWays:
+            return QuickWays(QuickReferee(settings.url, settings.name, self.life), idle=settings.ttl, deadline=2 * settings.ttl,
+                             confirms=settings.require_standby, say=partial(self._repeats.say, "the quick way"))  # fmt: skip
+
+        ways = QuickPool(make)
         if not ways.is_there:
             self._say("the keeper", "the quick way is not built: durable commits take longer")
         return ways
@@ -95,10 +120,9 @@ class Keeper:
         _log.info("%s: %s", name, sentence)
 
     def _say_of_referee(self, sentence: str) -> None:
-        """A line for each change."""
-        if sentence != self._said:
+        """A line for each change, and where it changes again and again once a minute."""
+        if sentence != self._said and self._repeats.try_to_say("the referee", sentence):
             self._said = sentence
-            self._say("the referee", sentence)
 
     # Its life.
 
@@ -126,12 +150,16 @@ class Keeper:
             while not self._is_over():
                 if committing.done():
                     return 1  # its next life adopts what it has
-                await self._hear()
                 await self._look()
                 await self._session.rest(self._pause)
             return 0
+        except NameInUse as error:
+            _log.error("%s", error)
+            await self._end_what_holds_nothing()
+            return 3
         except Superseded as error:
             _log.error("%s", error)
+            self._is_disowned = await self._is_of_another_folder()
             return 3
         finally:
             await self._stop()
@@ -153,26 +181,122 @@ class Keeper:
         return self._stops or (self._shared.ending and has_handed_over)
 
     async def _begin(self) -> None:
-        """Takes its name, and ends the services of an earlier life that hold nothing."""
+        """Takes its name, and ends the services of an earlier life that hold nothing. Raises `NameInUse`."""
+        waits = Backoff(self.settings.ttl / LOOKS, self.settings.ttl)
         while not self._is_over():
             try:
                 await self._session.ask(self._session.referee.prepare)
-                await self._session.ask(self._session.referee.register, self.lines)
+                if not await self._has_name():
+                    await asyncio.sleep(self.settings.ttl / LOOKS)
+                    continue
                 if not self._folder.take():
                     await self._wait_for_folder()
                     continue
                 look = await self._session.ask(self._session.referee.look)
-            except Superseded:
+            except (NameInUse, Superseded):
                 raise
             except KeeperError as error:
                 self._say_of_referee(str(error))
-                await asyncio.sleep(self.settings.ttl / LOOKS)
+                await asyncio.sleep(waits.next())
                 continue
+            await asyncio.to_thread(self._shared.numbers.begin)
+            self._folder.settle(self.life)
             wanted = {row.run for row in look.rows if row.run is not None and row.holder == self.settings.name}
             self._shared.asides.begin()
-            for name in await asyncio.to_thread(end_orphans, self._folder.path, wanted):
-                self._say(name, "a service of an earlier life that held nothing was ended")
+            self._left = await asyncio.to_thread(orphans_of, self._folder.path, wanted)
+            await self._see_to_orphans(look)
             return
+
+    async def _see_to_orphans(self, look: Look, *, has_name: bool = True) -> None:
+        """What an earlier life has left and nobody holds is ended where it holds nothing. Else it continues as soon as its database is
+        known here, or is set aside. A keeper without its name continues nothing."""
+        rest = Backoff(self.settings.ttl / LOOKS, self.settings.ttl)
+        while self._left and not self._stops:
+            process = self._left[-1]
+            try:
+                orphan = await self._session.ask(seen_to, self._session.referee, look, process, self.settings.ttl, has_name)
+            except KeeperError as error:
+                self._say_of_referee(str(error))
+                if not has_name:
+                    return  # the next life in this folder sees to it
+                await asyncio.sleep(rest.next())
+                continue
+            self._left.pop()
+            goes_on = has_name and orphan.fate is Fate.CONTINUE and process.facts.name not in self._orphans
+            fate = orphan.fate if goes_on or orphan.fate is Fate.END else Fate.SET_ASIDE
+            self._say(process.facts.name, f"the service of run {process.name}, which an earlier life left, is {fate.value}: {orphan.why}")
+            if fate is Fate.END:
+                await asyncio.to_thread(process.end)
+            elif goes_on and orphan.served is not None:
+                self._orphans[process.facts.name] = orphan.served
+            else:
+                await self._set_aside(process)
+
+    async def _set_aside(self, process: Run) -> None:
+        while True:
+            try:
+                await asyncio.to_thread(process.set_aside, process.facts.shift, process.facts.images)
+            except OSError as error:
+                self._say(process.facts.name, f"it could not be noted that it is set aside: {error}")
+                await asyncio.sleep(self.settings.ttl)
+            else:
+                return self._shared.asides.add(process.facts)
+
+    async def _has_name(self) -> bool:
+        """Takes the name: from an earlier life of this folder at once, from another once its heartbeat has stood still for a ttl. Raises
+        `NameInUse` where that moves."""
+        over = self._folder.lives if self._folder.take() else ()
+        self._folder.note(self.life)
+        before, is_still = self._rival, self._rival_still >= self.settings.ttl
+        found = self._rival = await self._session.ask(self._session.referee.claim, self.lines, over, before if is_still else None)
+        if found is None:
+            return True
+        if before is not None and found.run == before.run and found.beat > before.beat:
+            raise NameInUse(f"the name {self.settings.name} is in use: {found}, and its heartbeat moves: give this keeper another name")
+        if before is None or before.run != found.run:
+            self._say("the keeper", f"the name {self.settings.name} may be in use: {found}; its heartbeat is watched for a ttl")
+        self._rival_still = self._rival_stillness.see((found.run, found.beat), seconds())
+        return False
+
+    async def _end_what_holds_nothing(self) -> None:
+        """Ends the services of earlier lives in this folder that hold nothing, and are no standbys: nobody else would."""
+        if not self._folder.take():
+            return
+        try:
+            look = await self._session.ask(self._session.referee.everything)
+        except KeeperError as error:
+            return self._say_of_referee(str(error))
+        wanted = {row.run for row in look.rows if row.run is not None} | {standby.run for standby in look.standbys}
+        self._left = await asyncio.to_thread(orphans_of, self._folder.path, wanted)
+        await self._see_to_orphans(look, has_name=False)
+
+    async def _is_of_another_folder(self) -> bool:
+        """Whether who has the name now is in another folder. Of this folder it adopts the services."""
+        try:
+            found = (await self._session.ask(self._session.referee.everything)).keeper(self.settings.name)
+        except KeeperError:
+            return False  # the next life in this folder ends them
+        return found is not None and found.run not in (self.life, *self._folder.lives)
+
+    async def _end_services(self) -> None:
+        """Ends the services of this folder, but what may be the only copy of something is set aside."""
+        ended = set()
+        for database in self.databases.values():
+            if (served := database.served) is None or served.process is None:
+                continue
+            if database.may_be_only_copy:
+                process, served.process = served.process, None
+                await asyncio.to_thread(process.set_aside, served.shift, served.images)
+            else:
+                ended.add(served.run)
+        self._left = []
+        for process in await asyncio.to_thread(orphans_of, self._folder.path, set()):
+            if process.name in ended:
+                await asyncio.to_thread(process.end)
+                self._say(process.facts.name, "its service was ended: a keeper of another folder has the name")
+            else:
+                self._left.append(process)
+        await self._see_to_orphans(self.look, has_name=False)
 
     async def _wait_for_folder(self) -> None:
         """Waits for the end of an earlier keeper of this name. Its beat stands still meanwhile, so that others may take over."""
@@ -196,6 +320,8 @@ class Keeper:
             self._shared.trails.close()
         if self._shared.ways is not None:
             await self._shared.ways.close()
+        if self._is_disowned:
+            await self._end_services()
         self._folder.leave()
 
     # Looking.
@@ -205,13 +331,6 @@ class Keeper:
         """Seconds until the next look, if nothing is heard before."""
         usual = self.settings.ttl / LOOKS
         return min(usual, _SOON) if any(each.is_awaited for each in self.databases.values()) else usual
-
-    async def _hear(self) -> None:
-        """Takes what a release has said for true, before a look shows it: what follows has its own conditions."""
-        heard = [(self._named(name), of) for name, of in map(released_of, self._session.taken())]
-        acting = {task for database, of in heard if database is not None and (task := database.hear(*of)) is not None}
-        if acting:  # a take goes before the look
-            await asyncio.wait(acting, timeout=self.settings.ttl / LOOKS / 2)
 
     async def _look(self) -> None:
         reached = {each.row.id: reached for each in self.databases.values() if (reached := each.follows) is not None}
@@ -227,23 +346,44 @@ class Keeper:
             return
         self.synchronous = self.look.synchronous
         self._looks += 1
+        self._note_numbers()
         self._say_of_referee(self.synchronous.meaning)
         self._see_lives()
         for row in self.look.rows:
             if row.id not in self.databases and not row.dropped:
-                self.databases[row.id] = Database(self._shared, row)
+                self.databases[row.id] = Database(self._shared, row, self._orphans.pop(row.name, None))
         self._by_name = {row.name: self.databases[row.id] for row in self.look.rows if not row.dropped}
         for row in self.look.rows:
             if (database := self.databases.get(row.id)) is None:
                 continue
             holder = self.look.keeper(row.holder)
             is_noted = any(standby.keeper == self.settings.name for standby in self.look.standbys_of(row.id))
-            database.see(row, None if holder is None else holder.beat, self._others(row.id), is_noted=is_noted, began=began)
+            database.see(row, None if holder is None else holder.beat, self._others(row.id), is_noted=is_noted, began=began,
+                         reports=self._reports_of(row.name))  # fmt: skip
             self._changed(row.name)
         for id in self.databases.keys() - {row.id for row in self.look.rows}:
             self.databases[id].lose()
         self._may_have = False
         self._turns.look(self._held)
+
+    def _note_numbers(self) -> None:
+        """Those of the look, for a later life too. A look waits for no file."""
+        forgotten = self._shared.numbers.see(self.look.rows)
+        if forgotten or self._shared.numbers.is_changed:
+            self._shared.spawn(self._raise_numbers(forgotten), "the numbers")
+
+    async def _raise_numbers(self, forgotten: list[Row]) -> None:
+        """Where PostgreSQL has forgotten numbers of generations that it gave, it is told: none is given twice."""
+        for row in forgotten:
+            highest, doubted = self._shared.numbers.highest(row), self._shared.numbers.doubted(row)
+            self._say(row.name, f"PostgreSQL has forgotten generation {highest}, or given its number twice: the next ones get numbers above it")
+            with suppress(KeeperError):  # the next look shows it again
+                await self._session.ask(self._session.referee.raise_numbers, row.identity, highest, doubted)
+        try:
+            if self._shared.numbers.is_changed:
+                await asyncio.to_thread(self._shared.numbers.save)
+        except OSError as error:
+            self._say("the folder", f"the numbers of generations could not be noted: {error}")
 
     def _see_lives(self) -> None:
         now = seconds()
@@ -255,16 +395,32 @@ class Keeper:
         return tuple(standby for standby in self.look.standbys_of(log)
                      if standby.keeper != self.settings.name and standby.keeper in self._living)  # fmt: skip
 
+    def _reports_of(self, name: str) -> dict[str, Mapping[str, Any]]:
+        """What the other keepers that are alive have last said of a database."""
+        return {keeper.name: keeper.report.get(name, {}) for keeper in self.look.keepers
+                if keeper.name != self.settings.name and keeper.name in self._living}  # fmt: skip
+
+    def _lost(self) -> list[Aside]:
+        """The runs that are here and that PostgreSQL does not know, or of which it lacks something."""
+        found = []
+        for each in self.databases.values():
+            if each.back is not None and each.served is not None and each.served.process is not None:
+                served, process = each.served, each.served.process
+                facts = replace(process.facts, shift=served.shift, images=served.images)
+                found.append(Aside(facts, Seen(served.generation, max(served.reached, process.seen.archived)), is_kept=False))
+        return found
+
     def _report(self) -> str:
         """What `kept` shows of the services of this keeper, measured for it and for what is decided until the next look; and what is
         decided of them, and of what nobody has."""
-        audit, limit, report = self.settings.program.audit, self.settings.memory, dict[str, Any](self._shared.asides.report())
+        audit, limit, report = self.settings.program.audit, self.settings.memory, dict[str, Any](self._shared.asides.report(self._lost()))
         for each in self.databases.values():
             if each.row.dropped or (each.served is None and each.row.holder not in (None, self.settings.name)):
                 continue
-            said: dict[str, Any] = {"state": each.state.value, "why": each.decision}
+            said: dict[str, Any] = {"state": each.state.value, "why": str(each.decision or "")}
             report[each.row.name] = said
             if each.served is not None and each.served.process is not None:
+                said.update(run=each.served.run, back=each.back)
                 memory = each.served.measure()
                 said.update(entries_left=audit - each.served.entries, memory=memory >> 20,
                             memory_left=max(0, limit - memory) >> 20 if limit else None, hard=each.served.hard)  # fmt: skip
@@ -288,22 +444,30 @@ class Keeper:
         database.work.refresh()
         archived = served.reached if served is not None and database.holds else row.archived
         lines = self.lines if database.holds or holder is None else holder.lines
-        return ("at", name, row.generation, row.run, row.address, archived, lines, row.images, row.shift, row.base)
+        keys = of_word(Of(row.identity, row.run or ""))
+        if row.ancestor is not None:
+            keys += (Key(f"ancestor={row.ancestor}"),)
+        if database.after is not None and database.after[0] == row.generation:
+            keys += (Key(f"after={database.after[1]}"),)
+        return ("at", name, row.generation, row.run, row.address, archived, lines, row.images, row.shift, row.base, *keys)
 
     def where_next(self, line: Line, name: str, least: int) -> None:
         """Says where it is, and waits for a generation that is about to be published here."""
         database = self._named(name)
-        if database is None or not database.is_moving:
+        if database is None or not database.is_moving or not self._moving.acquire(line):
             line.say(*self.where(name))
         else:
             self._shared.spawn(self._say_next(database, line, least), name)
 
     async def _say_next(self, database: Database, line: Line, least: int) -> None:
         ends = asyncio.get_running_loop().time() + HELD_BACK
-        while database.is_moving and (left := ends - asyncio.get_running_loop().time()) > 0:
-            if database.row.address is not None and database.row.generation >= least:
-                break
-            await database.moves.wait(left)
+        try:
+            while database.is_moving and (left := ends - asyncio.get_running_loop().time()) > 0:
+                if database.row.address is not None and database.row.generation >= least:
+                    break
+                await database.moves.wait(left)
+        finally:
+            self._moving.release(line)
         line.say(*self.where(database.row.name))
 
     def next_place(self, line: Line, name: str, least: int) -> None:
@@ -312,6 +476,7 @@ class Keeper:
 
     def _changed(self, name: str) -> None:
         self._places.changed(name)
+        self._turns.changed(name, self._held(name))
 
     def standby(self, name: str) -> tuple[object, ...]:
         """A standby of it, whichever keeper has it: the last look says how far it is, and of an own one what it has."""
@@ -322,44 +487,60 @@ class Keeper:
             return ("standby", name, "-", "-", "-", "-", "-")
         own, follows = database.served, database.follows
         reached = follows if own is not None and own.run == found.run and follows is not None else found.reached
-        return ("standby", name, found.address, found.run, reached, found.images, found.shift)
+        return ("standby", name, found.address, found.run, reached, found.images, found.shift, *of_word(Of(database.row.identity, found.run)))
 
-    def durable(self, line: Line, name: str, generation: int, position: int) -> None:
-        """Answers now or later."""
+    def durable(self, line: Line, name: str, generation: int, position: int, of: Of | None = None) -> None:
+        """Answers now or later. Of a database that has the name no more PostgreSQL knows what became."""
         database = self._named(name)
-        if database is None:
-            line.say("unknown", name)
+        if database is not None and (of is None or of.database == database.row.identity):
+            database.wait(line, generation, position, of)
+        elif of is not None and self.look.keepers:
+            self._shared.spawn(self._shared.tell_fate(line, name, generation, of), name)
         else:
-            database.wait(line, generation, position)
+            line.say("unknown", name)
 
-    def ring(self, name: str, generation: int) -> None:
+    def ring(self, name: str, generation: int, of: Of | None = None) -> None:
         """Looks for new blocks, if it is held here."""
-        if generation == self._held(name):
-            database = self._named(name)
-            assert database is not None
+        database = self._named(name)
+        if database is not None and generation == self._held(name) and self._is_of(database, of):
             database.work.ring()
 
-    def full(self, name: str, generation: int) -> None:
+    def _is_of(self, database: Database, of: Of | None) -> bool:
+        """Whether this run of it is held here; an older client says none."""
+        return of is None or (database.served is not None and of == database.of(database.served))
+
+    def full(self, name: str, generation: int, of: Of | None = None) -> None:
         """Begins the next generation, if it is held here, once in each."""
         database = self._named(name)
-        if database is not None and database.holds and database.own.generation == generation and not database.own.is_full:
+        is_meant = database is not None and self._is_of(database, of) and database.holds and database.own.generation == generation
+        if database is not None and is_meant and not database.own.is_full:
             database.own.is_full = True
             database.kick()
 
-    def block(self, line: Line, name: str, position: int) -> None:
+    def block(self, line: Line, name: str, position: int, of: Of | None = None) -> None:
         """Answers from the archive, once PostgreSQL has. For what is no name it is not asked: it would end the connection."""
         if NAME.fullmatch(name) is None:
-            return line.say("block", name, position, "-")
-        self._shared.spawn(tell_block(self._shared.questions, line, name, position), name)
+            return line.say("block", name, position, "-", *of_word(of))
+        self._shared.spawn(tell_block(self._shared.block_questions, line, name, position, of), name)
 
     def _held(self, name: str) -> int | None:
         """The generation of it that is held here."""
         database = self._named(name)
         return database.served.generation if database is not None and database.holds and database.served is not None else None
 
-    def turn(self, line: Line, words: list[str]) -> None:
-        """Answers now or later."""
-        self._turns.take(line, words, self._held(words[1]))
+    def turn(self, line: Line, words: list[str], of: Of | None = None) -> None:
+        """Answers now or later. Who asks of another run gets no turn here, and ends nobody's."""
+        database = self._named(words[1])
+        if database is None or self._is_of(database, of):
+            self._turns.take(line, words, self._held(words[1]))
+        elif words[0] == "turn":
+            line.say("elsewhere", words[1], *of_word(of))
+
+    def awaits(self, line: Line) -> bool:
+        """Whether it has a turn, or anything is waited for over it."""
+        shared = self._shared
+        return (line in self._places or line in self._moving or line in shared.questions or line in shared.block_questions
+                or line in self._turns or any(line in database.waits for database in self.databases.values()))  # fmt: skip
 
     def gone(self, line: Line) -> None:
         """Nobody waits over it any more."""
@@ -387,4 +568,4 @@ class Keeper:
 
     def itself(self) -> dict[str, int]:
         """What is known of the keeper, for the metrics."""
-        return {"looks": self._looks, "synchronous_standbys": self.synchronous.count or 0}
+        return {"looks": self._looks, "synchronous_standbys": self.synchronous.count or 0, "set_aside": len(self._shared.asides)}

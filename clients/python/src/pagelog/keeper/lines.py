@@ -1,46 +1,105 @@
-"""The line protocol of keepers: text, one line each way, of at most 1,024 bytes. Replies come when they come, and name what
-they answer.
+"""The line protocol of keepers: text, one line each way, of at most 1,024 bytes. docs/LINES.md has the words: who asks what, what is
+answered, and what an older peer makes of it.
 
-    where NAME [LEAST]              at NAME GENERATION RUN ADDRESS ARCHIVED LINES BASE SHIFT KEPT | nowhere NAME | unknown NAME
-                                    held back for a second at most by a keeper that is about to publish generation LEAST
-    next NAME LEAST                 the same, held back for a second at most until there is a place of generation LEAST or a later one;
-                                    its own keeper says so once it lets clients in, another may as soon as it is taken
-    standby NAME                    standby NAME ADDRESS RUN REACHED BASE SHIFT | standby NAME - - - - -
-    durable NAME GENERATION N       durable NAME GENERATION M, M at or above N: all up to M is archived
-                                    over NAME GENERATION END: all up to END is archived, and nothing above it will ever be
-                                    above NAME GENERATION M: there is no N; the service ends at M
-                                    elsewhere NAME GENERATION: ask `where` again
-    ring NAME GENERATION            nothing: there will be new blocks, and a `durable` after it
-    full NAME GENERATION            nothing: its service had no memory for a writer, who waits for the next generation
-    block NAME N                    block NAME N DIGEST: the SHA-256 of the archived block at position N | block NAME N -: none is there
-    turn NAME ..                    whose turn it is to write: turns.py
-
-All numbers are positions: an LSN of the service is a position less SHIFT. BASE is the position whose images the service began
-with: below it nothing can be read there. It is 0 where the service has the log from its first block. KEPT is where the
-generation before ended: all up to there is durable, and of what it had above nothing is here.
+A client says its version first (`hello`). To one that has said none no `key=value` is told, which it would not know. A question
+carries the database and the run that it is about as `of=DATABASE/RUN`; one of an older client has none.
 """
 
 from __future__ import annotations
 
 import asyncio
+import errno
+import logging
 import os
+import resource
 import socket
+import time
 from contextlib import suppress
-from typing import Protocol
+from itertools import islice
+from typing import Any, Callable, Mapping, Protocol
 
+from pagelog.keeper.fate import Of
+
+VERSION = 2
+"""Of the lines. Version 1 has no greeting, and no keys."""
 LONGEST = 1024
+MOST = 1 << 16
+"""Connections at most, however many descriptors there may be."""
 _AT_ONCE = 64
 """Lines of one client that are answered before others have their turn."""
+_TRIED = 64
+"""Connections that are looked at for one that is idle, when another comes."""
+_SAID_AGAIN = 60.0
+"""Seconds after which it is logged again that there is no descriptor."""
+_FULL = (errno.EMFILE, errno.ENFILE, errno.ENOBUFS, errno.ENOMEM)
+_log = logging.getLogger("pagelog.keeper")
+
+
+def most_lines() -> int:
+    """Half of the descriptors that this process may have: the services, PostgreSQL and the files have the rest."""
+    limit = resource.getrlimit(resource.RLIMIT_NOFILE)[0]
+    return MOST if limit == resource.RLIM_INFINITY else min(MOST, max(1, limit // 2))
+
+
+class OpenLines:
+    """The connections, first those of which nothing was heard for the longest time."""
+
+    def __init__(self, awaits: Callable[[Line], bool]) -> None:
+        """`awaits` says whether a client has something, or waits for something."""
+        self._awaits = awaits
+        self._lines: dict[Line, None] = {}
+
+    def add(self, line: Line) -> None:
+        """Another one, in place of an idle one where there are too many. Where none is found, it is closed itself."""
+        if len(self._lines) >= most_lines() and not self.drop_idle():
+            line.close()
+        self._lines[line] = None
+
+    def heard(self, line: Line) -> None:
+        """It is not idle now."""
+        if line in self._lines:
+            del self._lines[line]
+            self._lines[line] = None
+
+    def gone(self, line: Line) -> None:
+        """It has ended."""
+        self._lines.pop(line, None)
+
+    def drop_idle(self) -> bool:
+        """Closes the one that is idle longest, has nothing and awaits nothing. False where none is found."""
+        for line in list(islice(self._lines, _TRIED)):
+            if not line.is_lent and not self._awaits(line):
+                self.gone(line)
+                line.close()
+                return True
+            self.heard(line)
+        return False
+
+    def close(self) -> None:
+        """Ends them all."""
+        for line in list(self._lines):
+            line.close()
+
+
+class Key(str):
+    """A word `key=value` of an answer, behind those that have their place. Who does not know the key passes over it."""
+
+
+def of_word(of: Of | None) -> tuple[Key, ...]:
+    """The word that says of which database and run an answer is; none where the question did not say so."""
+    return () if of is None else (Key(f"of={of}"),)
 
 
 class Line(asyncio.Protocol):
     """One connection of a client. Its lines are answered in the order in which they come; nothing is read of a client that does not read."""
 
-    def __init__(self, answers: Answers, open: set[Line]) -> None:
+    def __init__(self, answers: Answers, open: OpenLines) -> None:
         self._answers, self._open = answers, open
         self._transport: asyncio.Transport | None = None
         self._left = b""
         self._is_full = self._is_lent = self._is_behind = False
+        self.version = 1
+        """Of the client, as it has said."""
 
     def connection_made(self, transport: asyncio.BaseTransport) -> None:
         assert isinstance(transport, asyncio.Transport)
@@ -49,10 +108,11 @@ class Line(asyncio.Protocol):
 
     def connection_lost(self, error: Exception | None) -> None:
         self._transport = None
-        self._open.discard(self)
+        self._open.gone(self)
         self._answers.gone(self)
 
     def data_received(self, data: bytes) -> None:
+        self._open.heard(self)
         self._left += data
         self._hear()
 
@@ -111,13 +171,19 @@ class Line(asyncio.Protocol):
         """Whether it is not known to be gone."""
         return self._transport is not None and not self._transport.is_closing()
 
+    @property
+    def is_lent(self) -> bool:
+        """Whether another reads it."""
+        return self._is_lent
+
     def say(self, *words: object) -> None:
-        """Writes a line. To one who is gone nothing is written. One that is lent, and takes not all of it, is ended: what the other says
-        would come amid this."""
+        """Writes a line, to an older client without its keys. To one who is gone nothing is written. One that is lent, and takes not all of
+        it, is ended: what the other says would come in between."""
         transport = self._transport
         if transport is None or transport.is_closing():
             return
-        transport.write(" ".join(map(str, words)).encode() + b"\n")
+        told = (word for word in words if self.version > 1 or not isinstance(word, Key))
+        transport.write(" ".join(map(str, told)).encode() + b"\n")
         if self._is_lent and transport.get_write_buffer_size():
             with suppress(OSError):  # the client is gone
                 transport.get_extra_info("socket").shutdown(socket.SHUT_RDWR)
@@ -163,48 +229,69 @@ class Answers(Protocol):
     def standby(self, name: str) -> tuple[object, ...]:
         """The words of the answer to `standby`."""
 
-    def durable(self, line: Line, name: str, generation: int, position: int) -> None:
+    def durable(self, line: Line, name: str, generation: int, position: int, of: Of | None) -> None:
         """Writes the answer to `durable` once there is one."""
 
-    def ring(self, name: str, generation: int) -> None:
+    def ring(self, name: str, generation: int, of: Of | None) -> None:
         """There will be new blocks."""
 
-    def full(self, name: str, generation: int) -> None:
+    def full(self, name: str, generation: int, of: Of | None) -> None:
         """A service had no memory for a writer."""
 
-    def block(self, line: Line, name: str, position: int) -> None:
+    def block(self, line: Line, name: str, position: int, of: Of | None) -> None:
         """Writes the answer to `block`."""
 
-    def turn(self, line: Line, words: list[str]) -> None:
+    def turn(self, line: Line, words: list[str], of: Of | None) -> None:
         """Answers the lines of turns, at once or later."""
+
+    def awaits(self, line: Line) -> bool:
+        """Whether the client has a turn, or waits for an answer."""
 
     def gone(self, line: Line) -> None:
         """The client is gone, and waits for nothing."""
 
 
+def parted(words: list[str]) -> tuple[list[str], Mapping[str, str]]:
+    """The words that have their place, and the keys behind them."""
+    keys = dict(word.split("=", 1) for word in words if "=" in word)
+    return [word for word in words if "=" not in word], keys
+
+
+def _number(text: str) -> int:
+    """Raises `ValueError`. Python's `int` would take a sign, underscores, and digits of other scripts."""
+    if not (text.isascii() and text.isdigit()):
+        raise ValueError(f"{text!r} is no number")
+    return int(text)
+
+
 def answer(answers: Answers, line: Line, words: list[str]) -> None:
-    """Answers a line. Raises `ValueError` where a number is none."""
-    match words:
+    """Answers a line. Raises `ValueError` where a number is none, or `of` is no database and run."""
+    asked, keys = parted(words)
+    of = Of.read(keys["of"]) if "of" in keys else None
+    match asked:
+        case ["hello", version]:
+            line.version = _number(version)
+            line.say("hello", VERSION)
         case ["where", name]:
             line.say(*answers.where(name))
         case ["where", name, least]:
-            answers.where_next(line, name, int(least))
+            answers.where_next(line, name, _number(least))
         case ["next", name, least]:
-            answers.next_place(line, name, int(least))
+            answers.next_place(line, name, _number(least))
         case ["standby", name]:
             line.say(*answers.standby(name))
         case ["durable", name, generation, position]:
-            answers.durable(line, name, int(generation), int(position))
+            answers.durable(line, name, _number(generation), _number(position), of)
         case ["ring", name, generation]:
-            answers.ring(name, int(generation))
+            answers.ring(name, _number(generation), of)
         case ["full", name, generation]:
-            answers.full(name, int(generation))
+            answers.full(name, _number(generation), of)
         case ["block", name, position]:
-            answers.block(line, name, int(position))
+            answers.block(line, name, _number(position), of)
         case ["turn" | "back" | "hold", _, *_]:
-            answers.turn(line, words)
+            answers.turn(line, asked, of)
         case _:
-            line.say("what", *words[:1])
+            line.say("what", *asked[:1])
 
 
 class Server:
@@ -213,12 +300,15 @@ class Server:
     def __init__(self, answers: Answers) -> None:
         self._answers = answers
         self._server: asyncio.base_events.Server | None = None
-        self._open: set[Line] = set()
+        self._open = OpenLines(answers.awaits)
+        self._said_at = float("-inf")
+        """When it was logged that there is no descriptor."""
 
     async def start(self, address: str) -> str:
         """Listens at HOST:PORT, where port 0 is any free one. Returns the address."""
         host, _, port = address.rpartition(":")
         loop = asyncio.get_running_loop()
+        loop.set_exception_handler(self._hear_of_fault)
         self._server = await loop.create_server(lambda: Line(self._answers, self._open), host.strip("[]"), int(port))
         return f"{host}:{self._server.sockets[0].getsockname()[1]}"
 
@@ -226,5 +316,14 @@ class Server:
         """Ends all connections."""
         if self._server is not None:
             self._server.close()
-        for line in list(self._open):
-            line.close()
+        self._open.close()
+
+    def _hear_of_fault(self, loop: asyncio.AbstractEventLoop, context: dict[str, Any]) -> None:
+        """Where no connection can be accepted, some that are idle go. The loop tries again each second, and would log a traceback each time."""
+        error = context.get("exception")
+        if "socket" not in context or not isinstance(error, OSError) or error.errno not in _FULL:
+            return loop.default_exception_handler(context)
+        count = sum(self._open.drop_idle() for _ in range(_AT_ONCE))
+        if time.monotonic() - self._said_at >= _SAID_AGAIN:
+            self._said_at = time.monotonic()
+            _log.warning("the lines: nobody can connect: %s; %d idle connections were closed", error.strerror, count)

@@ -19,6 +19,9 @@ ANEW_AT = 0.5
 """The share of the audit list at which a standby is made anew: what it fills while it follows is missing after a take-over."""
 NEAR = 1024
 """How many blocks a standby may lack when a switchover closes the table."""
+PATIENCE = 1.5
+"""For how many ttl a run of which PostgreSQL went back waits to see whether the run that PostgreSQL names is alive."""
+_FULL = "its list or its memory is {} full"
 
 
 class Kind(Enum):
@@ -44,6 +47,8 @@ class Action(Enum):
     UNWISH = "unwish"
     PREPARE = "prepare"
     SUCCEED = "succeed"
+    LOOK_UP = "look up"
+    CONTINUE = "continue"
 
 
 class State(Enum):
@@ -55,6 +60,7 @@ class State(Enum):
     SERVING = "serving"
     CLOSING = "closing"
     SUCCEEDING = "succeeding"
+    WENT_BACK = "went back"
 
 
 class Stage(Enum):
@@ -83,6 +89,20 @@ class Own:
     is_open: bool = True
     was_closed: bool = False
     is_full: bool = False
+    is_known: bool | None = None
+    """Whether PostgreSQL knows this run as a generation of the database; None where it was not asked yet."""
+    is_apart: bool = False
+    """Whether the archive is known to have something else than its log."""
+    back_for: float = 0.0
+    """For how many seconds it has been known that PostgreSQL went back."""
+
+
+class Rival(Enum):
+    """What is known of the service of the run that PostgreSQL names."""
+
+    LIVES = "lives"
+    GONE = "gone"
+    NOT_KNOWN = "not known"
 
 
 @dataclass(frozen=True)
@@ -91,8 +111,8 @@ class Facts:
 
     `still` is for how many seconds the row and the holder's beat have not changed, in an unbroken series of looks.
     `others` are standbys of keepers that live, and `is_noted` is whether one of this keeper is noted. `let_go` is the generation
-    that this keeper ended last, and `failed` one for which it could fill no fresh service. At the share `succeed_at` the next
-    generation is made beside the present one.
+    that this keeper ended last, and `failed` one for which it could fill no fresh service: it rests for `rest` seconds then, which
+    are more where that goes on. At the share `succeed_at` the next generation is made beside the present one.
     """
 
     me: str
@@ -106,20 +126,36 @@ class Facts:
     ending: bool = False
     let_go: int = -1
     failed: int = -1
+    rest: float = 0.0
     succeed_at: float = 1.0
     successor: Stage = Stage.NONE
+    rival: Rival = Rival.NOT_KNOWN
+    further: str | None = None
+    """A keeper that is alive, and has a run with more of what PostgreSQL has lost than this one."""
+    settles: bool = False
+    """Whether PostgreSQL was seen to go back less than a ttl ago, so that others may still say what they have."""
 
 
 @dataclass(frozen=True)
 class Decision:
-    """An action, and why."""
+    """An action, and why. A `detail`, which stands where `why` has braces, is what changes without a change of the reason."""
 
     action: Action
     why: str
+    detail: str = ""
+
+    @property
+    def sentence(self) -> str:
+        """The reason, and its detail."""
+        return self.why.replace("{}", self.detail)
 
     def __str__(self) -> str:
         """As it is logged and shown."""
-        return self.why if self.action is Action.NOTHING else f"{self.action.value}: {self.why}"
+        return self.sentence if self.action is Action.NOTHING else f"{self.action.value}: {self.sentence}"
+
+    def is_as(self, other: Decision | None) -> bool:
+        """Whether action and reason are the same."""
+        return other is not None and (self.action, self.why) == (other.action, other.why)
 
 
 def went_back(row: Row | None, own: Own) -> bool:
@@ -129,19 +165,19 @@ def went_back(row: Row | None, own: Own) -> bool:
         return True
     if own.run == row.run:
         return False
-    is_unknown = row.generation < own.generation or (row.generation == own.generation and row.run is not None)
-    return row.archived < own.reached or (own.kind is Kind.HOLDER and is_unknown)
+    return row.archived < own.reached or (own.kind is Kind.HOLDER and own.is_known is False)
 
 
 def decide(facts: Facts) -> Decision:
     """What to do now. A service that may be the only copy of something is not ended, unless the database was dropped."""
     decision = _decide(facts)
-    if decision.action in (Action.END, Action.TAKE) and _is_only_copy(facts):
-        return Decision(Action.SET_ASIDE, f"{decision.why}; PostgreSQL went back, and the service is kept")
+    if decision.action in (Action.END, Action.TAKE) and is_only_copy(facts):
+        return Decision(Action.SET_ASIDE, f"{decision.why}; PostgreSQL went back, and the service is kept", decision.detail)
     return decision
 
 
-def _is_only_copy(facts: Facts) -> bool:
+def is_only_copy(facts: Facts) -> bool:
+    """Whether the service that is here may be the only copy of what PostgreSQL has lost."""
     row, own = facts.row, facts.own
     if own is None or not own.alive or (row is not None and row.dropped):
         return False
@@ -163,11 +199,13 @@ def _decide(facts: Facts) -> Decision:
     if own is not None and own.run == row.run:
         decision = _of_the_holder(facts, row, own)
         goes_on = own.was_closed and decision.action is Action.NOTHING
-        return Decision(Action.FILL, f"{decision.why}: opened again") if goes_on else decision
+        return Decision(Action.FILL, f"{decision.why}: opened again", decision.detail) if goes_on else decision
     if own is not None and own.kind is Kind.HOLDER:
         return _of_a_run_that_is_over(facts, row, own)
     if own is not None and (not own.alive or own.silent >= facts.ttl):
         return Decision(Action.END, "the standby's service ended or hangs")
+    if own is not None and own.share < ANEW_AT and is_only_copy(facts):
+        return _of_what_went_back(facts, row, own)
     if row.run is not None and row.holder == facts.me:  # also where the keeper ends: what it has is to be archived
         why = f"generation {row.generation} is of an earlier life of this keeper"
         return Decision(Action.END if own else Action.ADOPT, why)  # a standby from before PostgreSQL went back is in its way
@@ -179,10 +217,13 @@ def _decide(facts: Facts) -> Decision:
 def _of_the_holder(facts: Facts, row: Row, own: Own) -> Decision:
     if not own.alive:
         return Decision(Action.RELEASE, "the service ended")
+    if own.is_apart:
+        why = f"PostgreSQL went back, and has other blocks by now: `pagelogctl rescue {row.name}` shows and saves what is here"
+        return Decision(Action.RELEASE, why)
     if row.address is None or not own.is_open:
         return Decision(Action.FILL, f"generation {row.generation} begins at position {row.base}")
     if own.silent >= facts.ttl:
-        return Decision(Action.RELEASE, f"the service has not answered for {own.silent:.1f} s")
+        return Decision(Action.RELEASE, "the service has not answered for {} s", f"{own.silent:.1f}")
     if facts.ending:
         return Decision(Action.CLOSE, "the keeper ends")
     if row.paused:
@@ -192,7 +233,7 @@ def _of_the_holder(facts: Facts, row: Row, own: Own) -> Decision:
     if facts.successor is Stage.READY:
         return Decision(Action.SUCCEED, "the service of the next generation is ready")
     if own.share >= ROLL_AT:  # a wish may wait for ever
-        return Decision(Action.CLOSE, f"its list or its memory is {own.share:.0%} full")
+        return Decision(Action.CLOSE, _FULL, f"{own.share:.0%}")
     if row.wanted is not None:
         return _of_a_wish(facts, row)
     return _of_a_succession(facts, row, own)
@@ -204,7 +245,7 @@ def _of_a_succession(facts: Facts, row: Row, own: Own) -> Decision:
     if row.succeed:
         return Decision(Action.PREPARE, "a succession was asked for")
     if own.share >= facts.succeed_at:
-        return Decision(Action.PREPARE, f"its list or its memory is {own.share:.0%} full")
+        return Decision(Action.PREPARE, _FULL, f"{own.share:.0%}")
     if own.is_full and facts.succeed_at < 1:
         return Decision(Action.PREPARE, "its service had no memory for a writer")
     return Decision(Action.NOTHING, "serves")
@@ -216,30 +257,69 @@ def _of_a_wish(facts: Facts, row: Row) -> Decision:
     if reached < 0:
         return Decision(Action.NOTHING, f"serves; a switchover to {row.wanted} waits for its standby")
     if row.archived - reached > NEAR:
-        return Decision(Action.NOTHING, f"serves; the standby that is wanted lacks {row.archived - reached} blocks")
+        return Decision(Action.NOTHING, "serves; the standby that is wanted lacks {} blocks", str(row.archived - reached))
     return Decision(Action.CLOSE, f"a switchover to {row.wanted} was asked for")
 
 
 def _of_a_run_that_is_over(facts: Facts, row: Row, own: Own) -> Decision:
-    if row.generation > own.generation:
-        return Decision(Action.END, f"generation {row.generation} of {row.holder or 'nobody'} has begun")
-    if row.generation == own.generation and row.run is None:
+    if not own.alive:
+        return Decision(Action.END, f"the service of generation {own.generation} ended")
+    if facts.ending and own.is_known is None:
+        return Decision(Action.SET_ASIDE, "the keeper ends, and does not know whether PostgreSQL has this run")
+    if own.is_known is None:
+        return Decision(Action.LOOK_UP, f"PostgreSQL has another run than that of generation {own.generation}")
+    if is_only_copy(facts):
+        return _of_what_went_back(facts, row, own)
+    if row.run is None and row.generation == own.generation:
         return Decision(Action.END, f"generation {row.generation} was released")
+    return Decision(Action.END, f"generation {row.generation} of {row.holder or 'nobody'} has begun")
+
+
+def _of_what_went_back(facts: Facts, row: Row, own: Own) -> Decision:
+    """PostgreSQL does not know this run, or lacks what it once had of it. Where no other run of the database is alive it continues, in a
+    new generation, and is archived again; else it is set aside. So nothing is ended, and nothing stands still."""
+    back = "PostgreSQL went back"
     if facts.ending:
-        return Decision(Action.END, "the keeper ends")
-    return Decision(
-        Action.NOTHING, f"the referee knows nothing of generation {own.generation}: PostgreSQL went back, and the service is kept"
-    )
+        return Decision(Action.SET_ASIDE, f"the keeper ends; {back}, and the service is kept")
+    if own.is_apart:
+        return Decision(Action.SET_ASIDE, f"{back}, and has other blocks by now: `pagelogctl rescue {row.name}` shows and saves what is here")
+    if own.kind is Kind.HOLDER and row.generation >= own.generation:  # its clients may have been told that it is over
+        why = f"{back}, and another generation has begun since: `pagelogctl rescue {row.name}` shows and saves what is here"
+        return Decision(Action.SET_ASIDE, why)
+    if own.silent >= facts.ttl:
+        return Decision(Action.NOTHING, f"{back}; the service does not answer, and is kept")
+    if row.paused:
+        return Decision(Action.NOTHING, f"{back}; paused")
+    if row.run is not None and facts.rival is not Rival.GONE and facts.still < facts.ttl:
+        return _of_a_rival(facts, row, own, back)
+    if facts.further is not None and facts.still < facts.ttl:
+        return Decision(Action.NOTHING, f"{back}; keeper {facts.further} has more of it")
+    if facts.settles:
+        return Decision(Action.NOTHING, f"{back} just now: who has more of it may say so")
+    return Decision(Action.CONTINUE, f"{back}: what it lacks of this run is archived again")
+
+
+def _of_a_rival(facts: Facts, row: Row, own: Own, back: str) -> Decision:
+    if own.kind is Kind.STANDBY and row.holder != facts.me:
+        return Decision(Action.NOTHING, f"{back}; {row.holder} has it, and may archive again what is missing")
+    if facts.rival is Rival.LIVES or own.back_for >= PATIENCE * facts.ttl:
+        why = f"{back}, and {row.holder} has another run: `pagelogctl rescue {row.name}` shows and saves what is here"
+        return Decision(Action.SET_ASIDE, why)
+    return Decision(Action.NOTHING, f"{back}, to a run of {row.holder}: whether that is alive is not known yet")
 
 
 def _of_a_released(facts: Facts, row: Row) -> Decision:
     if row.paused:
         return Decision(Action.NOTHING, "nobody has it; paused")
+    if facts.further is not None and facts.still < facts.ttl:
+        return Decision(Action.NOTHING, f"nobody has it; PostgreSQL went back, and keeper {facts.further} has more of it")
+    if facts.settles:
+        return Decision(Action.NOTHING, "nobody has it; PostgreSQL went back just now: who has more of it may say so")
     if row.wanted not in (None, "*", facts.me) and facts.still < facts.ttl:
         return Decision(Action.NOTHING, f"nobody has it; {row.wanted} is wanted")
     if row.wanted == "*" and facts.let_go == row.generation and facts.still < facts.ttl:
         return Decision(Action.NOTHING, "nobody has it; any other keeper is wanted")
-    if facts.failed == row.generation and facts.still < facts.ttl:
+    if facts.failed == row.generation and facts.still < max(facts.ttl, facts.rest):
         return Decision(Action.NOTHING, "nobody has it; it could not be filled here just now")
     if facts.own is None and facts.others and row.wanted != facts.me and facts.still < facts.ttl / 2:
         return Decision(Action.NOTHING, f"nobody has it; {facts.others[0].keeper} has a standby")
@@ -249,11 +329,11 @@ def _of_a_released(facts: Facts, row: Row) -> Decision:
 def _of_another_holder(facts: Facts, row: Row) -> Decision:
     wait = facts.ttl * (1.5 if facts.own is None and facts.others else 1)
     if facts.still >= wait and not row.paused:
-        return Decision(Action.TAKE, f"the beat of {row.holder} has stood still for {facts.still:.1f} s")
+        return Decision(Action.TAKE, f"the beat of {row.holder} has stood still for {{}} s", f"{facts.still:.1f}")
     if facts.own is not None:
         if facts.own.share >= ANEW_AT:
-            return Decision(Action.END, f"the standby's list or memory is {facts.own.share:.0%} full: it is made anew")
-        return Decision(Action.NOTHING, f"follows {row.holder} at position {facts.own.reached}")
+            return Decision(Action.END, "the standby's list or memory is {} full: it is made anew", f"{facts.own.share:.0%}")
+        return Decision(Action.NOTHING, f"follows {row.holder} at position {{}}", str(facts.own.reached))
     if row.address is not None and (facts.stands_by or row.wanted in (facts.me, "*")):
         return Decision(Action.STAND_BY, f"{row.holder} has it")
     return Decision(Action.NOTHING, f"{row.holder} has it")
@@ -267,6 +347,8 @@ def state_of(facts: Facts, doing: Action = Action.NOTHING) -> State:
         return State.CLOSING
     if doing is Action.SUCCEED:
         return State.SUCCEEDING
+    if is_only_copy(facts):
+        return State.WENT_BACK
     if facts.own.kind is Kind.STANDBY:
         return State.TAKING if doing is Action.TAKE else State.STANDBY
     return State.TAKING if doing is Action.FILL or facts.row is None or facts.row.address is None else State.SERVING

@@ -12,7 +12,7 @@ _GAUGES = {
     "pagelog_keeper_archived": "Its archived position.",
     "pagelog_keeper_behind": "Blocks that its service has hardened and that are not archived.",
     "pagelog_keeper_waits": "Connections that wait for something to be durable.",
-    "pagelog_keeper_quick": "1 while its durable commits go the quick way, which one database of a keeper has at a time.",
+    "pagelog_keeper_quick": "1 while its durable commits go the quick way, which eight databases of a keeper have at a time.",
     "pagelog_keeper_standby": "1 while a standby is here that may take over, 0 while one should be. None where none should be.",
     "pagelog_keeper_list_share": "The share of its service's audit list that is full. At 0.5 the next generation is made, by default.",
     "pagelog_keeper_memory_share": "The share of `memory` that its service holds. None without that limit.",
@@ -21,7 +21,7 @@ _GAUGES = {
 
 class KeeperCollector(Collector):
     """The databases of a keeper, as `states` returns them, and what it knows of itself: how many `looks` PostgreSQL has confirmed,
-    and how many `synchronous_standbys` that has."""
+    how many `synchronous_standbys` that has, and how many services were `set_aside`."""
 
     def __init__(self, states: Callable[[], list[dict[str, Any]]], itself: Callable[[], Mapping[str, int]]) -> None:
         self._states, self._itself = states, itself
@@ -41,5 +41,10 @@ class KeeperCollector(Collector):
             "Synchronous standbys of PostgreSQL, by the last look. With 0 durable means one disk, or PostgreSQL did not answer.",
             value=itself["synchronous_standbys"],
         )
+        aside = GaugeMetricFamily(
+            "pagelog_keeper_set_aside",
+            "Services here that were set aside, since PostgreSQL lacks what they have. Only a person ends one.",
+            value=itself["set_aside"],
+        )
         looks = CounterMetricFamily("pagelog_keeper_looks", "Looks that PostgreSQL has confirmed: four in a ttl.", value=itself["looks"])
-        yield from (state, standbys, looks, *gauges.values())
+        yield from (state, standbys, aside, looks, *gauges.values())

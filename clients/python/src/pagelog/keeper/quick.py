@@ -39,7 +39,7 @@ class QuickReferee(Referee):
             return prepared
         try:
             made = Prepared(connection, statement)
-        except psycopg.Error as error:
+        except Exception as error:
             raise self._meaning(error) from error
         self._prepared[statement] = connection, made
         return made
@@ -61,7 +61,7 @@ class QuickReferee(Referee):
             statement = statement_of(batches)
             try:
                 self._prepared[statement] = self._connection, Prepared(self._connection, statement)
-            except psycopg.Error:
+            except Exception:
                 self.close()  # what was kept is kept
         return kept
 
@@ -70,17 +70,17 @@ class QuickReferee(Referee):
         self._warnings.clear()
         try:
             prepared.send(values_of(batches))
-        except psycopg.Error as error:
+        except Exception as error:
             raise self._meaning(error) from error
 
     def receive(self, prepared: Prepared) -> frozenset[int]:
         """What `keep` returns or raises, where `prepared` has an answer."""
         try:
-            rows = prepared.receive()
-        except psycopg.Error as error:
+            kept = frozenset(int(row[0] or 0) for row in prepared.receive())
+        except Exception as error:
             raise self._meaning(error) from error
         self._check_warnings()
-        return frozenset(int(row[0] or 0) for row in rows)
+        return kept
 
 
 class QuickSession(Session):
@@ -105,8 +105,13 @@ class QuickSession(Session):
         answered = loop.create_future()
 
         def move() -> None:
-            if not answered.done() and prepared.flush() and prepared.has_answer():
-                leave()  # at once: where the line is gone, another may have its number next
+            try:
+                if answered.done() or not prepared.flush() or not prepared.has_answer():
+                    return
+            except Exception as error:  # nobody expected it, and nobody would hear of it here
+                answered.set_exception(error)
+            leave()  # at once: where the line is gone, another may have its number next
+            if not answered.done():
                 answered.set_result(None)
 
         def leave() -> None:
@@ -115,14 +120,14 @@ class QuickSession(Session):
                     remove(line)
 
         timer = loop.call_later(self._deadline, self.cut)
-        loop.add_reader(line, move)
         try:
+            loop.add_reader(line, move)
             if not prepared.flush():
                 loop.add_writer(line, move)
             await answered
         finally:
             timer.cancel()
-            if answered.cancelled() or not answered.done():
+            if answered.cancelled() or not answered.done() or answered.exception() is not None:
                 leave()
                 self._quick.close()  # its answer would come to the next one
         kept = self._quick.receive(prepared)

@@ -12,6 +12,7 @@ struct way *way_new(const struct way_start *start) {
     }
     way->start = *start;
     way->name = strdup(start->name);
+    way->of = strdup(start->of);
     way->log = strdup(start->log);
     way->run = strdup(start->run);
     way->keep_one = strdup(start->keep_one);
@@ -20,7 +21,7 @@ struct way *way_new(const struct way_start *start) {
     way->pull = malloc(start->pull_len);
     way->control = eventfd(0, EFD_NONBLOCK | EFD_CLOEXEC);
     pthread_mutex_init(&way->lock, NULL);
-    if (way->name == NULL || way->log == NULL || way->run == NULL || way->keep_one == NULL || way->keep_block == NULL ||
+    if (way->name == NULL || way->of == NULL || way->log == NULL || way->run == NULL || way->keep_one == NULL || way->keep_block == NULL ||
         (way->flushed == NULL) != (start->flushed == NULL) || way->pull == NULL || way->control < 0) {
         way_free(way);
         return NULL;
@@ -49,6 +50,7 @@ void way_free(struct way *way) {
     }
     pthread_mutex_destroy(&way->lock);
     free(way->name);
+    free(way->of);
     free(way->log);
     free(way->run);
     free(way->keep_one);

@@ -34,6 +34,8 @@ enum way_end {
 struct way_start {
     const char *name;           /* of the database */
     uint64_t generation;
+    const char *of;             /* the database and the run, as a question names them behind the rest: "of=DATABASE/RUN" */
+    int takes_unnamed;          /* whether the generation's number alone, of an older client, says which run is meant */
     const char *log, *run;      /* its number at the referee, and the run */
     const char *keep_one, *keep_block; /* the statements of a batch and of one block, as they were prepared; `keep` has their values */
     const char *flushed;        /* the statement that tells how far this server and a synchronous standby have flushed; NULL: none is required */
@@ -67,9 +69,9 @@ struct way *way_new(const struct way_start *start);
 /* Goes on until it ends, and returns why. */
 enum way_end way_run(struct way *);
 
-/* From now on it reads a line, of which nothing is left unread, and over which `position` is waited for; 0: nothing.
- * False where it takes no line any more. */
-int way_add(struct way *, int descriptor, uint64_t position);
+/* From now on it reads a line, of which nothing is left unread, and over which `position` is waited for; 0: nothing. What is told over
+ * it says of what, if it `is_named`. False where it takes no line any more. */
+int way_add(struct way *, int descriptor, uint64_t position, int is_named);
 
 /* There may be new blocks, for somebody who waits elsewhere. */
 void way_kick(struct way *);

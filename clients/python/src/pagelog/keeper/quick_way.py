@@ -1,4 +1,4 @@
-"""The quick way of one database of a keeper: a thread in C that answers `durable`, pulls, and keeps, while all is as it should be."""
+"""The quick way of a database of a keeper: a thread in C that answers `durable`, pulls, and keeps, while all is as it should be."""
 
 from __future__ import annotations
 
@@ -14,14 +14,17 @@ from typing import Callable
 from psycopg import pq
 
 from pagelog.keeper import statements
+from pagelog.keeper.fate import Of
 from pagelog.keeper.lines import Line
 from pagelog.keeper.prepared import Prepared
 from pagelog.keeper.quick import QuickReferee
-from pagelog.keeper.referee import Away, Doubt, Refused
+from pagelog.keeper.refusal import line_of
 from pagelog.keeper.rows import Row
 from pagelog.keeper.served import Served
 from pagelog.keeper.waits import Waits
 
+MOST = 8
+"""Databases of a keeper that have it at a time: each takes a session of PostgreSQL."""
 _DIGEST, _LINE = 16, 1024
 _MOST = 1 << 63
 """Positions from here on are of no log."""
@@ -44,7 +47,8 @@ class End(IntEnum):
 
 class _Start(ctypes.Structure):
     _fields_ = [
-        ("name", ctypes.c_char_p), ("generation", ctypes.c_uint64), ("log", ctypes.c_char_p), ("run", ctypes.c_char_p),
+        ("name", ctypes.c_char_p), ("generation", ctypes.c_uint64), ("of", ctypes.c_char_p), ("takes_unnamed", ctypes.c_int),
+        ("log", ctypes.c_char_p), ("run", ctypes.c_char_p),
         ("keep_one", ctypes.c_char_p), ("keep_block", ctypes.c_char_p), ("flushed", ctypes.c_char_p), ("reached", ctypes.c_uint64),
         ("shift", ctypes.c_uint64), ("chain", ctypes.c_uint8 * _DIGEST),
         ("chain_len", ctypes.c_size_t), ("pull", ctypes.c_char_p), ("pull_len", ctypes.c_size_t), ("service", ctypes.c_int),
@@ -71,7 +75,8 @@ def _library() -> ctypes.CDLL | None:
     library.way_new.restype = ctypes.c_void_p
     library.way_reached.restype = ctypes.c_uint64
     for name, kinds in (
-        ("way_new", [ctypes.POINTER(_Start)]), ("way_run", [ctypes.c_void_p]), ("way_add", [ctypes.c_void_p, ctypes.c_int, ctypes.c_uint64]),
+        ("way_new", [ctypes.POINTER(_Start)]), ("way_run", [ctypes.c_void_p]),
+        ("way_add", [ctypes.c_void_p, ctypes.c_int, ctypes.c_uint64, ctypes.c_int]),
         ("way_kick", [ctypes.c_void_p]), ("way_stop", [ctypes.c_void_p]), ("way_free", [ctypes.c_void_p]),
         ("way_reached", [ctypes.c_void_p, ctypes.c_uint8 * _DIGEST, ctypes.POINTER(ctypes.c_size_t)]),
         ("way_take", [ctypes.c_void_p, ctypes.POINTER(_TakenLine)]),
@@ -80,22 +85,50 @@ def _library() -> ctypes.CDLL | None:
     return library
 
 
-class QuickWays:
-    """The one thread of a keeper, and its connection to PostgreSQL: for one database at a time, which has it as long as it is asked."""
+class QuickPool:
+    """Those of a keeper, each for one database at a time. They connect one after the other, as they are asked for."""
 
-    def __init__(self, referee: QuickReferee, *, idle: float, deadline: float, confirms: bool = False) -> None:
+    def __init__(self, make: Callable[[], QuickWays], most: int = MOST) -> None:
+        self.ways = [make() for _ in range(most)]
+
+    @property
+    def is_there(self) -> bool:
+        """Whether they were built."""
+        return self.ways[0].is_there
+
+    async def way_of(self, row: Row, served: Served, told: Callable[[], None]) -> QuickWay | None:
+        """One for this database, as of the first of them that is connected; None where others have them all, or none is to be had yet."""
+        free = [each for each in self.ways if not each.is_taken]
+        chosen = next((each for each in free if each.statements), None)
+        if chosen is None and not any(each.is_connecting for each in free):
+            chosen = next((each for each in free if each.may_connect), None)
+        return None if chosen is None else await chosen.way_of(row, served, told)
+
+    async def close(self) -> None:
+        """Cuts off what their threads do, and ends them."""
+        await asyncio.gather(*(each.close() for each in self.ways))
+
+
+class QuickWays:
+    """A thread, and its connection to PostgreSQL: for one database at a time, which has it as long as it is asked."""
+
+    def __init__(
+        self, referee: QuickReferee, *, idle: float, deadline: float, confirms: bool = False, say: Callable[[str], None] = lambda _: None
+    ) -> None:
         """Without a question for `idle` seconds a database gives it back. `deadline` is for a statement, in seconds. If it `confirms`,
-        nothing is told before a synchronous standby is known to have it."""
+        nothing is told before a synchronous standby is known to have it. Why it is not to be had it will `say`."""
         self._library = _library()
         self._referee = referee
         self.confirms = confirms
         self.idle, self.deadline = idle, deadline
+        self._say, self._said = say, ""
         self._thread = ThreadPoolExecutor(1)
         self._at_work: asyncio.Future[object] | None = None
         """What the thread does: it connects, or has a database's way."""
         self.statements: tuple[Prepared, ...] = ()
         """Of a batch, of one block, and of how far a standby is, while it is connected."""
-        self._is_taken = False
+        self.is_taken = False
+        """Whether a database has it."""
         self._not_before = 0.0
         self._closing: asyncio.TimerHandle | None = None
 
@@ -103,6 +136,16 @@ class QuickWays:
     def is_there(self) -> bool:
         """Whether it was built."""
         return self._library is not None
+
+    @property
+    def is_connecting(self) -> bool:
+        """Whether it may be connected soon."""
+        return self._at_work is not None and not self.statements
+
+    @property
+    def may_connect(self) -> bool:
+        """Whether it can begin to: after a failure not at once again."""
+        return self._at_work is None and time.monotonic() >= self._not_before
 
     @property
     def names(self) -> list[bytes | None]:
@@ -113,9 +156,9 @@ class QuickWays:
     async def way_of(self, row: Row, served: Served, told: Callable[[], None]) -> QuickWay | None:
         """One for this database; None where another has it, or it is not to be had yet. `told` is called where there is `news` of it.
         Who gets one has to `run` it."""
-        if self._library is None or self._is_taken or not self._is_connected():
+        if self._library is None or self.is_taken or not self._is_connected():
             return None
-        self._is_taken = True
+        self.is_taken = True
         way = None
         try:
             way = QuickWay(self, self._library, row, served, await served.pulling_line(), told)
@@ -127,8 +170,8 @@ class QuickWays:
                 self.give_back(is_clean=True)
 
     def _is_connected(self) -> bool:
-        """Whether it is; if not, it connects beside all else, and after a failure not at once again."""
-        if self._at_work is None and not self.statements and time.monotonic() >= self._not_before:
+        """Whether it is; if not, it connects beside all else."""
+        if not self.statements and self.may_connect:
             self._at_work = asyncio.get_running_loop().run_in_executor(self._thread, self._connect)
             self._at_work.add_done_callback(self._connected)
             asyncio.get_running_loop().call_later(self.deadline, self._cut, self._at_work)
@@ -142,17 +185,25 @@ class QuickWays:
 
     def _connect(self) -> tuple[Prepared, ...]:
         """In the thread."""
-        try:
-            return tuple(map(self._referee.prepare_statement, _VALUES))
-        except (Away, Doubt, Refused):
-            return ()
+        return tuple(map(self._referee.prepare_statement, _VALUES))
 
     def _connected(self, made: asyncio.Future[object]) -> None:
         self._at_work = None
-        self.statements = () if made.cancelled() else made.result()  # type: ignore[assignment]
+        error = None if made.cancelled() else made.exception()
+        self.statements = () if made.cancelled() or error is not None else made.result()  # type: ignore[assignment]
+        if isinstance(error, Exception):
+            self._failed(error)
         assert all(each.names == names for each, names in zip(self.statements, _VALUES.values()))
         self._not_before = time.monotonic() + self.idle
         self._close_later()
+
+    def _failed(self, error: Exception) -> None:
+        """Whatever it was: what is left of it in the connection nobody knows."""
+        self._referee.close()
+        sentence = line_of(error)
+        if sentence != self._said:
+            self._say(f"not to be had: {sentence}")
+        self._said = sentence
 
     def run(self, way: Callable[[], int], ended: Callable[[], None]) -> asyncio.Future[int]:
         """Runs it in the thread. `ended` is called then, before who waits for it goes on."""
@@ -164,7 +215,7 @@ class QuickWays:
     def give_back(self, *, is_clean: bool) -> None:
         """A database needs it no more. Where something of a statement may be left in the connection, that is closed, and the next one tries
         the second host first."""
-        self._is_taken, self._at_work = False, None
+        self.is_taken, self._at_work = False, None
         if is_clean:
             self._close_later()
         else:
@@ -177,7 +228,7 @@ class QuickWays:
         self._closing = asyncio.get_running_loop().call_later(self.idle, self._close)
 
     def _close(self) -> None:
-        if not self._is_taken and self._at_work is None:
+        if not self.is_taken and self._at_work is None:
             self.statements = ()
             self._referee.close()
 
@@ -201,7 +252,7 @@ class QuickWay:
         """`line` is a connection to the service, and a pull as a frame. Raises `MemoryError` or `OSError`."""
         self._ways, self._library, self._told = ways, library, told
         self._service, pull = line
-        self._name, self._generation = row.name, served.generation
+        self._name, self._generation, self._of = row.name, served.generation, Of(row.identity, served.run)
         try:
             self._news, self._to_news = os.pipe2(os.O_NONBLOCK | os.O_CLOEXEC)
         except OSError:
@@ -212,7 +263,8 @@ class QuickWay:
         self.last = served.reached, served.chain
         """How far it came, once it has ended."""
         start = _Start(
-            row.name.encode(), served.generation, str(row.id).encode(), served.run.encode(), *ways.names, served.reached, served.shift,
+            row.name.encode(), served.generation, f"of={self._of}".encode(), served.is_told_by_number, str(row.id).encode(),
+            served.run.encode(), *ways.names, served.reached, served.shift,
             (ctypes.c_uint8 * _DIGEST)(*served.chain), len(served.chain), pull, len(pull), self._service,
             ways.statements[0].connection, *(round(1000 * each) for each in (served.timeout, ways.deadline, ways.idle)), self._to_news,
         )  # fmt: skip
@@ -238,7 +290,7 @@ class QuickWay:
             if len(positions) == 1 and positions[0] < _MOST and (descriptor := line.lend()) is not None:
                 waits.gone(line)
                 self._lent[descriptor] = line
-                if not self._library.way_add(self._way, descriptor, positions[0]):
+                if not self._library.way_add(self._way, descriptor, positions[0], line.version > 1):
                     self._take_back(descriptor, positions[0], b"")
         return not len(waits)
 
@@ -278,9 +330,11 @@ class QuickWay:
         """A line is the keeper's again. Where somebody waits over it, the quick way has no answer to that, and ends."""
         if position:
             self.stop()
-        question = f"durable {self._name} {self._generation} {position}\n".encode() if position else b""
+        line = self._lent.pop(descriptor)
+        of = f" of={self._of}" if line.version > 1 else ""
+        question = f"durable {self._name} {self._generation} {position}{of}\n".encode() if position else b""
         os.close(descriptor)
-        self._lent.pop(descriptor).take_back(question + data)
+        line.take_back(question + data)
 
     def _end(self, ended: asyncio.Future[int]) -> None:
         asyncio.get_running_loop().remove_reader(self._news)

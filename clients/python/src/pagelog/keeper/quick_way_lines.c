@@ -8,13 +8,14 @@
 
 /* What other threads call. */
 
-int way_add(struct way *way, int descriptor, uint64_t position) {
+int way_add(struct way *way, int descriptor, uint64_t position, int is_named) {
     struct line *line = calloc(1, sizeof *line);
     if (line == NULL) {
         return 0;
     }
     line->descriptor = descriptor;
     line->position = position;
+    line->is_named = is_named != 0;
     pthread_mutex_lock(&way->lock);
     bool takes = !way->ended;
     if (takes) {
@@ -119,8 +120,9 @@ void give_back(struct way *way, struct line **place) {
 
 /* Says how far all is durable. False where the client takes no answer: then it is the keeper's, and so is its question. */
 static bool tell(struct way *way, struct line *line) {
-    char answer[WAY_LINE + 2 * NUMBER];
-    int len = snprintf(answer, sizeof answer, "durable %s %" PRIu64 " %" PRIu64 "\n", way->name, way->start.generation, way->reached);
+    char answer[2 * WAY_LINE + 2 * NUMBER];
+    int len = snprintf(answer, sizeof answer, "durable %s %" PRIu64 " %" PRIu64 "%s%s\n", way->name, way->start.generation, way->reached,
+                       line->is_named ? " " : "", line->is_named ? way->of : "");
     ssize_t sent = send(line->descriptor, answer, (size_t)len, MSG_DONTWAIT | MSG_NOSIGNAL);
     if (sent == len) {
         line->position = 0;
@@ -167,7 +169,7 @@ static bool passes(const char **text, const char *word) {
     return true;
 }
 
-/* Answers one line, which ends with a zero. False where it is nothing for the quick way. */
+/* Answers one line, which ends with a zero. False where it is nothing for the quick way, as what is asked of another run. */
 static bool answer(struct way *way, struct line *line, const char *text) {
     uint64_t generation, position = 0;
     bool rings = passes(&text, "ring");
@@ -177,7 +179,8 @@ static bool answer(struct way *way, struct line *line, const char *text) {
     if (!rings && (!passes(&text, "") || !read_number(&text, &position))) {
         return false;
     }
-    if (*text != 0 || generation != way->start.generation || (!rings && (position == 0 || line->position != 0))) {
+    bool is_of_this = *text == ' ' && strcmp(text + 1, way->of) == 0, is_unnamed = *text == 0 && way->start.takes_unnamed != 0;
+    if ((!is_of_this && !is_unnamed) || generation != way->start.generation || (!rings && (position == 0 || line->position != 0))) {
         return false;
     }
     way->asked_at = now_ms();

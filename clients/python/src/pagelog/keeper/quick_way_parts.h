@@ -22,6 +22,7 @@ struct line {
     struct line *next;
     int descriptor;
     uint64_t position;
+    bool is_named;                      /* its client knows `of` */
     bool asked;                         /* it has waited since before the pull that is on its way */
     size_t len;
     char data[WAY_LINE];
@@ -39,7 +40,7 @@ struct batch {
 
 struct way {
     struct way_start start;
-    char *name, *log, *run, *keep_one, *keep_block, *flushed;
+    char *name, *of, *log, *run, *keep_one, *keep_block, *flushed;
     uint8_t *pull;
     int control;                        /* an eventfd: wakes `way_run` */
 

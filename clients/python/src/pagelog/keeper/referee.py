@@ -21,9 +21,10 @@ from pagelog.errors import PagelogError
 from pagelog.keeper import statements
 from pagelog.keeper.batches import array_of, statement_of, values_of
 from pagelog.keeper.hosts import shut_down, turn_hosts
+from pagelog.keeper.fate import Fate, FateRow, Of, fate_of_rows
 from pagelog.keeper.refusal import is_refusal, line_of
-from pagelog.keeper.rows import Batch, Kept, Look, Row, Where, look_of
-from pagelog.keeper.schema import CHANNEL, FORMAT, script
+from pagelog.keeper.rows import Batch, Kept, Look, Named, Origin, Row, Where, look_of
+from pagelog.keeper.schema import CHANNEL, FORMAT, FOUND, NUMBERED, VERSION, script
 
 PIECE = 2048
 """How many blocks are read from the archive at once."""
@@ -61,6 +62,10 @@ class Superseded(KeeperError):
     """Another keeper has this keeper's name by now."""
 
 
+class NameInUse(KeeperError):
+    """A keeper that lives has the name."""
+
+
 class BrokenArchive(KeeperError):
     """A block of the archive is missing or damaged; or all of them together are not those that were archived."""
 
@@ -77,6 +82,18 @@ def plain_url(url: str) -> str:
     return re.sub(r"^postgresql\+\w+:", "postgresql:", url)
 
 
+def options_of(url: str) -> dict[str, Any]:
+    """What a URL says, by libpq's names. Raises `KeeperError`, in whose text nothing of it is: a part may be one of the password."""
+    try:
+        options: dict[str, Any] = conninfo_to_dict(plain_url(url))
+    except psycopg.Error:
+        options = {"host": "@"}
+    host = re.sub(r"(^|,)@/", r"\1/", str(options.get("host", "")))  # a socket without a file
+    if re.search(r"[@#?\s]", host) or re.search(r"[^0-9,]", str(options.get("port", ""))):
+        raise KeeperError("the url of PostgreSQL cannot be read: in a password write % as %25, @ as %40, # as %23, / as %2F, : as %3A, ? as %3F")
+    return options
+
+
 class Referee:
     """One connection to PostgreSQL, made when it is needed. It is for one thread at a time, but for `cut`."""
 
@@ -89,7 +106,7 @@ class Referee:
         """
         self.me = me
         self.run = run
-        self._options = conninfo_to_dict(plain_url(url))
+        self._options = options_of(url)
         self._patience = patience
         self._listens = listens
         self._requires_standby = requires_standby
@@ -97,8 +114,8 @@ class Referee:
         """What was registered, and the last beat that is known of this life."""
         self._connection: psycopg.Connection[Any] | None = None
         self._warnings: list[str] = []
-        self.notified: list[str] = []
-        """The notifications that came since this list was emptied."""
+        self.notified = False
+        """Whether a notification has come. What it says is not read: whoever may connect to the database can send one."""
 
     # The connection.
 
@@ -132,7 +149,7 @@ class Referee:
         while self._connection is None or self._connection.closed:
             try:
                 self._connect()
-            except psycopg.Error as error:
+            except Exception as error:  # also what nobody expected: a half-made connection is of no use
                 self.close()
                 self.turn_hosts()  # psycopg gives up at a host that is silent, as of a machine that is off
                 if (left := left - 1) == 0:
@@ -145,7 +162,7 @@ class Referee:
                                  "application_name": _session_name(self.me), **self._options}  # fmt: skip
         made = self._connection = psycopg.connect(make_conninfo(**words), autocommit=True)  # from here on it can be cut
         made.add_notice_handler(self._take_notice)
-        made.add_notify_handler(lambda notify: self.notified.append(notify.payload))
+        made.pgconn.notify_handler = self._take_notification  # psycopg's own would raise where the text cannot be decoded
         made.execute(statements.WAITS_FOR_STANDBY)
         if self._listens:
             made.execute(f"LISTEN {CHANNEL}")
@@ -157,8 +174,11 @@ class Referee:
                 self._connection.pgconn.consume_input()
             except psycopg.Error:
                 return  # the next statement says so
-            while (found := self._connection.pgconn.notifies()) is not None:
-                self.notified.append(found.extra.decode(errors="replace"))
+            while self._connection.pgconn.notifies() is not None:
+                self.notified = True
+
+    def _take_notification(self, _: object) -> None:
+        self.notified = True
 
     def _take_notice(self, notice: psycopg.errors.Diagnostic) -> None:
         """A commit whose wait for the standby was cancelled succeeds, with a warning."""
@@ -171,7 +191,7 @@ class Referee:
         self._warnings.clear()
         try:
             rows = connection.execute(statement, values or None, binary=binary).fetchall()
-        except psycopg.Error as error:
+        except Exception as error:
             raise self._meaning(error) from error
         self._check_warnings()
         if self._requires_standby and rows:  # else nothing was changed
@@ -187,9 +207,10 @@ class Referee:
         finally:
             hangs.cancel()
 
-    def _meaning(self, error: psycopg.Error) -> Refused | Doubt:
-        """What is to be raised for an error. After a doubt, or a lock that is not to be had, the next statement has another connection."""
-        refuses = is_refusal(error) and self.descriptor is not None
+    def _meaning(self, error: Exception) -> Refused | Doubt:
+        """What is to be raised for an error. After a doubt, or a lock that is not to be had, the next statement has another connection:
+        of an error that nobody expected it may have a part of the statement still."""
+        refuses = isinstance(error, psycopg.Error) and is_refusal(error) and self.descriptor is not None
         if not refuses or isinstance(error, psycopg.errors.LockNotAvailable):
             # An old primary that goes on without its standby holds the locks of what waits for that, for ever.
             self.close()
@@ -208,7 +229,7 @@ class Referee:
         while True:
             try:
                 [[flushed, reached]] = connection.execute(statements.REACHED).fetchall()
-            except psycopg.Error as error:
+            except Exception as error:
                 self.close()
                 self.turn_hosts()
                 raise Doubt(f"PostgreSQL: {line_of(error)}") from error
@@ -222,14 +243,34 @@ class Referee:
     # What is there.
 
     def prepare(self) -> None:
-        """Makes the tables that are not there. Where all are, no lock is taken, nor is a right to make any needed."""
-        if self._ask("SELECT 1 FROM pg_attribute WHERE attrelid = to_regclass('pagelog_standby') AND attname = 'images'"):
+        """Brings the tables to this version, step by step. Where they have it, or a later one, no lock is taken, nor is a right to make
+        any needed."""
+        version = self._version()
+        if version >= VERSION:
             return
         try:
-            self._connected().execute(script())
-        except psycopg.Error as error:
+            self._connected().execute(script(version))
+        except KeeperError:
+            raise
+        except Exception as error:
             self.close()
-            raise Refused(f"PostgreSQL: {line_of(error)}") from error
+            may = not isinstance(error, psycopg.errors.InsufficientPrivilege)
+            raise Refused(f"PostgreSQL: {line_of(error)}" if may else f"{_older_tables(version)}; {line_of(error)}") from error
+
+    def _version(self) -> int:
+        """That of the tables; 0 where there are none."""
+        [[version]] = self._ask(FOUND)
+        return int(version if version >= 0 else self._ask(NUMBERED)[0][0])
+
+    def claim(self, lines: str, over: Sequence[str] = (), seen: Named | None = None) -> Named | None:
+        """Takes the keeper's name for this life of it: where nobody has it, or a life that is `over` or this one, or one that is as it
+        was `seen`. Else returns who has it."""
+        values = {"me": self.me, "run": self.run, "lines": lines, "over": [*over, self.run], "seen_run": None if seen is None else seen.run,
+                  "seen_beat": None if seen is None else seen.beat}  # fmt: skip
+        if found := self._ask(statements.CLAIM, values):
+            self._lines, self._beat = lines, found[0][0]
+            return None
+        return next((Named(*row) for row in self._ask(statements.NAMED, {"me": self.me})), Named("", "", -1))
 
     def register(self, lines: str, most: int = (1 << 63) - 1) -> None:
         """Takes the keeper's name for this life of it, from one whose beat is at most that. An earlier one that still runs finds itself
@@ -260,7 +301,12 @@ class Referee:
 
     def everything(self) -> Look:
         """What a look returns, for who is no keeper."""
-        [[_, *found]] = self._ask(statements.LOOK, {"me": "", "run": "", "report": None, "logs": "{}", "reached": "{}", "beat": 0})
+        try:
+            [[_, *found]] = self._ask(statements.LOOK, {"me": "", "run": "", "report": None, "logs": "{}", "reached": "{}", "beat": 0})
+        except Refused as error:
+            if isinstance(error.__cause__, (psycopg.errors.UndefinedColumn, psycopg.errors.UndefinedTable)):
+                raise Refused(_older_tables(self._version())) from error
+            raise
         return look_of(*found)
 
     def table(self, log: int) -> tuple[str, bytes]:
@@ -272,14 +318,14 @@ class Referee:
 
     # Who holds a database.
 
-    def take(self, seen: Row, run: str, beat: int | None = None, where: Where = Where()) -> Kept | None:
-        """Makes this keeper the holder, in a new generation of this run, if all is as it was seen.
+    def take(self, seen: Row, run: str, beat: int | None = None, where: Where = Where(), least: int = 0) -> Kept | None:
+        """Makes this keeper the holder, in a new generation of this run, if all is as it was seen. Its number is `least` or above.
 
         `beat` is that of the holder, as it was seen. `where` publishes a service that has all that was seen to be archived. Returns
         what is archived and will stay so; None where it has changed.
         """
         values = {"id": seen.id, "generation": seen.generation, "archived": seen.archived, "seen_run": seen.run, "run": run,
-                  "me": self.me, "beat": beat, **vars(where)}  # fmt: skip
+                  "me": self.me, "beat": beat, "least": least, **vars(where)}  # fmt: skip
         try:
             found = self._ask(statements.TAKE, values)
         except Refused as error:
@@ -288,11 +334,42 @@ class Referee:
             raise
         return Kept(found[0][1], bytes(found[0][2]), found[0][0]) if found else None
 
+    def knows(self, log: int, run: str) -> bool | None:
+        """Whether PostgreSQL knows a run as a generation of this database. None where it does not know this life of the keeper, as an old
+        leader does not."""
+        found = self._ask(statements.KNOWS, {"me": self.me, "life": self.run, "id": log, "run": run})
+        return bool(found[0][0]) if found else None
+
+    def origin(self, run: str, *, has_name: bool = True) -> Origin | None:
+        """What PostgreSQL knows of a run, which is no holder's of today; nothing where it does not know this life of the keeper, if that
+        `has_name`."""
+        found = self._ask(statements.ORIGIN, {"me": self.me, "life": self.run, "run": run, "has_name": has_name})
+        return Origin(int(found[0][0]), bool(found[0][1]), None if found[0][2] is None else int(found[0][2])) if found else None
+
+    def chain_of_base(self, log: int, base: int) -> bytes | None:
+        """The digest of all blocks up to a base, if PostgreSQL has that."""
+        found = self._ask("SELECT chain FROM pagelog_base WHERE log = %s AND base = %s", (log, base))
+        return bytes(found[0][0]) if found else None
+
+    def continue_run(self, seen: Row, run: str, beat: int | None, where: Where, least: int, start: tuple[int, bytes]) -> Kept | None:
+        """As `take`, with a service that has more than is archived, and is archived again from `start` on, a position with its digest.
+        Its generation is `least` at least."""
+        values = {"id": seen.id, "generation": seen.generation, "archived": seen.archived, "chain": seen.chain, "seen_run": seen.run,
+                  "run": run, "me": self.me, "beat": beat, "least": least, "address": where.address, "shift": where.shift,
+                  "images": where.images, "start": start[0], "start_chain": start[1]}  # fmt: skip
+        found = self._ask(statements.CONTINUE, values)
+        return Kept(found[0][1], bytes(found[0][2]), found[0][0]) if found else None
+
     def _end_sessions(self, keeper: str | None) -> None:
         """Ends the sessions of a keeper that stands still with a row locked, as between the two last messages of a statement."""
         if keeper is not None and keeper != self.me:
             self._ask("SELECT pg_terminate_backend(pid) FROM pg_stat_activity WHERE application_name = %s AND usename = current_user",
                       (_session_name(keeper),))  # fmt: skip
+
+    def raise_numbers(self, database: str, highest: int, doubted: int) -> None:
+        """PostgreSQL went back: the next generation gets a number above the highest, and those up to `doubted` may be of two runs."""
+        self._ask("UPDATE pagelog_log SET next_generation = GREATEST(next_generation, %s + 2), doubted = GREATEST(doubted, %s) "
+                  "WHERE identity = %s::uuid RETURNING id", (highest, doubted, database))  # fmt: skip
 
     def publish(self, log: int, run: str, where: Where) -> bool:
         """Tells everyone where it is. False where the run holds the database no more."""
@@ -340,6 +417,11 @@ class Referee:
         found = self._ask(statements.FATE, {"me": self.me, "name": name, "generation": generation})
         return None if not found or found[0][0] is None else int(found[0][0])
 
+    def fate_of(self, name: str, generation: int, of: Of) -> Fate:
+        """The same of this very run of this very database, also where that has the name no more."""
+        values = {"me": self.me, "name": name, "generation": generation, "database": of.database, "run": of.run}
+        return fate_of_rows([FateRow(*row) for row in self._ask(statements.FATE_OF, values)], generation, of)
+
     def blocks(self, log: int, first: int, last: int) -> Iterator[list[bytes]]:
         """The archived blocks from `first` to `last`, in pieces, each block checked. Raises `BrokenArchive`.
 
@@ -371,13 +453,29 @@ class Referee:
     # What a person asks for.
 
     def create(self, name: str, table: str, secret: bytes) -> bool:
-        """A new named database with this table. False where there is one of this name."""
+        """A new named database with this table. False where there is one of this name. Its generations go on above those of the dropped
+        ones of its name, behind a gap: a number is never given twice, and to a client of version 1 the next one says that its own run has
+        ended there."""
         made = self._ask(
-            "WITH made AS (INSERT INTO pagelog_log (name, format, archived, epoch) VALUES (%s, %s, 0, 1) "
+            "WITH made AS (INSERT INTO pagelog_log (name, format, archived, epoch, next_generation) VALUES (%s, %s, 0, 1, "
+            "COALESCE((SELECT max(d.next_generation) + 1 FROM pagelog_log d WHERE d.dropped AND d.name = %s || '!' || d.id), 1)) "
             "ON CONFLICT (name) DO NOTHING RETURNING id, name) "
             "INSERT INTO pagelog_table (log, text, secret) SELECT id, %s, %s FROM made "
-            f"RETURNING log, pg_notify('{CHANNEL}', '')", (name, FORMAT, table, secret))  # fmt: skip
+            f"RETURNING log, pg_notify('{CHANNEL}', '')", (name, FORMAT, name, table, secret))  # fmt: skip
         return bool(made)
+
+    def keep_strangers_out(self) -> bool:
+        """Takes from PUBLIC the right to connect to the database: who has it can send notifications. False where this role may not, or
+        where another one has anything there, and may need that right."""
+        [[is_open, may, are_others]] = self._ask(statements.STRANGERS)
+        if not is_open or not may or are_others:
+            return not is_open
+        [[name]] = self._ask("SELECT quote_ident(current_database())")
+        try:
+            self._connected().execute(f"REVOKE CONNECT ON DATABASE {name} FROM PUBLIC")
+        except psycopg.Error as error:
+            raise self._meaning(error) from error
+        return True
 
     def drop(self, name: str) -> bool:
         """Ends a named database for good: its keeper ends its service, and its table, blocks and images are deleted. One that was broken
@@ -410,6 +508,11 @@ class Referee:
             "WITH told AS (UPDATE pagelog_log SET wanted = %s WHERE name = %s AND format = %s AND NOT dropped "
             "AND wanted IS NOT DISTINCT FROM COALESCE(%s::text, wanted) RETURNING id) "
             f"SELECT id, pg_notify('{CHANNEL}', '') FROM told", (keeper, name, FORMAT, instead_of)))  # fmt: skip
+
+
+def _older_tables(version: int) -> str:
+    return (f"PostgreSQL has the tables of version {version}, and {VERSION} is needed: run `pagelogctl create` or `keep` of this version once "
+            "as the role that owns them")  # fmt: skip
 
 
 def _session_name(keeper: str) -> str:

@@ -13,5 +13,6 @@ def is_refusal(error: psycopg.Error) -> bool:
 
 
 def line_of(error: Exception) -> str:
-    """Its first line."""
-    return (str(error).strip() or type(error).__name__).splitlines()[0]
+    """Its first line; with its type, where it is one of Python's own, which nobody expected."""
+    text = (str(error).strip() or type(error).__name__).splitlines()[0]
+    return f"{type(error).__name__}: {text}" if type(error).__module__ == "builtins" else text

@@ -2,7 +2,6 @@
 
 from __future__ import annotations
 
-import re
 from dataclasses import dataclass, field
 from typing import TYPE_CHECKING, Any, Mapping
 
@@ -34,6 +33,18 @@ class Row:
     read_only: bool = False
     paused: bool = False
     dropped: bool = False
+    identity: str = ""
+    """What no other database ever has, also one of the same name."""
+    next_generation: int = 1
+    ancestor: str | None = None
+    """Of a copy the name of the database that it was made of, which SQLite has written into its pages."""
+    doubted: int = 0
+    """The numbers of generations up to it may have been given to two runs, as PostgreSQL went back."""
+
+    @property
+    def plain_name(self) -> str:
+        """The name that it has, or had until it was dropped."""
+        return self.name.removesuffix(f"!{self.id}")
 
     @classmethod
     def of(cls, found: Mapping[str, Any]) -> Row:
@@ -61,6 +72,20 @@ class KeeperRow:
     lines: str
     beat: int
     report: Mapping[str, Any] = field(default_factory=dict)
+
+
+@dataclass(frozen=True)
+class Named:
+    """The life of a keeper that has a name, and when it took that, by PostgreSQL's clock; an older program does not say when."""
+
+    run: str
+    lines: str
+    beat: int
+    began: str | None = None
+
+    def __str__(self) -> str:
+        """As a newcomer is told."""
+        return f"the keeper at {self.lines} has it" + (f" since {self.began}" if self.began else "")
 
 
 @dataclass(frozen=True)
@@ -149,6 +174,15 @@ class Batch:
 
 
 @dataclass(frozen=True)
+class Origin:
+    """Of a run that PostgreSQL knows: its database, whether that was dropped, and where its generation ended, if it has."""
+
+    log: int
+    dropped: bool
+    ended: int | None
+
+
+@dataclass(frozen=True)
 class Kept:
     """The archived position of a run, and the digest of all blocks up to it. `is_told` is of a batch whose own statement said so."""
 
@@ -168,8 +202,3 @@ def look_of(keepers: list[Any], rows: list[Any], standbys: list[Any], names: str
     return Look(tuple(map(Row.of, rows)), tuple(KeeperRow(**found) for found in keepers),
                 tuple(StandbyRow(**found) for found in standbys), Synchronous(names, count))  # fmt: skip
 
-
-def released_of(notified: str) -> tuple[str, tuple[int, int, bytes]]:
-    """The name, and the generation, the archived position and the digest of a release, by what it has notified; of another one no name."""
-    found = re.fullmatch(r"(\S+) (\d+) (\d+) ((?:[0-9a-f]{2})*)", notified)
-    return ("", (0, 0, b"")) if found is None else (found[1], (int(found[2]), int(found[3]), bytes.fromhex(found[4])))

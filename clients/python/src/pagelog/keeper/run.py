@@ -9,9 +9,9 @@ import select
 import signal
 import subprocess
 from contextlib import suppress
-from dataclasses import dataclass, replace
+from dataclasses import dataclass, field, fields, replace
 from pathlib import Path
-from typing import Any, Iterator
+from typing import Any, Iterator, Mapping
 
 from pagelog.errors import PagelogError
 from pagelog.keeper.table import KEEPER
@@ -51,11 +51,34 @@ class Facts:
     """Whether it may be the only copy of something, so that no keeper ends it; it has positions as its run had them."""
     shift: int = 0
     images: int = 0
+    others: Mapping[str, Any] = field(default_factory=dict)
+    """What a later keeper has noted, and this one does not know: it is kept."""
+
+    @classmethod
+    def read(cls, text: str) -> Facts:
+        """Of the text of its file. Raises `ValueError` or `TypeError`."""
+        found = json.loads(text)
+        known = {each.name for each in fields(cls)} - {"others"}
+        return cls(**{key: found[key] for key in found if key in known}, others={key: found[key] for key in found if key not in known})
+
+    @property
+    def text(self) -> str:
+        """That of its file."""
+        known = {key: value for key, value in vars(self).items() if key != "others"}
+        return json.dumps({**self.others, **known})
 
     @property
     def file_name(self) -> str:
         """The name of its file."""
-        return f"{self.name}.{self.run}.json"
+        return _file_of(self.name, self.run, "json")
+
+
+@dataclass(frozen=True)
+class Seen:
+    """What PostgreSQL has had of a run: the number of its generation, and up to where it was archived, or somewhat less."""
+
+    generation: int = 0
+    archived: int = 0
 
 
 def new_run() -> str:
@@ -90,7 +113,7 @@ class Run:
 
         It waits for its table until it is noted, and ends where its keeper is killed before: nobody would know of it.
         """
-        said = program.folder / f"{name}.{run}.said"
+        said = program.folder / _file_of(name, run, "said")
         words = [program.path, "serve", "--listen", listen or f"{program.host}:0", "--table", "/dev/stdin", "--primary", str(KEEPER),
                  "--dbs", "1", "--workers", str(WORKERS), "--connections", str((1 << 32) - 1), "--audit", str(program.audit),
                  "--idle-polls", "0"]  # fmt: skip
@@ -98,7 +121,8 @@ class Run:
         descriptor = None
         try:
             with said.open("wb") as errors:
-                child = subprocess.Popen(words, stdin=subprocess.PIPE, stdout=subprocess.PIPE, stderr=errors, start_new_session=True)
+                child = subprocess.Popen(words, stdin=subprocess.PIPE, stdout=subprocess.PIPE, stderr=errors, start_new_session=True,
+                                         env=_environment())  # fmt: skip
             descriptor = os.pidfd_open(child.pid)
             made = cls(program.folder, _facts_of(name, run, child.pid), descriptor, child)
             made._note()
@@ -121,20 +145,43 @@ class Run:
 
     @classmethod
     def adopt(cls, folder: Path, name: str, run: str) -> Run | None:
-        """The service of this run, if its process is still there."""
-        return next((cls(folder, facts, descriptor) for facts, descriptor in _noted(folder)
-                     if _is_wanted(facts, descriptor, name, run)), None)  # fmt: skip
+        """The service of this run, if its process is still there. No other note is read: a keeper has thousands."""
+        found = _noted_in(folder / _file_of(name, run, "json"))
+        if found is None:
+            return None
+        facts, descriptor = found
+        if (facts.name, facts.run) == (name, run) and facts.address is not None:
+            return cls(folder, facts, descriptor)
+        os.close(descriptor)
+        return None
 
     def set_aside(self, shift: int, images: int) -> None:
         """Leaves the process to whoever knows what to do with it: also the next life of the keeper does not end it."""
         self._note(kept=True, shift=shift, images=images)
         self.leave()
 
+    def note_place(self, shift: int, images: int) -> None:
+        """Notes where positions are there, for a later life of the keeper."""
+        if (self.facts.shift, self.facts.images) != (shift, images):
+            self._note(shift=shift, images=images)
+
+    def note_seen(self, seen: Seen) -> None:
+        """Notes what PostgreSQL has had of it, in a file of its own: 0.1.0 takes no note with a fact that it does not know."""
+        file = self.folder / _file_of(self.facts.name, self.facts.run, "seen")
+        fresh = file.with_name(file.name + ".new")
+        fresh.write_text(json.dumps(vars(seen)))
+        fresh.replace(file)
+
+    @property
+    def seen(self) -> Seen:
+        """What was noted so last; nothing where that cannot be read."""
+        return seen_of(self.folder, self.facts)
+
     def _note(self, **facts: Any) -> None:
         self.facts = replace(self.facts, **facts)
         file = self.folder / self.facts.file_name
         fresh = file.with_name(file.name + ".new")
-        fresh.write_text(json.dumps(vars(self.facts)))
+        fresh.write_text(self.facts.text)
         fresh.replace(file)
 
     @property
@@ -178,6 +225,12 @@ class Run:
         os.close(self.descriptor)
 
 
+def _environment() -> dict[str, str]:
+    """What a service inherits: it needs nothing, and the keeper's own may have the password of PostgreSQL. The program is found by PATH,
+    and may be a script."""
+    return {name: value for name in ("PATH", "LANG", "TZ") if (value := os.environ.get(name)) is not None}
+
+
 def has_services(folder: Path) -> bool:
     """Whether a service that is noted in this folder still runs."""
     found = [descriptor for _, descriptor in _noted(folder)]
@@ -194,6 +247,15 @@ def kept_in(folder: Path) -> list[Facts]:
     return [facts for facts, _ in found if facts.kept]
 
 
+def seen_of(folder: Path, facts: Facts) -> Seen:
+    """What PostgreSQL has had of a run, as its keeper noted it last; nothing where that cannot be read."""
+    try:
+        found = json.loads((folder / _file_of(facts.name, facts.run, "seen")).read_text())
+        return Seen(int(found["generation"]), int(found["archived"]))
+    except (OSError, ValueError, KeyError, TypeError):
+        return Seen()
+
+
 def is_running(facts: Facts) -> bool:
     """Whether the very process that was noted still runs."""
     descriptor = _opened(facts)
@@ -202,34 +264,47 @@ def is_running(facts: Facts) -> bool:
     return descriptor is not None
 
 
-def end_orphans(folder: Path, wanted: set[str]) -> list[str]:
-    """Ends the services of this folder whose runs are not among those, or that did not come to listen, but none that is kept, and
-    removes what a keeper that was killed has left. Returns the names of their databases."""
-    ended = []
+def orphans_of(folder: Path, wanted: set[str]) -> list[Run]:
+    """The services of this folder that run, whose runs are not among those, or that did not come to listen, but none that was set aside.
+    What a keeper that was killed has left besides is removed."""
+    found = []
     for facts, descriptor in _noted(folder):
         if facts.kept or (facts.run in wanted and facts.address is not None):
             os.close(descriptor)
         else:
-            Run(folder, facts, descriptor).end()
-            ended.append(facts.name)
-    left = [file for file in folder.glob("*.said") if not file.with_suffix(".json").exists()]
+            found.append(Run(folder, facts, descriptor))
+    left = [file for end in ("said", "seen") for file in folder.glob(f"*.{end}") if not file.with_suffix(".json").exists()]
     for file in (*left, *folder.glob("*.new")):
         file.unlink(missing_ok=True)
-    return ended
+    return found
+
+
+def is_there(folder: Path, name: str, run: str) -> bool:
+    """Whether the service of this run is noted in this folder, and still runs."""
+    found = _noted_in(folder / _file_of(name, run, "json"))
+    if found is not None:
+        os.close(found[1])
+    return found is not None and found[0].run == run
 
 
 def _noted(folder: Path) -> Iterator[tuple[Facts, int]]:
     """The services that are noted and still run, each with a pidfd. Notes of others are removed."""
     for file in sorted(folder.glob("*.json")):
-        try:
-            facts = Facts(**json.loads(file.read_text()))
-        except (OSError, ValueError, TypeError):
-            continue
-        descriptor = _opened(facts)
-        if descriptor is None:
-            _forget(folder, facts.name, facts.run)
-        else:
-            yield facts, descriptor
+        if (found := _noted_in(file)) is not None:
+            yield found
+
+
+def _noted_in(file: Path) -> tuple[Facts, int] | None:
+    """The service that is noted in this file and still runs, with a pidfd. A note of another is removed."""
+    try:
+        facts = Facts.read(file.read_text())
+    except (OSError, ValueError, TypeError):
+        return None
+    descriptor = _opened(facts)
+    if descriptor is None:
+        _forget(file.parent, facts.name, facts.run)
+        return None
+    return facts, descriptor
 
 
 def _opened(facts: Facts) -> int | None:
@@ -246,13 +321,6 @@ def _opened(facts: Facts) -> int | None:
         pass
     os.close(descriptor)
     return None
-
-
-def _is_wanted(facts: Facts, descriptor: int, name: str, run: str) -> bool:
-    if (facts.name, facts.run) == (name, run) and facts.address is not None:
-        return True
-    os.close(descriptor)
-    return False
 
 
 def _facts_of(name: str, run: str, pid: int) -> Facts:
@@ -294,5 +362,9 @@ def _text_of(file: Path) -> str:
 
 
 def _forget(folder: Path, name: str, run: str) -> None:
-    for end in ("json", "said"):
-        (folder / f"{name}.{run}.{end}").unlink(missing_ok=True)
+    for end in ("json", "said", "seen"):
+        (folder / _file_of(name, run, end)).unlink(missing_ok=True)
+
+
+def _file_of(name: str, run: str, end: str) -> str:
+    return f"{name}.{run}.{end}"

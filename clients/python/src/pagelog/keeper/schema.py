@@ -1,7 +1,8 @@
 """The tables of the referee: those of an archive, with the columns that say who may write it.
 
-`format` 3 keeps archivers away that know nothing of runs, and keepers that know nothing of shifts and images. Each statement may
-be repeated: it makes what is not there.
+`format` 3 keeps archivers away that know nothing of runs, and keepers that know nothing of shifts and images. Beside it the tables
+have a version, which `STEPS` raise one by one: a step only adds, so that older keepers go on with newer tables. What they could
+not go on with gets another `format`. Each statement may be repeated: it makes what is not there.
 """
 
 FORMAT = 3
@@ -9,7 +10,7 @@ FORMAT = 3
 CHANNEL = "pagelog_keeper"
 """The channel of the notifications that a release, a wish and a new database send."""
 
-STATEMENTS = (
+_FIRST = (
     """CREATE TABLE IF NOT EXISTS pagelog_log (
         id serial PRIMARY KEY, name varchar(200) NOT NULL UNIQUE, format integer NOT NULL,
         archived bigint NOT NULL, epoch bigint NOT NULL)""",
@@ -71,10 +72,48 @@ STATEMENTS = (
         ADD COLUMN IF NOT EXISTS images bigint NOT NULL DEFAULT 0""",
 )
 
+_LIVES = (
+    # began: when the keeper of this run took the name, by PostgreSQL's clock.
+    "ALTER TABLE pagelog_keeper ADD COLUMN IF NOT EXISTS began timestamptz",
+)
+
+_IDENTITY = (
+    # identity: what no other database ever has, also one of the same name. doubted: the numbers up to it may have been given to two
+    # runs, as PostgreSQL went back, so that a number alone says nothing. ancestor: of a copy the name of what it is of, which its pages
+    # may have. An older keeper, and an older `create`, say none of it.
+    """ALTER TABLE pagelog_log
+        ADD COLUMN IF NOT EXISTS identity uuid NOT NULL DEFAULT gen_random_uuid(),
+        ADD COLUMN IF NOT EXISTS doubted bigint NOT NULL DEFAULT 0,
+        ADD COLUMN IF NOT EXISTS ancestor varchar(200)""",
+    "CREATE UNIQUE INDEX IF NOT EXISTS pagelog_log_identity ON pagelog_log (identity)",
+)
+
+STEPS = (_FIRST, _LIVES, _IDENTITY)
+"""What brings the tables from each version to the next one. Tables of version 1 have no number: they are older than it."""
+VERSION = len(STEPS)
+
+FOUND = """
+SELECT CASE WHEN to_regclass('pagelog_schema') IS NOT NULL THEN -1
+  WHEN EXISTS (SELECT 1 FROM pg_attribute WHERE attrelid = to_regclass('pagelog_standby') AND attname = 'images') THEN 1 ELSE 0 END
+"""
+"""The version of tables that have no number; -1 where they have one, which is asked for then."""
+NUMBERED = "SELECT COALESCE(max(version), 0) FROM pagelog_schema"
+
+_GRANTED = """
+DO $$ DECLARE one record; BEGIN
+  FOR one IN SELECT DISTINCT CASE a.grantee WHEN 0 THEN 'PUBLIC' ELSE a.grantee::regrole::text END AS name
+    FROM pg_class c, aclexplode(c.relacl) a WHERE c.oid = 'pagelog_log'::regclass AND a.privilege_type = 'SELECT' AND a.grantee <> c.relowner
+  LOOP EXECUTE 'GRANT SELECT ON pagelog_schema TO ' || one.name; END LOOP;
+END $$"""
+"""Who may read the databases may read the version."""
+
 _LOCK = 7_074_611_203_551
 """The number of the advisory lock under which they are made: two that create at once would disturb each other."""
 
 
-def script() -> str:
-    """All of it, as one transaction: where the last table is there, all is."""
-    return ";\n".join((f"BEGIN; SELECT pg_advisory_xact_lock({_LOCK})", *STATEMENTS, "COMMIT"))
+def script(version: int) -> str:
+    """The steps from a version on, as one transaction."""
+    made = [statement for step in STEPS[version:] for statement in step]
+    numbers = ("CREATE TABLE IF NOT EXISTS pagelog_schema (version integer PRIMARY KEY, came timestamptz NOT NULL DEFAULT now())",
+               f"INSERT INTO pagelog_schema (version) VALUES ({VERSION}) ON CONFLICT DO NOTHING")  # fmt: skip
+    return ";\n".join((f"BEGIN; SELECT pg_advisory_xact_lock({_LOCK})", *made, *numbers, _GRANTED, "COMMIT"))

@@ -4,7 +4,7 @@ from __future__ import annotations
 
 import asyncio
 import time
-from contextlib import nullcontext
+from contextlib import nullcontext, suppress
 from itertools import islice
 from typing import Iterable, Iterator, Sequence
 
@@ -60,9 +60,15 @@ class Served:
         self.was_closed = False
         """Whether nobody may write any more, or it is in doubt, since it was closed."""
         self.is_full = False
-        """Whether a writer has said that it had no memory for it."""
+        """Whether it had no memory for a writer, as that has said, or for a pull of its keeper."""
         self.went_back = False
         """Whether PostgreSQL was seen to lack what it once had of this run: the service may be the only copy."""
+        self.back_since: float | None = None
+        """Since when that has been known."""
+        self.is_apart = False
+        """Whether the archive is known to have something else than its log."""
+        self.is_told_by_number = True
+        """Whether no other run was given the number of its generation, so that older clients, who name no run, can be answered."""
         self.is_after_release = False
         """Whether another keeper has released the generation before: it may be ending its audit list still."""
         self.begun = 0
@@ -89,6 +95,11 @@ class Served:
     def is_alive(self) -> bool:
         """Whether there is no reason to end it: it runs, or was not started yet."""
         return not self.is_broken and (self.process is None or self.process.is_alive)
+
+    @property
+    def secret(self) -> bytes:
+        """The secret of the database's keepers."""
+        return self._secret
 
     @property
     def where(self) -> Where:
@@ -211,10 +222,18 @@ class Served:
         if hard != archived:
             raise BrokenArchive(f"{self.database}: the service has {hard} blocks where {archived} are archived")
 
-    def adopt(self, process: Run, reached: int, chain: bytes) -> None:
+    def adopt(self, process: Run, reached: int, chain: bytes, *, shift: int, images: int) -> None:
         """Takes a process that an earlier life of the keeper has started; so much is archived of it."""
         self.serve(process)
-        self.reached, self.chain = self._began = reached, chain
+        self.shift, self.images = shift, images
+        self.reached, self.chain = reached, chain
+        self._began = (reached, chain) if images else (0, b"")
+
+    def note_place(self) -> None:
+        """Notes where positions are in it, for a later life of the keeper. A full disk is no reason to end it."""
+        if self.process is not None:
+            with suppress(OSError):
+                self.process.note_place(self.shift, self.images)
 
     def has(self, archived: int, chain: bytes) -> bool:
         """Whether its log has exactly what is archived, up to this position."""
@@ -222,6 +241,14 @@ class Served:
         while at < archived and (blocks := self.pulled(at)[: archived - at]):
             at, found = at + len(blocks), digest(found, blocks)
         return (at, found) == (archived, chain)
+
+    def continues(self, archived: int, chain: bytes, *, is_before: bool) -> tuple[int, bytes] | None:
+        """From where it has to be archived again, a position with its digest: from what is archived, if it has exactly that. Where it began
+        with images of a later position, which the archive lacks, it is these, if the archive is known to be of what was before.
+        None where the archive has something else."""
+        if archived < self._began[0]:
+            return self._began if is_before and self.images == self._began[0] else None
+        return (archived, chain) if self.has(archived, chain) else None
 
     def end_of_log(self) -> int:
         """The position of its last hardened block."""
@@ -319,9 +346,21 @@ class Served:
         """The bytes of the audit list's lines from this number on, without a thread; None where they are not to be had so."""
         return await self._puller.audit(first, self._reader.epoch)
 
+    def began_with(self) -> Iterator[list[bytes]]:
+        """The blocks that make the images with which it began, as they are there."""
+        at, last = 0, self.images - self.shift
+        while at < last:
+            span = self._reader.span(at + 1, pulls=PULLS)
+            found = [block.data for block in span.blocks if block.lsn <= last]
+            yield found
+            at = min(span.last, last)
+
     def pulled(self, position: int) -> list[bytes]:
         """The next blocks behind this position, at most 1,024. A block without records is served by no pull."""
-        span = self._reader.span(position + 1 - self.shift, pulls=PULLS)
+        try:
+            span = self._reader.span(position + 1 - self.shift, pulls=PULLS)
+        finally:
+            self.is_full |= self._reader.has_lacked_memory
         found = {block.lsn: block.data for block in span.blocks}
         self.hard = max(self.hard, span.last + self.shift)
         blocks = [found.get(lsn) or Block.of(lsn).data for lsn in range(span.first, span.last + 1)]

@@ -25,7 +25,6 @@ class Session:
         self._thread = ThreadPoolExecutor(1)  # of its own: services that hang hold up no beat
         self.woken = asyncio.Event()
         """Set when a notification has come."""
-        self._notified: list[str] = []
 
     async def ask(self, call: Callable[..., Result], *arguments: Any) -> Result:
         """What the call returns or raises; it is a method of the referee."""
@@ -88,14 +87,8 @@ class Session:
     def _take_notified(self) -> None:
         """A notification may come with the reply of a statement. Then nothing is left at the socket to wake anyone."""
         if self.referee.notified:
-            self._notified += self.referee.notified
-            self.referee.notified.clear()
+            self.referee.notified = False
             self.woken.set()
-
-    def taken(self) -> list[str]:
-        """The notifications that came since the last call."""
-        taken, self._notified = self._notified, []
-        return taken
 
     async def rest(self, seconds: float) -> None:
         """Waits so long, or until a notification comes."""

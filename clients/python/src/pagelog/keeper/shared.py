@@ -8,16 +8,22 @@ from typing import TYPE_CHECKING, Any, Callable, Coroutine
 
 from pagelog.keeper.aside import Asides
 from pagelog.keeper.committer import Committer
-from pagelog.keeper.fates import Questions, tell_fate
+from pagelog.keeper.fates import EACH_BLOCK, Questions, tell_fate
+from pagelog.keeper.fate import Of
 from pagelog.keeper.lines import Line
-from pagelog.keeper.quick_way import QuickWays
+from pagelog.keeper.numbers import Numbers
+from pagelog.keeper.quick_way import QuickPool
 from pagelog.keeper.referee import PIECE, Referee
 from pagelog.keeper.served import Served
 from pagelog.keeper.session import Session
 from pagelog.keeper.settings import Settings
+from pagelog.repeating import Repeats
 
 if TYPE_CHECKING:
     from pagelog.keeper.recorder import Trails
+
+LONGEST_REST = 60.0
+"""Seconds after which a keeper tries again in any case what it has failed at, as to start a service."""
 
 
 @dataclass
@@ -32,14 +38,19 @@ class Shared:
     say: Callable[[str, str], None]
     changed: Callable[[str], None]
     trails: Trails | None = None
-    ways: QuickWays | None = None
+    ways: QuickPool | None = None
     ending: bool = False
     tasks: set[asyncio.Task[None]] = field(default_factory=set)
     successions: asyncio.Semaphore = field(default_factory=lambda: asyncio.Semaphore(1))
 
     def __post_init__(self) -> None:
+        self.repeats = Repeats(self.say)
+        """What comes again and again is said by it."""
         self.asides = Asides(self.settings.program.folder)
         self.questions = Questions(self.session)
+        self.numbers = Numbers(self.settings.program.folder)
+        self.block_questions = Questions(self.session, EACH_BLOCK)
+        """A queue of their own: nobody who asks for blocks keeps a writer from what became of its commits."""
 
     @property
     def referee(self) -> Referee:
@@ -63,9 +74,9 @@ class Shared:
         finally:
             referee.close()
 
-    async def tell_fate(self, line: Line, name: str, generation: int) -> None:
+    async def tell_fate(self, line: Line, name: str, generation: int, of: Of | None) -> None:
         """Says what became of a generation that is not this keeper's."""
-        await tell_fate(self.questions, line, name, generation)
+        await tell_fate(self.questions, line, name, generation, of)
 
     def spawn(self, work: Coroutine[Any, Any, None], what: str) -> asyncio.Task[None]:
         """A task whose end by an error is said: a database that nobody keeps would be the result."""
@@ -75,7 +86,7 @@ class Shared:
         def ended(_: asyncio.Task[None]) -> None:
             self.tasks.discard(task)
             if not task.cancelled() and (error := task.exception()) is not None:
-                self.say(what, f"fault of the keeper: {type(error).__name__}: {error}")
+                self.repeats.say(what, f"fault of the keeper: {type(error).__name__}: {error}")
 
         task.add_done_callback(ended)
         return task

@@ -10,7 +10,9 @@ from pagelog.keeper.machine import Kind, Stage
 from pagelog.keeper.referee import Away, Doubt
 from pagelog.keeper.rows import Row
 from pagelog.keeper.run import new_run
-from pagelog.keeper.served import Served
+from pagelog.keeper.served import Served, seconds
+from pagelog.keeper.shared import LONGEST_REST
+from pagelog.repeating import Backoff
 
 if TYPE_CHECKING:
     from pagelog.keeper.database import Database
@@ -21,10 +23,16 @@ class Standing:
 
     def __init__(self, database: Database) -> None:
         self._database, self._shared = database, database.shared
+        ttl = database.shared.settings.ttl
+        self._not_before, self._rests = 0.0, Backoff(ttl / 4, max(LONGEST_REST, ttl))
+        """When a standby may be started again after one that could not be used."""
 
     async def stand_by(self) -> bool:
         """Starts a service and has it follow the archive."""
         database = self._database
+        if seconds() < self._not_before:
+            return False
+        self._not_before = seconds() + self._rests.next()
         served = await database.new_served(new_run())
         served.kind = Kind.STANDBY
         try:
@@ -49,6 +57,8 @@ class Standing:
             return False  # the next look has another made
         if not served.is_noted:
             await self._note_standby(served)
+        self._rests.reset()
+        self._not_before = 0.0
         return True
 
     async def _note_standby(self, served: Served) -> None:
@@ -56,6 +66,7 @@ class Standing:
         place = (served.process.address, served.run, served.reached, served.shift, served.images)
         await self._shared.ask(self._shared.referee.stand_by, self._database.row.id, *place)
         served.is_noted = self._database.is_noted = True
+        served.note_place()
         await self._shared.ask(self._shared.referee.take, Row(0, ""), "")  # changes nothing, and is quicker the next time
 
     async def stand_down(self) -> bool:
@@ -80,8 +91,10 @@ class Standing:
     async def give_up(self, served: Served, error: PagelogError) -> bool:
         """Ends a standby that cannot follow."""
         self._say(f"the standby was given up: {error}")
+        if seconds() >= self._not_before:
+            self._not_before = seconds() + self._rests.next()
         served.is_broken = True
         return await self._database.ending.end()
 
     def _say(self, sentence: str) -> None:
-        self._shared.say(self._database.row.name, sentence)
+        self._shared.repeats.say(self._database.row.name, sentence)

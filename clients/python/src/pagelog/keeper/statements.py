@@ -16,13 +16,37 @@ SELECT (SELECT beat FROM me),
   (SELECT COALESCE(json_agg(k), '[]') FROM (SELECT name, run, lines, beat, report FROM pagelog_keeper) k),
   (SELECT COALESCE(json_agg(l), '[]') FROM (
     SELECT id, name, generation, run, holder, address, archived, base, shift, images, encode(chain, 'hex') AS chain, wanted,
-      succeed, read_only, paused, dropped FROM pagelog_log WHERE format = {FORMAT} ORDER BY name) l),
+      succeed, read_only, paused, dropped, identity, next_generation, doubted, ancestor FROM pagelog_log WHERE format = {FORMAT} ORDER BY name) l),
   (SELECT COALESCE(json_agg(s), '[]') FROM (SELECT log, keeper, address, run, reached, shift, images FROM pagelog_standby) s),
   current_setting('synchronous_standby_names'),
   CASE WHEN pg_has_role('pg_read_all_stats', 'USAGE')
     THEN (SELECT count(*) FROM pg_stat_replication WHERE sync_state IN ('sync', 'quorum')) END
 WHERE %(me)s = '' OR EXISTS (SELECT 1 FROM me) OR EXISTS (SELECT 1 FROM later)
 """
+
+CLAIM = """
+INSERT INTO pagelog_keeper (name, run, lines, began) VALUES (%(me)s, %(run)s, %(lines)s, now()) ON CONFLICT (name) DO UPDATE
+  SET run = excluded.run, lines = excluded.lines, began = excluded.began, beat = pagelog_keeper.beat + 1
+  WHERE pagelog_keeper.run = ANY(%(over)s::text[]) OR (pagelog_keeper.run = %(seen_run)s AND pagelog_keeper.beat <= %(seen_beat)s)
+RETURNING beat
+"""
+
+NAMED = """
+UPDATE pagelog_keeper SET beat = beat WHERE name = %(me)s
+RETURNING run, lines, beat, to_char(began AT TIME ZONE 'UTC', 'YYYY-MM-DD HH24:MI:SS "UTC"')
+"""
+
+STRANGERS = """
+SELECT EXISTS (SELECT 1 FROM aclexplode(COALESCE(d.datacl, acldefault('d', d.datdba))) a
+    WHERE a.grantee = 0 AND a.privilege_type = 'CONNECT'),
+  pg_has_role(d.datdba, 'USAGE'),
+  EXISTS (SELECT 1 FROM pg_class c LEFT JOIN pg_attribute t ON t.attrelid = c.oid AND t.attacl IS NOT NULL
+      LEFT JOIN LATERAL (SELECT grantee FROM aclexplode(c.relacl) UNION ALL SELECT grantee FROM aclexplode(t.attacl)) a ON true
+    WHERE c.relnamespace NOT IN ('pg_catalog'::regnamespace, 'information_schema'::regnamespace, 'pg_toast'::regnamespace)
+      AND (c.relowner <> current_user::regrole OR a.grantee <> c.relowner))
+FROM pg_database d WHERE d.datname = current_database()
+"""
+"""Whether anybody may connect, whether this role may change that, and whether another role has a right to a table."""
 
 RELEASED = f"pg_notify('{CHANNEL}', concat_ws(' ', name, generation, archived, encode(chain, 'hex')))"
 
@@ -37,7 +61,8 @@ SELECT set_config('synchronous_commit', 'on', false) WHERE current_setting('sync
 
 TAKE = """
 WITH taken AS (
-  UPDATE pagelog_log SET generation = next_generation, next_generation = next_generation + 1, run = %(run)s, holder = %(me)s,
+  UPDATE pagelog_log SET generation = GREATEST(next_generation, %(least)s),
+    next_generation = GREATEST(next_generation, %(least)s) + 1, run = %(run)s, holder = %(me)s,
     address = %(address)s, shift = COALESCE(%(shift)s::bigint, shift), images = COALESCE(%(images)s::bigint, images), base = archived,
     wanted = NULL, succeed = false
   WHERE id = %(id)s AND generation = %(generation)s AND archived = %(archived)s AND run IS NOT DISTINCT FROM %(seen_run)s::text
@@ -50,6 +75,40 @@ begun AS (
 gone AS (DELETE FROM pagelog_standby WHERE log IN (SELECT id FROM taken) AND keeper = %(me)s)
 SELECT generation, archived, chain FROM taken
 """
+
+KNOWS = """
+WITH me AS (UPDATE pagelog_keeper SET beat = beat WHERE name = %(me)s AND run = %(life)s RETURNING 1)
+SELECT EXISTS (SELECT 1 FROM pagelog_generation WHERE log = %(id)s AND run = %(run)s) FROM me
+"""
+"""Whether a run is known as a generation of a database: by a write, which an old leader of PostgreSQL cannot make of this life."""
+
+ORIGIN = """
+WITH me AS (UPDATE pagelog_keeper SET beat = beat WHERE name = %(me)s AND run = %(life)s RETURNING 1)
+SELECT l.id, l.dropped, COALESCE(
+  (SELECT n.base FROM pagelog_generation n WHERE n.log = g.log AND n.generation > g.generation ORDER BY n.generation LIMIT 1),
+  CASE WHEN l.run IS NULL THEN l.archived END)
+FROM pagelog_generation g JOIN pagelog_log l ON l.id = g.log WHERE g.run = %(run)s AND (NOT %(has_name)s OR EXISTS (SELECT 1 FROM me))
+"""
+"""Which database a run is a generation of, whether that was dropped, and where the generation ended; by a write, as `KNOWS`."""
+
+CONTINUE = """
+WITH taken AS (
+  UPDATE pagelog_log SET generation = GREATEST(next_generation, %(least)s::bigint),
+    next_generation = GREATEST(next_generation, %(least)s::bigint) + 1, run = %(run)s, holder = %(me)s,
+    address = %(address)s, shift = %(shift)s, images = %(images)s, base = %(start)s, archived = %(start)s, chain = %(start_chain)b::bytea,
+    wanted = NULL, succeed = false
+  WHERE id = %(id)s AND generation = %(generation)s AND archived = %(archived)s AND run IS NOT DISTINCT FROM %(seen_run)s::text
+    AND chain = %(chain)b::bytea AND NOT paused AND NOT dropped
+    AND (%(beat)s::bigint IS NULL OR NOT EXISTS (SELECT 1 FROM pagelog_keeper k WHERE k.name = holder AND k.beat > %(beat)s::bigint))
+  RETURNING id, generation, archived, chain, shift, images),
+begun AS (
+  INSERT INTO pagelog_generation (log, generation, run, holder, base, shift, images)
+  SELECT id, generation, %(run)s, %(me)s, archived, shift, images FROM taken),
+gone AS (DELETE FROM pagelog_standby WHERE log IN (SELECT id FROM taken) AND keeper = %(me)s)
+SELECT generation, archived, chain FROM taken
+"""
+"""As `TAKE`, with a service that has all that is archived, and more, which PostgreSQL has lost. Its generation is above each number that
+its keeper knows. It starts at the archived position, or where it began with images, at these."""
 
 KEEP = """
 WITH due AS (
@@ -115,7 +174,7 @@ KEEP_WITH_LINES = with_lines(KEEP, "fence")
 KEEP_ONE_WITH_LINES = with_lines(KEEP_ONE, "fence")
 
 NUMBER = """
-UPDATE pagelog_log SET next_generation = next_generation + 1
+UPDATE pagelog_log SET next_generation = GREATEST(next_generation, %(least)s) + 1
 WHERE id = %(id)s AND run = %(run)s AND generation = %(generation)s AND NOT dropped RETURNING next_generation - 1
 """
 
@@ -156,12 +215,30 @@ SELECT COALESCE(
 FROM pagelog_log l
 WHERE l.name = %(name)s AND l.format = {FORMAT} AND EXISTS (SELECT 1 FROM me)
   AND EXISTS (SELECT 1 FROM pagelog_generation g WHERE g.log = l.id AND g.generation = %(generation)s)
+  AND l.doubted < %(generation)s
+  AND NOT EXISTS (SELECT 1 FROM pagelog_log d JOIN pagelog_generation g ON g.log = d.id
+    WHERE d.dropped AND d.name = l.name || '!' || d.id AND g.generation = %(generation)s)
 """
+"""By the number alone, as an older client asks: where two runs may have had it nothing is said."""
+
+FATE_OF = f"""
+WITH me AS (UPDATE pagelog_keeper SET beat = beat WHERE name = %(me)s RETURNING 1)
+SELECT l.identity, l.dropped, l.generation, known.run,
+  COALESCE(
+    (SELECT g.base FROM pagelog_generation g WHERE g.log = l.id AND g.generation > known.generation ORDER BY g.generation LIMIT 1),
+    CASE WHEN l.run IS NULL AND l.generation = known.generation THEN l.archived END)
+FROM pagelog_log l LEFT JOIN LATERAL (
+  SELECT generation, run FROM pagelog_generation WHERE log = l.id AND (run = %(run)s OR generation = %(generation)s)
+  ORDER BY (run = %(run)s) DESC, generation DESC LIMIT 1) known ON true
+WHERE (l.identity = %(database)s::uuid OR l.name = %(name)s) AND l.format = {FORMAT} AND EXISTS (SELECT 1 FROM me)
+"""
+"""A run that PostgreSQL had lost, and that continues, has a later number than the one that is asked for."""
 
 BLOCK = f"""
 WITH me AS (UPDATE pagelog_keeper SET beat = beat WHERE name = %(me)s RETURNING 1)
 SELECT encode(sha256(b.data), 'hex') FROM pagelog_block b JOIN pagelog_log l ON l.id = b.log
-WHERE l.name = %(name)s AND l.format = {FORMAT} AND b.lsn = %(position)s AND b.lsn <= l.archived AND EXISTS (SELECT 1 FROM me)
+WHERE l.name = %(name)s AND l.identity = COALESCE(%(database)s::uuid, l.identity) AND l.format = {FORMAT}
+  AND b.lsn = %(position)s AND b.lsn <= l.archived AND EXISTS (SELECT 1 FROM me)
 """
 
 _DROP = f"""

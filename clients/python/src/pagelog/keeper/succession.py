@@ -7,7 +7,9 @@ service lives, and else is a takeover. What comes after the switch is the next g
 from __future__ import annotations
 
 import asyncio
+import time
 from dataclasses import replace
+from functools import partial
 from typing import TYPE_CHECKING, Callable, Sequence, TypeVar
 
 from pagelog.errors import OutOfMemory, PagelogError
@@ -18,7 +20,9 @@ from pagelog.keeper.machine import Stage
 from pagelog.keeper.referee import Away, BrokenArchive, Doubt, Referee, Refused, digest
 from pagelog.keeper.run import new_run
 from pagelog.keeper.served import Served, seconds
+from pagelog.keeper.shared import LONGEST_REST
 from pagelog.keeper.switch import Switch, has_begun, number, rehearse, succeed
+from pagelog.repeating import Backoff
 
 if TYPE_CHECKING:
     from pagelog.keeper.database import Database
@@ -41,7 +45,9 @@ class Succession:
     def __init__(self, database: Database) -> None:
         self._database, self._shared = database, database.shared
         self._successor: Served | None = None
-        self._stage, self._failed_at = Stage.NONE, 0.0
+        self._stage, self._failed_at, self._rest = Stage.NONE, 0.0, 0.0
+        ttl = database.shared.settings.ttl
+        self._rests = Backoff(ttl, max(LONGEST_REST, ttl))
         self._task: asyncio.Task[None] | None = None
         self._basing: asyncio.Task[None] | None = None
         self._referee: Referee | None = None
@@ -54,8 +60,8 @@ class Succession:
 
     @property
     def stage(self) -> Stage:
-        """How far the next service is. A failure is forgotten after a ttl."""
-        if self._stage is Stage.FAILED and seconds() - self._failed_at >= self._shared.settings.ttl:
+        """How far the next service is. A failure is forgotten after a ttl, and later where it comes again."""
+        if self._stage is Stage.FAILED and seconds() - self._failed_at >= self._rest:
             self._stage = Stage.NONE
         return self._stage
 
@@ -75,8 +81,8 @@ class Succession:
             async with self._base_turn:
                 await self._make_base(served)
         except PagelogError as error:
-            self._say(str(error))
-            await asyncio.sleep(self._shared.settings.ttl)
+            self._say_again(str(error))
+            await asyncio.sleep(self._rests.next())
 
     def _few(self, blocks: int) -> int:
         """So many blocks, or what a short audit list has room for."""
@@ -113,7 +119,8 @@ class Succession:
         who reads at a position of the last ttl can go on in the next generation; but not where the present service may soon be full."""
         settings, began = self._shared.settings, seconds()
         self._referee = Referee(settings.url, settings.name, self._shared.life, requires_standby=settings.require_standby)
-        given = await self._ask(number, self._database.row.id, served.run, served.generation)
+        row = self._database.row
+        given = await self._ask(number, row.id, served.run, served.generation, self._shared.numbers.least(row))
         if given is None:
             raise Refused("the database is another's")
         self._number = given
@@ -173,12 +180,15 @@ class Succession:
             self._shared.successions.release()
 
     async def _fail(self, error: Exception) -> None:
-        self._say(f"the succession was given up: {error}")
+        self._say_again(f"the succession was given up: {error}")
         await self.give_up()
-        self._stage, self._failed_at = Stage.FAILED, seconds()
+        self._stage, self._failed_at, self._rest = Stage.FAILED, seconds(), self._rests.next()
 
     def _say(self, sentence: str) -> None:
         self._shared.say(self._database.row.name, sentence)
+
+    def _say_again(self, sentence: str) -> None:
+        self._shared.repeats.say(self._database.row.name, sentence)
 
     # From the fence to the switch.
 
@@ -231,6 +241,7 @@ class Succession:
                   f"{1000 * (closed - began):.1f} ms, switched in {1000 * (seconds() - closed):.1f} ms, with {len(switch.blocks)} blocks of "
                   f"generation {switch.generation}")  # fmt: skip
         self._successor = None
+        self._rests.reset()
         try:
             await self._database.goes_on(successor, switch)
         finally:
@@ -254,16 +265,15 @@ class Succession:
 
     async def _switched(self, switch: Switch) -> bool:
         """Whether the next generation has begun after all, or begins now; else it never will. Nobody may write until it is known."""
-        wait = 0.05
+        waits = Backoff(0.05, 1.0)
         while True:
             try:
                 found = await self._ask(has_begun, switch)
                 if found is not None or (found := await self._ask(succeed, switch)):
                     return found
             except (Away, Doubt, Refused) as error:
-                self._say(f"the switch: {error}")
-            await asyncio.sleep(wait)
-            wait = min(1.0, 2 * wait)
+                self._say_again(f"the switch: {error}")
+            await asyncio.sleep(waits.next())
 
     async def _open_again(self, served: Served) -> None:
         """The present generation goes on, if its service lives."""
@@ -276,10 +286,23 @@ class Succession:
             served.is_broken = True
 
 
+def patiently(served: Served, call: Callable[[], Result]) -> Result:
+    """What the call returns. A service that has no memory is asked again for half a ttl: its writers leave it, and what they held is free.
+    Raises `OutOfMemory` then."""
+    deadline, waits = seconds() + served.timeout / 2, Backoff(0.01, 0.1)
+    while True:
+        try:
+            return call()
+        except OutOfMemory:
+            if seconds() > deadline:
+                raise
+        time.sleep(waits.next())
+
+
 def _closed(log: int, number: int, served: Served, successor: Served, loader: Loader) -> Switch:
     """Fences the present generation, and brings over what its log has beyond the next one's."""
     try:
-        end = served.close()
+        end = patiently(served, served.close)
     except OutOfMemory:
         served.is_broken = True  # it can be fenced by its end alone, after which another is filled in its place
         raise
@@ -301,7 +324,7 @@ def _pulled(served: Served, position: int, end: int) -> list[bytes]:
     """The blocks behind a position up to the end of a log that is closed."""
     blocks: list[bytes] = []
     while position + len(blocks) < end:
-        piece: Sequence[bytes] = served.pulled(position + len(blocks))
+        piece: Sequence[bytes] = patiently(served, partial(served.pulled, position + len(blocks)))
         if not piece:
             raise BrokenArchive(f"the log of {served.database} ends at {position + len(blocks)} in place of {end}")
         blocks += piece

@@ -36,12 +36,12 @@ class Switch:
         return self.old + len(self.blocks)
 
 
-def number(referee: Referee, log: int, run: str, generation: int) -> int | None:
+def number(referee: Referee, log: int, run: str, generation: int, least: int = 0) -> int | None:
     """A number for the generation after this one, which no other gets: of one that never begins it is a gap.
 
     None where the run holds the database no more.
     """
-    found = referee._ask(statements.NUMBER, {"id": log, "run": run, "generation": generation})
+    found = referee._ask(statements.NUMBER, {"id": log, "run": run, "generation": generation, "least": least})
     return int(found[0][0]) if found else None
 
 

@@ -48,21 +48,33 @@ def read_table(text: str) -> dict[str, Any]:
     """The table of a database. Raises `TableError`, as far as it can be known before a service reads it."""
     try:
         table = tomllib.loads(text)
-    except tomllib.TOMLDecodeError as error:
+    except (tomllib.TOMLDecodeError, RecursionError) as error:
         raise TableError(f"no TOML document: {error}") from error
     principals, rows = table.get("principal", []), table.get("row", [])
     if set(table) - {"principal", "row", "copies", "quorum"}:
         raise TableError("a table has principals, rows, copies and quorum, and no other key")
+    if not all(type(table.get(key, 0)) is int for key in ("copies", "quorum")):
+        raise TableError("copies and quorum are whole numbers")
     if not isinstance(principals, list) or not 1 <= len(principals) <= _MOST_PRINCIPALS:
         raise TableError(f"a named database has 1 to {_MOST_PRINCIPALS} principals")
     if not isinstance(rows, list) or len(rows) > _MOST_ROWS:
         raise TableError(f"a named database has at most {_MOST_ROWS} rows")
     for principal in principals:
-        if set(principal) != {"id", "token"}:
+        if not isinstance(principal, dict) or set(principal) != {"id", "token"}:
             raise TableError("a principal has an id and a token")
         if Credentials.of(principal["id"], principal["token"]).id == KEEPER:
             raise TableError(f"principal {KEEPER} is the keepers'")
+    for row in rows:
+        if not isinstance(row, dict) or not all(map(_may_be_in_a_row, row.values())):
+            raise TableError("a row has words, whole numbers, yes or no, and lists of them")
     return table
+
+
+def _may_be_in_a_row(value: object) -> bool:
+    """Whether a table that is written again has it as it was: TOML has times and infinite numbers too."""
+    if isinstance(value, list):
+        return all(isinstance(each, (str, int)) for each in value)
+    return isinstance(value, (str, int))
 
 
 def quorum_of(text: str) -> int:

@@ -2,7 +2,8 @@
 
 from __future__ import annotations
 
-from pagelog.keeper.lines import Line
+from pagelog.keeper.fate import Of
+from pagelog.keeper.lines import Line, of_word
 
 
 _MOST = 4096
@@ -15,9 +16,14 @@ class Waits:
     def __init__(self, name: str) -> None:
         self._name = name
         self._waits: dict[Line, list[int]] = {}
+        self.of: Of | None = None
+        """Of which database and run they all are."""
 
     def __len__(self) -> int:
         return len(self._waits)
+
+    def __contains__(self, line: Line) -> bool:
+        return line in self._waits
 
     def add(self, line: Line, position: int) -> bool:
         """Somebody waits. False where it waits for very many already."""
@@ -45,7 +51,7 @@ class Waits:
         for line, positions in self.now().items():
             left = [position for position in positions if position > reached]
             if len(left) < len(positions):
-                line.say("durable", self._name, generation, reached)
+                line.say("durable", self._name, generation, reached, *of_word(self.of))
             self._leave(line, left)
 
     def tell_above(self, waited: dict[Line, list[int]], generation: int, reached: int) -> None:
@@ -55,7 +61,7 @@ class Waits:
             for position in positions:
                 if position in left:
                     left.remove(position)
-                    line.say("above", self._name, generation, reached)
+                    line.say("above", self._name, generation, reached, *of_word(self.of))
             self._leave(line, left)
 
     def _leave(self, line: Line, left: list[int]) -> None:

@@ -49,7 +49,7 @@ class Work:
             self._kick()
         except PagelogError as error:
             if served is self._served:
-                self._shared.say(self._name, f"the service does not answer its keeper: {error}")
+                self._shared.repeats.say(self._name, f"the service does not answer its keeper: {error}")
         if self.recorder is not None and served is self._served:
             self.recorder.look(served.entries)
         if served.hard > served.reached and served is self._served:
@@ -58,7 +58,7 @@ class Work:
     def begin(self, row: Row, served: Served, *, records: bool = True) -> None:
         """From now on it is held: archived, and recorded, unless `record` is called later."""
         self._served = served
-        self.archiver = Archiver(row, served, self._waits, self._shared.committer, self._shared.say, self._news, self._shared.ways)
+        self.archiver = Archiver(row, served, self._waits, self._shared.committer, self._shared.repeats.say, self._news, self._shared.ways)
         self.archiver.recorder = self.recorder  # which goes on where the archiver is begun again
         self._archiving = self._shared.spawn(self.archiver.run(), self._name)
         if records:
@@ -68,7 +68,7 @@ class Work:
         """From now on its audit list is kept, if lists are, and if it is held still. It ends the list that the trail has open. Blocks
         wait for its first lines where they come behind a generation that nobody closed."""
         if self._shared.trails is not None and self.recorder is None and served is self._served:
-            self.recorder = self._shared.trails.recorder(served, self._shared.say, is_waited_for=is_first)
+            self.recorder = self._shared.trails.recorder(served, self._shared.repeats.say, is_waited_for=is_first)
             if self.archiver is not None:
                 self.archiver.recorder = self.recorder
             self._recording = self._shared.spawn(self.recorder.run(), self._name)
@@ -81,6 +81,11 @@ class Work:
     def is_quick(self) -> bool:
         """Whether its durable commits go the quick way."""
         return self.archiver is not None and self.archiver.is_quick
+
+    def leave_quick_way(self) -> None:
+        """Its present way ends; the next one knows what is known by then."""
+        if self.archiver is not None:
+            self.archiver.leave_way()
 
     def ring(self) -> None:
         """There is something to archive, or somebody who waits."""

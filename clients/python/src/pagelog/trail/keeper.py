@@ -8,6 +8,7 @@ from typing import Callable, Sequence
 
 from pagelog.errors import AuditListFull, ConnectionLost, LogWentBack
 from pagelog.operator import Operator
+from pagelog.repeating import Backoff
 from pagelog.reply import Entry, encode_entry
 from pagelog.request import AUDIT_MAX, Operation
 from pagelog.trail.question import entries_of
@@ -155,27 +156,30 @@ class TrailKeeper:
 
     def run(
         self, *, follow: bool, idle: float = 15.0, keep: int | None = None, told: Callable[[TrailList], None] = lambda _: None,
-        stop: Callable[[], bool] = lambda: False,
+        stop: Callable[[], bool] = lambda: False, pruning: Callable[[int], None] = lambda _: None,
     ) -> int:
         """Keeps what there is; with `follow` also what comes, until `stop`. Returns the number of the last line.
 
         Each question is an entry of the list too. It waits where there are fewer entries than a question brings, a second at
         first, and twice as long each time that nothing came but its own entries, up to `idle` seconds. `keep` is how many
-        days are kept.
+        days are kept; `pruning` is called with the time before which the days go, each time before they do.
         """
-        wait, pruned = min(QUICKEST, idle), None
+        waits, pruned = Backoff(2 * QUICKEST, idle), None
         while not stop():
             step, one = self.step(), self._list
             assert one is not None
             if keep is not None and (today := one.seen // DAY) != pruned:
-                self.trail.prune((today - keep + 1) * DAY)
+                before = (today - keep + 1) * DAY
+                pruning(before)
+                self.trail.prune(before)
                 pruned = today
             told(one)
             if step.lines < AUDIT_MAX:
                 if not follow:
                     break
-                wait = min(wait * 2, idle) if step.is_own else min(QUICKEST, idle)
-                self._sleep(wait, stop)
+                if not step.is_own:
+                    waits.reset()
+                self._sleep(waits.next() if step.is_own else min(QUICKEST, idle), stop)
         return self._list.kept if self._list else 0
 
     @staticmethod

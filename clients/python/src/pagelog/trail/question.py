@@ -2,10 +2,9 @@
 
 from __future__ import annotations
 
-import re
 from collections import Counter
 from dataclasses import dataclass, field
-from datetime import datetime, time, timedelta, tzinfo
+from datetime import datetime, timedelta
 from typing import Iterable, Iterator
 
 from pagelog.reply import LINE_SIZE, Entries, Entry, decode_reply, expect
@@ -15,7 +14,6 @@ from pagelog.trail.store import Piece, Trail, TrailList
 MINUTE = 60_000_000
 """Of microseconds."""
 _ENTRIES = b"\x03"
-_OF_DAY = re.compile(r"\d\d(:|$)")
 
 
 @dataclass(frozen=True)
@@ -61,31 +59,6 @@ def answer(trail: Trail, one: TrailList, question: Question, first: int = 1) -> 
         for entry in entries_of(piece):
             if entry.number >= first and question.takes(entry):
                 yield Seen(one.run, piece.seen, entry)
-
-
-# Times.
-
-
-def moment(text: str, after: datetime | None, now: datetime) -> datetime:
-    """The time of a text as 14:05, 14:05:30 or 2026-11-28T14:05, in the zone of `now` unless it names one. Where `now` has none, it is
-    this machine's, by the rules that it had at that time.
-
-    A time of day is the last one that has passed, or with `after` the first one behind that. Raises `ValueError`.
-    """
-    if _OF_DAY.match(text) is None:
-        found = datetime.fromisoformat(text)
-        return found if found.tzinfo else _in_zone(found, now.tzinfo)
-    of_day = time.fromisoformat(text)
-    zone = of_day.tzinfo or now.tzinfo
-    base = (after or now).astimezone(zone)
-    near = [datetime.combine(base.date() + timedelta(days), of_day.replace(tzinfo=None)) for days in (-1, 0, 1)]
-    if after is None:
-        return max(found for found in (_in_zone(each, zone) for each in near) if found <= base)
-    return min(found for found in (_in_zone(each, zone) for each in near) if found > base)
-
-
-def _in_zone(found: datetime, zone: tzinfo | None) -> datetime:
-    return found.astimezone() if zone is None else found.replace(tzinfo=zone)
 
 
 def micros(when: datetime) -> int:

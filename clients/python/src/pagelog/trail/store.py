@@ -381,18 +381,25 @@ class Trail:
 
     # Pruning.
 
+    def older(self, before: int) -> list[tuple[TrailList, int]]:
+        """Each list that has pieces of days before that of this time, and the last line of these. The last piece of a list stays."""
+        found = []
+        for one in self.lists():
+            old = sql.and_(_pieces.c.list == one.id, _pieces.c.day < day_of(before), _pieces.c.first + _pieces.c.count <= one.kept)
+            with self.engine.begin() as connection:
+                last = connection.execute(sql.select(sql.func.max(_pieces.c.first + _pieces.c.count - 1)).where(old)).scalar_one()
+            if last is not None:
+                found.append((one, int(last)))
+        return found
+
     def prune(self, before: int) -> int:
         """Takes away the pieces of all days before that of this time, but the last piece of a list. Returns how many lines went.
 
         A list without its beginning cannot be replayed.
         """
         gone = 0
-        for one in self.lists():
-            old = sql.and_(_pieces.c.list == one.id, _pieces.c.day < day_of(before), _pieces.c.first + _pieces.c.count <= one.kept)
+        for one, last in self.older(before):
             with self.engine.begin() as connection:
-                last = connection.execute(sql.select(sql.func.max(_pieces.c.first + _pieces.c.count - 1)).where(old)).scalar_one()
-                if last is None:
-                    continue
                 connection.execute(_pieces.delete().where(_pieces.c.list == one.id, _pieces.c.first <= last))
                 connection.execute(_lists.update().where(_lists.c.id == one.id).values(pruned=last))
             gone += last - one.pruned

@@ -1,0 +1,111 @@
+"""Services that an earlier life of this keeper left, and whose runs are no holder's of today. One that holds nothing which PostgreSQL
+lacks is ended. Another goes on, as the holder's of a PostgreSQL that went back, or is set aside: no keeper ends it."""
+
+from __future__ import annotations
+
+from dataclasses import dataclass
+from enum import Enum
+
+from pagelog.errors import PagelogError
+from pagelog.keeper.machine import Kind
+from pagelog.keeper.referee import BrokenArchive, KeeperError, Referee
+from pagelog.keeper.rows import Look, Origin, Row
+from pagelog.keeper.run import Run, Seen
+from pagelog.keeper.served import Served
+
+_LAST = 16
+"""So many of the last blocks are compared with those of the archive: a log that went another way differs in them."""
+_NO_DIGEST = b"-"
+"""In place of the digest of what came before its images, where PostgreSQL does not have that base: no archive continues it."""
+
+
+class Fate(Enum):
+    """What is to become of a service."""
+
+    END = "ended"
+    CONTINUE = "continued"
+    SET_ASIDE = "set aside"
+
+
+@dataclass(frozen=True)
+class Found:
+    """What is known of a service. `origin` is what PostgreSQL knows of its run, `row` the database of its name that it has today, and
+    `seen` what an earlier life has noted. `is_behind` is whether the archive has all of its log, `was_written` whether a client has."""
+
+    seen: Seen = Seen()
+    origin: Origin | None = None
+    row: Row | None = None
+    was_dropped: bool = False
+    answers: bool = True
+    was_written: bool = False
+    is_behind: bool = False
+
+
+def fate_of(found: Found) -> tuple[Fate, str]:
+    """What is to become of it, and why."""
+    origin = found.origin
+    if origin is not None and origin.dropped:
+        return Fate.END, "its database was dropped"
+    if origin is not None and origin.ended is not None:
+        if found.seen.archived > origin.ended:
+            return Fate.SET_ASIDE, f"PostgreSQL went back: it had the run up to position {found.seen.archived}, and now its end is {origin.ended}"
+        return Fate.END, "its generation has ended"
+    if not found.answers:
+        return Fate.SET_ASIDE, "it does not answer, and PostgreSQL does not know its run"
+    if found.row is None:
+        if found.was_dropped and not found.was_written:
+            return Fate.END, "it held nothing, and its database was dropped"
+        return Fate.SET_ASIDE, "PostgreSQL has no such database"
+    if found.is_behind and not found.was_written:
+        return Fate.END, "it held nothing that PostgreSQL lacks"
+    return Fate.CONTINUE, "PostgreSQL does not know its run"
+
+
+@dataclass(frozen=True)
+class Orphan:
+    """A service with its fate; `served` is how it is asked, where it goes on."""
+
+    process: Run
+    fate: Fate
+    why: str
+    served: Served | None = None
+
+
+def seen_to(referee: Referee, look: Look, process: Run, timeout: float, has_name: bool = True) -> Orphan:
+    """Asks PostgreSQL and the service. `has_name` is whether the keeper that asks is registered. Raises `KeeperError` where PostgreSQL
+    does not answer."""
+    if process.facts.address is None:
+        return Orphan(process, Fate.END, "it did not come to listen")
+    name, seen = process.facts.name, process.seen
+    origin, row = referee.origin(process.name, has_name=has_name), look.row(name)
+    was_dropped = any(each.dropped and each.name.startswith(f"{name}!") for each in look.rows)
+    found = Found(seen, origin, row, was_dropped)
+    if row is None or (origin is not None and (origin.dropped or origin.ended is not None)):
+        return Orphan(process, *fate_of(found))
+    text, secret = referee.table(row.id)
+    served = Served(name, process.name, text, secret, timeout=timeout, is_read_only=row.read_only)
+    shift, images = process.facts.shift, process.facts.images
+    chain = referee.chain_of_base(row.id, images) if images else b""
+    served.kind, served.generation = Kind.HOLDER, seen.generation
+    served.adopt(process, images, _NO_DIGEST if chain is None else chain, shift=shift, images=images)
+    try:
+        was_written, is_behind = served.was_written(), chain is not None and _is_behind(referee, row, served)
+    except KeeperError:
+        raise
+    except PagelogError:
+        return Orphan(process, *fate_of(Found(seen, origin, row, was_dropped, answers=False)))
+    fate, why = fate_of(Found(seen, origin, row, was_dropped, True, was_written, is_behind))
+    return Orphan(process, fate, why, served if fate is Fate.CONTINUE else None)
+
+
+def _is_behind(referee: Referee, row: Row, served: Served) -> bool:
+    """Whether the archive has its log, as far as the last blocks show."""
+    end = served.hard = served.end_of_log()
+    if end > row.archived:
+        return False
+    first = max(end - _LAST, served.images)
+    try:
+        theirs = [block for piece in referee.blocks(row.id, first + 1, end) for block in piece]
+    except BrokenArchive:
+        return False
+    return not theirs or served.pulled(first)[: end - first] == theirs

@@ -1,0 +1,91 @@
+"""A poll of the keepers of a database, for all who read it in this process: which run is the holder's now.
+
+A service that lives on without its keeper serves its log for ever, and says nothing of the run that has superseded it.
+"""
+
+from __future__ import annotations
+
+import os
+import threading
+import time
+from typing import Sequence
+from weakref import WeakValueDictionary
+
+from pagelog.errors import PagelogError
+from pagelog.place import Dropped, Keepers, Place
+from pagelog.repeating import Backoff
+
+EACH = 1.0
+"""Seconds between two rounds of questions, as long as somebody reads."""
+SLOWEST = 8.0
+"""The longest, where keepers say no place: each wait is twice the one before."""
+_IDLE = 2 * EACH
+"""Seconds without a read after which nobody is asked any more. The first read after that waits for an answer."""
+_ANSWER = 3.0
+"""Seconds for which it waits at most: a keeper that stands still takes one of them."""
+
+
+class HolderPoll:
+    """Asks all keepers of one database in a thread of its own, while `superseding` is called."""
+
+    def __init__(self, name: str, addresses: Sequence[str], place: Place) -> None:
+        self._keepers = Keepers(name, addresses)
+        self._keepers.is_of(place)
+        self._told = threading.Condition()
+        self._newest = place
+        self._dropped: Dropped | None = None
+        self._read = 0.0
+        """When somebody read last."""
+        self._has_asked = False
+        """Whether a round has ended since the thread began."""
+        self._thread: threading.Thread | None = None
+
+    def superseding(self, place: Place, known: float) -> Place | None:
+        """The place of a later generation than this one, which keepers named at the time `known`; None where there is none, as far as
+        they said last. It waits for them only where nobody has read for a while. Raises `Dropped`."""
+        with self._told:
+            now = self._read = time.monotonic()
+            if self._thread is None:
+                self._has_asked = False
+                self._thread = threading.Thread(target=self._poll, name="pagelog-holder", daemon=True)
+                self._thread.start()
+            if known < now - _IDLE:
+                self._told.wait_for(lambda: self._has_asked, _ANSWER)
+            if self._dropped is not None:
+                raise self._dropped
+            return self._newest if self._newest.generation > place.generation else None
+
+    def _poll(self) -> None:
+        silence = Backoff(2 * EACH, SLOWEST)
+        while self._is_wanted():
+            found, dropped = None, None
+            try:
+                found = self._keepers.where()
+            except Dropped as error:
+                dropped = error
+            except PagelogError:
+                pass  # those that answer may know less than others
+            with self._told:
+                self._has_asked = True
+                self._newest, self._dropped = found or self._newest, dropped or self._dropped
+                self._told.notify_all()
+            if found is not None:
+                silence.reset()
+            time.sleep(EACH if found is not None else silence.next())
+
+    def _is_wanted(self) -> bool:
+        with self._told:
+            if time.monotonic() - self._read < _IDLE:
+                return True
+            self._keepers.close()
+            self._thread = None
+            return False
+
+
+_polls: WeakValueDictionary[tuple[object, ...], HolderPoll] = WeakValueDictionary()
+
+
+def poll_of(name: str, addresses: Sequence[str], place: Place) -> HolderPoll:
+    """The one of this process. A child that a fork made begins its own."""
+    key = (os.getpid(), name, tuple(sorted(addresses)), place.database)
+    return _polls.get(key) or _polls.setdefault(key, HolderPoll(name, addresses, place))

@@ -1,0 +1,159 @@
+"""The check of the torture of administration: each violation is seen, and what is excused is none."""
+
+from __future__ import annotations
+
+import json
+import tempfile
+import unittest
+from pathlib import Path
+from typing import Any
+
+from torture_check import BOUND, Check, Drop, Past
+from torture_notes import GENESIS, entry, link
+from torture_rig import Loss
+
+LATE = 10 + BOUND + 1
+
+
+class Administered(unittest.TestCase):
+    def setUp(self) -> None:
+        self.folder = Path(self.enterContext(tempfile.TemporaryDirectory()))
+        self.past = Past()
+
+    def note(self, who: str, what: str, at: float, **facts: Any) -> None:
+        with (self.folder / f"{who}.notes").open("a") as notes:
+            notes.write(json.dumps({"what": what, "noted": at, **facts}) + "\n")
+
+    def commit(self, number: int, at: float, *, life: str = "x", what: str = "acknowledged") -> dict[str, Any]:
+        """A writer's link to the chain of s1, whose numbers are those of its commits."""
+        before = GENESIS
+        for each in range(1, number):
+            before = link(before, life, "w", each)
+        one = {"name": "s1", "life": life, "seq": number, "before": before, "sum": link(before, life, "w", number)}
+        self.note("w", "try", at, number=number, links=[one])
+        self.note("w", what, at + 0.1, number=number, links=[one], began=at, durable=True)
+        return one
+
+    def look(self, at: float, one: dict[str, Any], who: str = "s1.final-durable", kind: str = "durable") -> None:
+        self.note(who, "look", at + 0.1, kind=kind, name="s1", opened=1, process=1, life=one["life"], seq=one["seq"], sum=one["sum"], began=at)
+
+    def violations(self) -> list[str]:
+        return Check(self.folder, self.past).violations()
+
+    def assert_one(self, what: str) -> None:
+        found = self.violations()
+        self.assertTrue(found and all(what in each for each in found), found)
+
+    def test_all_is_there(self) -> None:
+        self.commit(1, 9)
+        self.look(LATE, self.commit(2, 10))
+        self.assertEqual(self.violations(), [])
+
+    def test_a_lost_commit(self) -> None:
+        first = self.commit(1, 9)
+        self.commit(2, 10)
+        self.look(11, first)
+        self.assert_one("lost or stale: number 2")
+
+    def test_what_postgresql_lost_is_excused_and_nothing_before_or_after(self) -> None:
+        first = self.commit(1, 5)
+        self.commit(2, 10)
+        self.look(11, first)
+        for loss, is_excused in ((Loss(9, 12), True), (Loss(1, 4), False), (Loss(11, 12), False)):
+            with self.subTest(loss=vars(loss)):
+                self.past.losses = [loss]
+                self.assertEqual(self.violations() == [], is_excused)
+
+    def test_a_life_that_is_gone(self) -> None:
+        self.commit(1, 9)
+        self.look(12, self.commit(1, 11, life="y"))
+        self.assert_one("whose life is gone")
+        self.past.drops = [Drop("s1", 10, 10.5, True)]
+        self.assertEqual(self.violations(), [])
+        self.past.lose(Loss(8, 10.9), copied=9.5, back=10.8)  # which undoes the drop, and excuses what came after the copy alone
+        self.assertEqual(self.violations(), [])
+        self.past.losses = [Loss(9.6, 10.9)]
+        self.assert_one("whose life is gone")
+
+    def test_acknowledged_after_a_drop(self) -> None:
+        self.commit(1, 9)
+        self.past.drops = [Drop("s1", 10, 11, True)]
+        self.commit(2, 12)
+        self.assert_one("acknowledged after its database was dropped: number 2")
+
+    def test_invented(self) -> None:
+        one = self.commit(1, 9)
+        self.look(11, {**one, "seq": 2, "sum": link(one["sum"], "x", "w", 2)})
+        self.assertIn("invented", " ".join(self.violations()))
+
+    def test_refused_and_yet_there(self) -> None:
+        self.look(11, self.commit(1, 9, what="refused"))
+        self.assert_one("refused, and yet there")
+
+    def test_a_reader_that_goes_back(self) -> None:
+        first, second = self.commit(1, 5), self.commit(2, 10)
+        self.look(11, second, "r")
+        self.look(12, first, "r")
+        self.assert_one("went back")
+        self.past.losses = [Loss(9, 11.5)]
+        self.assertEqual(self.violations(), [])
+
+    def test_half_of_a_transaction_to_two_databases_is_changed_back(self) -> None:
+        first, second = self.commit(1, 5), self.commit(2, 10, what="failed")
+        self.look(11, second, "r")
+        self.look(12, first, "r")
+        self.assert_one("went back")
+        self.note("w", "try", 9, number=2, links=[second, {**second, "name": "s2"}])
+        self.assertEqual(self.violations(), [])
+
+    def test_another_connection_of_a_process_that_was_opened_before(self) -> None:
+        first, second = self.commit(1, 5), self.commit(2, 10)
+        self.look(9, first, "r-a")
+        self.look(11, second, "r-b")
+        self.look(12, first, "r-a")
+        self.assertEqual(self.violations(), [])
+        self.look(13, first, "r-c")
+        self.assert_one("r-c went back")
+
+    def test_a_reader_that_is_stale(self) -> None:
+        first = self.commit(1, 5)
+        self.commit(2, 10)
+        self.look(LATE - 2, first, "r", "plain")
+        self.assertEqual(self.violations(), [])
+        self.look(LATE, first, "r", "plain")
+        self.assert_one("lost or stale: number 2")
+
+    def test_a_reader_that_stays_at_an_old_life(self) -> None:
+        old = self.commit(1, 5)
+        self.past.drops = [Drop("s1", 6, 7, True)]
+        new = self.commit(1, 10, life="y")
+        self.look(LATE, new)
+        self.assertEqual(self.violations(), [])
+        self.look(LATE, old, "r", "plain")
+        self.assert_one("stale: r")
+
+    def test_pages(self) -> None:
+        links = [{"name": "p1", "life": "x"}]
+        for number in (1, 2):
+            self.note("p1.w-0", "try", 9, number=number, links=links)
+            self.note("p1.w-0", "acknowledged", 10, number=number, links=links, began=9, durable=True)
+        facts = {"kind": "durable", "name": "p1", "opened": 1, "life": "x", "end": 2, "writer": "p1.w-0", "first": 0, "began": 11}
+        self.note("p1.final-durable", "look", 11, bits=hex(0b110), **facts)
+        self.assertEqual(self.violations(), [])
+        self.note("p1.final-durable", "look", 12, bits=hex(0b010), **{**facts, "began": 12})
+        self.assertEqual(sorted(each.split(":")[0].split(" {")[0] for each in self.violations()), ["lost or stale", "p1.final-durable went back"])
+        self.note("p1.final-durable", "look", 13, bits=hex(0b1110), **{**facts, "began": 13})
+        self.assertIn("invented: [3]", " ".join(self.violations()))
+
+    def test_a_line_of_a_client_that_was_killed(self) -> None:
+        self.look(11, self.commit(1, 9))
+        with (self.folder / "w.notes").open("a") as notes:
+            notes.write('{"what": "acknow')
+        self.assertEqual(self.violations(), [])
+
+    def test_entries_differ_by_life_writer_and_number(self) -> None:
+        self.assertEqual(len({entry(*each) for each in (("x", "w", 1), ("y", "w", 1), ("x", "v", 1), ("x", "w", 2))}), 4)
+
+
+if __name__ == "__main__":
+    unittest.main()

@@ -1,0 +1,98 @@
+"""The words of docs/LINES.md are those that keepers and both clients know."""
+
+from __future__ import annotations
+
+import ast
+import re
+import unittest
+from pathlib import Path
+
+from pagelog.keeper import lines
+from service import SOURCE
+
+ROOT = Path(__file__).resolve().parents[3]
+PAGE = (ROOT / "docs" / "LINES.md").read_text()
+PYTHON, C = SOURCE / "pagelog", ROOT / "clients" / "c"
+KEEPER = ("lines", "places", "waits", "turns", "fates", "database", "ending", "keeping")
+CLIENT_C = ("pagelog_place.c", "pagelog_line.c", "pagelog_turn.c")
+
+
+def table(heading: str) -> list[list[str]]:
+    """The rows of the table under a heading."""
+    part = PAGE.partition(f"## {heading}\n")[2].partition("\n## ")[0]
+    rows = [[cell.strip() for cell in row.strip("|").split("|")] for row in part.splitlines() if row.startswith("|")]
+    return rows[2:]
+
+
+def spelt(cells: list[str]) -> set[str]:
+    """The first words of the lines in these cells."""
+    return {found.split()[0] for cell in cells for found in re.findall(r"`([a-z][^`]*)`", cell)}
+
+
+ASKED = spelt([row[0] for row in table("Words")]) - {"now", "mine", "heartbeat", "of"}
+TOLD = spelt([row[1] for row in table("Words")]) - {"where", "or", "other", "kept", "now", "heartbeat"}
+KEYS = {row[0] for row in table("Greeting, and how lines grow")}
+REASONS = {row[0].strip("`") for row in table("Lost")}
+
+
+def cases(file: Path, function: str) -> set[str]:
+    """The words with which the patterns of a function begin."""
+    [found] = [node for node in ast.walk(ast.parse(file.read_text())) if isinstance(node, ast.FunctionDef) and node.name == function]
+    patterns = [case.pattern.patterns[0] for node in ast.walk(found) if isinstance(node, ast.Match) for case in node.cases
+                if isinstance(case.pattern, ast.MatchSequence)]  # fmt: skip
+    values = [each for pattern in patterns for each in (pattern.patterns if isinstance(pattern, ast.MatchOr) else [pattern])]
+    return {each.value.value for each in values if isinstance(each, ast.MatchValue) and isinstance(each.value, ast.Constant)}
+
+
+def said_by_keepers() -> set[str]:
+    """The first words of what a keeper's modules say, or return to be said."""
+    text = "\n".join((PYTHON / "keeper" / f"{name}.py").read_text() for name in KEEPER)
+    return set(re.findall(r'\bsay\(\s*"([a-z]+)"', text)) | set(re.findall(r'return \("([a-z]+)", name', text)) | \
+        set(re.findall(r'return \("([a-z]+)" if', text)) | set(re.findall(r'else "([a-z]+)", name\)', text))  # fmt: skip
+
+
+class Words(unittest.TestCase):
+    def test_a_keeper_answers_what_the_page_has(self) -> None:
+        self.assertEqual(cases(Path(lines.__file__), "answer"), ASKED)
+
+    def test_a_keeper_says_what_the_page_has(self) -> None:
+        self.assertEqual(said_by_keepers(), TOLD)
+
+    def test_the_client_of_python_asks_and_reads_no_other_words(self) -> None:
+        text = (PYTHON / "place.py").read_text()
+        asked = set(re.findall(r'\(\(?"([a-z]+)", self\.name', text)) | set(re.findall(r'f"(hello) ', text))
+        self.assertEqual(asked, ASKED - {"turn", "back", "hold"})
+        read = set(re.findall(r'case \["([a-z]+)"', text)) | set(re.findall(r'words\[0\] == "([a-z]+)"', text)) | \
+            set(re.findall(r'\[:1\] == \["([a-z]+)"\]', text))  # fmt: skip
+        self.assertEqual(read, TOLD - {"above", "elsewhere", "what", "turn", "busy", "soon", "wanted"})
+
+    def test_the_client_of_c_asks_and_reads_no_other_words(self) -> None:
+        text = "\n".join((C / name).read_text() for name in CLIENT_C)
+        asked = set(re.findall(r'"(where|durable|hello) ', text)) | set(re.findall(r'say\(turn, "([a-z]+)"', text))
+        self.assertEqual(asked, {"hello", "where", "durable", "turn", "back", "hold"})
+        self.assertLessEqual(asked, ASKED)
+        read = set(re.findall(r'strcmp\(words?(?:\[0\])?, "([a-z]+)"\)', text)) | set(re.findall(r'sscanf\(answer, "([a-z]+) ', text))
+        self.assertEqual(read, {"hello", "at", "unknown", "over", "durable", "lost", "turn", "busy", "soon", "wanted", "what"})
+        self.assertLessEqual(read, TOLD)
+
+    def test_all_know_the_same_keys_and_reasons(self) -> None:
+        keeper = "\n".join((PYTHON / "keeper" / f"{name}.py").read_text() for name in KEEPER)
+        python, c = (PYTHON / "place.py").read_text(), "\n".join((C / name).read_text() for name in CLIENT_C)
+        self.assertEqual(set(re.findall(r'Key\(f"([a-z]+)=', keeper)), KEYS)
+        self.assertLessEqual(set(re.findall(r'keys(?:\.get\(|\[)"([a-z]+)"', python)), KEYS)
+        self.assertLessEqual(set(re.findall(r'value_of\(words, count, "([a-z]+)"\)', c)), KEYS)
+        reasons = (PYTHON / "keeper" / "fate.py").read_text()
+        self.assertEqual(set(re.findall(r'^    [A-Z]+ = "([a-z]+)"$', reasons, re.M)), REASONS)
+        self.assertEqual(set(re.findall(r'"lost", _, _, "([a-z]+)"', python)) | {"superseded"}, REASONS)
+        self.assertEqual(set(re.findall(r'strcmp\(words\[3\], "([a-z]+)"\)', c)) | {"superseded"}, REASONS)
+
+    def test_both_clients_and_keepers_are_of_the_version_of_the_page(self) -> None:
+        [page] = set(re.findall(r"`hello (\d+)`", PAGE))
+        [c] = re.findall(r"PAGELOG_LINES_VERSION = (\d+)", (C / "pagelog_line.h").read_text())
+        [greeting] = re.findall(r'greeting\[\] = "hello (\d+)', (C / "pagelog_line.c").read_text())
+        [python] = re.findall(r"^VERSION = (\d+)$", (PYTHON / "place.py").read_text(), re.M)
+        self.assertEqual({page, c, greeting, python}, {str(lines.VERSION)})
+
+
+if __name__ == "__main__":
+    unittest.main()

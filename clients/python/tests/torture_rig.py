@@ -1,0 +1,329 @@
+"""What the torture of administration sets up: a PostgreSQL of one kind, keepers, and subcommands that are cut off at a statement."""
+
+from __future__ import annotations
+
+import json
+import os
+import random
+import shutil
+import signal
+import subprocess
+import sys
+import tempfile
+import time
+from pathlib import Path
+from typing import Any, Callable, Mapping
+
+import click
+import psycopg
+from click.testing import CliRunner
+
+from pagelog.desk.words import pagelogctl
+from quick_library import build
+from replicated import Pair, Server
+from service import PATIENCE, PROGRAM, SOURCE, Port, token
+from torture_notes import now
+
+TTL = 1.5
+KINDS = ("alone", "standbys", "asynchronous", "synchronous")
+"""PostgreSQL alone, with keepers without and with standbys; PostgreSQL with a standby, asynchronous or synchronous."""
+
+
+class Loss:
+    """What PostgreSQL lost: what it acknowledged after `kept` and before `over` may be gone, and nothing else."""
+
+    def __init__(self, kept: float, over: float) -> None:
+        self.kept, self.over = kept, over
+
+    def excuses(self, began: float, ended: float) -> bool:
+        """Whether something that was acknowledged in this time may be gone."""
+        return ended >= self.kept and began <= self.over
+
+
+class Lone(Server):
+    """One server, which is set back to a copy of its folder."""
+
+    def __init__(self) -> None:
+        super().__init__()
+        self.leader = self
+        self.setting("max_wal_size", "64MB")
+        Server.url(self, "kept")
+        self.copy = Path(tempfile.mkdtemp(prefix="pagelog-copy-", dir=os.environ.get("PAGELOG_TORTURE_COPIES")))
+
+    @property
+    def kept_url(self) -> str:
+        return f"postgresql://pagelog@/kept?host={self.folder}"
+
+    def remember(self) -> float:
+        """Copies the folder. Returns a time before: what was acknowledged until then is in the copy."""
+        at = now()
+        self.crash()
+        shutil.rmtree(self.copy)
+        subprocess.run(["cp", "-a", self.data, self.copy], check=True)
+        self.start()
+        return at
+
+    def go_back(self, kept: float) -> Loss:
+        self.crash()
+        shutil.rmtree(self.data)
+        subprocess.run(["cp", "-a", self.copy, self.data], check=True)
+        self.start()
+        return Loss(kept, now())
+
+    def restart(self) -> None:
+        self.crash()
+        self.start()
+
+    def revive(self) -> None:
+        """Starts it where it had to end, as on a full disk."""
+        self.restart()
+
+    def crash(self) -> None:
+        if (self.data / "postmaster.pid").exists():
+            try:
+                super().crash()
+            except AssertionError:
+                (self.data / "postmaster.pid").unlink(missing_ok=True)  # it had ended
+
+    def stop(self) -> None:
+        super().stop()
+        shutil.rmtree(self.copy, ignore_errors=True)
+
+
+class Two(Pair):
+    """A leader and a standby; whoever leads is killed, and the other takes its place."""
+
+    def __init__(self, *, synchronous: bool) -> None:
+        self.synchronous = synchronous
+        super().__init__()
+        if not synchronous:
+            self.leader.setting("synchronous_standby_names", "")
+
+    @property
+    def kept_url(self) -> str:
+        return self.url
+
+    def _promote(self) -> Server:
+        old = super()._promote()
+        if not self.synchronous:
+            self.leader.setting("synchronous_standby_names", "")
+        return old
+
+    def remember(self) -> float:
+        """An asynchronous standby has all that was acknowledged until the time that is returned, and gets no more."""
+        if self.synchronous:
+            return now()
+        at = now()
+        end = _ask(self.leader, "SELECT pg_current_wal_lsn()")
+        while _ask(self.standby, f"SELECT pg_last_wal_receive_lsn() >= '{end}'") != "t":
+            time.sleep(0.05)
+        self.standby.setting("primary_conninfo", "")
+        return at
+
+    def go_back(self, kept: float) -> Loss | None:
+        """The standby leads. If it lacks something, the old leader continues beside it for a while."""
+        if self.synchronous:
+            self.fail_over()
+            return None
+        self.fail_over_beside(lambda: time.sleep(TTL))
+        return Loss(kept, now())
+
+    def restart(self) -> None:
+        self.leader.crash()
+        self.leader.start()
+
+
+def _ask(server: Server, statement: str) -> str:
+    done = server.call([shutil.which("psql") or "psql", "-h", str(server.folder), "-U", "pagelog", "-d", "postgres", "-XAtqc", statement],
+                       stdout=subprocess.PIPE, stderr=subprocess.DEVNULL, cwd=server.folder)  # fmt: skip
+    return str(done.stdout.decode().strip())
+
+
+def postgres_of(kind: str) -> Lone | Two:
+    return Two(synchronous=kind == "synchronous") if kind in KINDS[2:] else Lone()
+
+
+class Keepers:
+    """Keepers of one referee, as processes; names and folders are their own, and one may be started once more from a copy of its file."""
+
+    def __init__(self, folder: Path, url: str, kind: str, *, trail: bool) -> None:
+        self.folder, self.ports = folder, {name: Port() for name in ("a", "b", "copy")}
+        self.processes: dict[str, subprocess.Popen[bytes]] = {}
+        self.file = folder / "keeper.toml"
+        self.file.touch(mode=0o600)
+        self.file.write_text(f'[archive]\nurl = "{url}"\n[keeper]\nttl = {TTL}\nstandby = {str(kind != "alone").lower()}\naudit = 400000\n'
+                             f'trail = {int(trail)}\nrequire_standby = {str(kind == "synchronous").lower()}\n')  # fmt: skip
+        self.table = folder / "table.toml"
+        self.table.write_text("".join(f'[[principal]]\nid = {id}\ntoken = "{token(id)}"\n' for id in (1, 2, 3)) + '[[row]]\nverdict = "allow"\n')
+        build()
+
+    @property
+    def addresses(self) -> list[str]:
+        return [port.address for port in self.ports.values()]
+
+    def start(self, name: str, *, called: str | None = None) -> subprocess.Popen[bytes]:
+        """`called`: the name of another keeper, whose file is copied."""
+        words = [sys.executable, "-B", "-m", "pagelog", "keep", "--name", called or name, "--lines", self.ports[name].address, "--serve", "127.0.0.1",
+                 "--folder", self.disk / name, "--program", PROGRAM, "--credentials", self.file]  # fmt: skip
+        with (self.folder / f"{name}.log").open("a") as log:
+            self.processes[name] = subprocess.Popen(list(map(str, words)), stdout=subprocess.DEVNULL, stderr=log, env=environment())
+        return self.processes[name]
+
+    @property
+    def disk(self) -> Path:
+        """Where their folders are, on a disk of its own where one can be mounted."""
+        return self.folder / "disk"
+
+    def start_what_ended(self) -> None:
+        for name in ("a", "b"):
+            process = self.processes.get(name)
+            if process is None or process.poll() is not None:
+                self.start(name)
+
+    def kill(self, name: str, number: int = signal.SIGKILL) -> None:
+        process = self.processes.get(name)
+        if process is not None:
+            process.send_signal(number)
+            if number == signal.SIGKILL:
+                process.wait()
+
+    def services(self, name: str = "*") -> list[int]:
+        """The processes that were noted, of a database or of all."""
+        found = []
+        for file in self.disk.glob(f"*/{name}.*.json"):
+            try:
+                pid = int(json.loads(file.read_text())["pid"])
+                if b"serve" in Path(f"/proc/{pid}/cmdline").read_bytes():
+                    found.append(pid)
+            except (OSError, ValueError, KeyError):
+                pass  # it has ended, or was noted just now
+        return found
+
+    def stop(self) -> None:
+        for process in self.processes.values():
+            process.send_signal(signal.SIGCONT)
+            process.kill()
+            process.wait()
+        for pid in self.services():
+            send(pid, signal.SIGKILL)
+        for port in self.ports.values():
+            port.close()
+
+
+def environment() -> dict[str, str]:
+    return {**os.environ, "PYTHONPATH": str(SOURCE), "PYTHONPYCACHEPREFIX": tempfile.gettempdir() + "/pagelog-pycache-torture"}
+
+
+def send(pid: int, number: int) -> None:
+    try:
+        os.kill(pid, number)
+    except ProcessLookupError:
+        pass
+
+
+# Subcommands.
+
+
+def load_subcommands() -> None:
+    """So that each process of one has what it needs."""
+    context = click.Context(pagelogctl)
+    for name in {*SUBCOMMANDS, "kept"} - {"cancel"}:
+        assert pagelogctl.get_command(context, name) is not None
+
+
+class Called:
+    """A subcommand in a process of its own, which was loaded before, so that it is at its work soon."""
+
+    def __init__(self, words: list[str], said: Path, cut: tuple[int, bool] | None = None) -> None:
+        """`cut`: it is killed at the statement of this number, and whether before it is sent or behind its answer."""
+        self.words, self.said, self.began = words, said, now()
+        self.ended = self.began
+        self.status: int | None = None
+        if (pid := os.fork()) == 0:
+            _run(words, said, cut)
+        self.pid = pid
+
+    def wait(self, patience: float = PATIENCE) -> int | None:
+        """Its exit status; a negative one is that of a signal. One that does not end in time is killed."""
+        deadline = now() + patience
+        while self.status is None:
+            pid, status = os.waitpid(self.pid, os.WNOHANG)
+            if pid:
+                self.status, self.ended = os.waitstatus_to_exitcode(status), now()
+            elif now() > deadline:
+                send(self.pid, signal.SIGKILL)
+            else:
+                time.sleep(0.01)
+        return self.status
+
+    @property
+    def text(self) -> str:
+        return self.said.read_text(errors="replace") if self.said.exists() else ""
+
+
+def _run(words: list[str], said: Path, cut: tuple[int, bool] | None) -> None:
+    status = 70
+    try:
+        if cut is not None:
+            _cut_at(*cut)
+        done = CliRunner().invoke(pagelogctl, words)
+        more = "" if done.exception is None or isinstance(done.exception, SystemExit) else repr(done.exception)
+        said.write_text(done.output + more)
+        status = done.exit_code
+    finally:
+        os._exit(status)
+
+
+def _cut_at(number: int, behind: bool) -> None:
+    """Kills this process at the driver's statement of this number, from 1."""
+    left = [number]
+
+    def cutting(original: Callable[..., Any]) -> Callable[..., Any]:
+        def execute(*arguments: Any, **options: Any) -> Any:
+            left[0] -= 1
+            if not left[0] and not behind:
+                os.kill(os.getpid(), signal.SIGKILL)
+            found = original(*arguments, **options)
+            if not left[0]:
+                os.kill(os.getpid(), signal.SIGKILL)
+            return found
+
+        return execute
+
+    setattr(psycopg.Connection, "execute", cutting(psycopg.Connection.execute))
+
+
+# Counts.
+
+SUBCOMMANDS = ("create", "drop", "prune", "keep", "rescue", "restore", "succeed", "switchover", "cancel", "pause", "resume")
+DEATHS = ("none", "subcommand", "keeper", "service", "postgresql", "set back")
+
+
+class Counts:
+    """How often each subcommand has met each death, by the kind of standby."""
+
+    def __init__(self, known: Mapping[str, int] = {}) -> None:
+        self.of = dict(known)
+
+    def add(self, subcommand: str, death: str, kind: str) -> None:
+        key = f"{subcommand}/{death}/{kind}"
+        self.of[key] = self.of.get(key, 0) + 1
+
+    def get(self, subcommand: str, death: str, kind: str) -> int:
+        return self.of.get(f"{subcommand}/{death}/{kind}", 0)
+
+    def rarest_death(self, kind: str, chance: random.Random) -> str:
+        return min(DEATHS, key=lambda death: (sum(self.get(each, death, kind) for each in SUBCOMMANDS), chance.random()))
+
+    def rarest(self, subcommands: list[str], death: str, kind: str, chance: random.Random) -> str:
+        return min(subcommands, key=lambda each: (self.get(each, death, kind), chance.random()))
+
+    def table(self) -> str:
+        """A row for each subcommand and kind, a column for each death."""
+        lines = [f"{'':12}{'':14}" + "".join(f"{death:>12}" for death in DEATHS)]
+        for subcommand in SUBCOMMANDS:
+            for kind in KINDS:
+                counts = [self.get(subcommand, death, kind) for death in DEATHS]
+                if any(counts):
+                    lines.append(f"{subcommand:12}{kind:14}" + "".join(f"{count:12}" for count in counts))
+        return "\n".join(lines)
