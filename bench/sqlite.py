@@ -50,7 +50,7 @@ WORK = ROOT / "bench" / "work" / "sqlite"
 UPDATE = "update t set value = value + 1 where id = 1"
 ROUNDS = 20
 # How many there are in all rounds together, where the share is 1.
-COLUMNS = {"inserts": 8000, "updates": 8000, "thousands": 40, "warm": 40000, "in one": 80000, "cold": 4000, "scan": 10}
+COLUMNS = {"inserts": 8000, "updates": 8000, "thousands": 40, "warm": 40000, "in one": 80000, "cold": 40000, "scan": 10}
 WRITES = ("inserts", "updates", "thousands")
 LOADS = "import sqlite3; sqlite3.Connection.enable_load_extension"
 
@@ -244,6 +244,7 @@ def add_rates(aims, systems):
         times = [1 / share for share in shares(system, plain_off, "warm")]
         aims.add(f"warm reads, check=50, {who}: time beside WAL, off", times, most=1.2)
     aims.add("cold reads of a follower, a second", follower.rates["cold"], least=12000, digits=0)
+    aims.add("cold reads of a follower: share of WAL, off", shares(follower, plain_off, "cold"), least=0.5)
 
 
 def cost(work, name, statement):

@@ -59,7 +59,7 @@ override_dh_installsystemd:
 	dh_installsystemd --no-enable --no-start --no-stop-on-upgrade
 
 override_dh_gencontrol:
-	dh_gencontrol -- -Vpagelog:Commit='$(COMMIT)' -Vpagelog:Proved=$(PROVED) -Vpagelog:Kit='$(KIT)' -Vpagelog:Words='$(WORDS)' \
+	dh_gencontrol -- -Vpagelog:Commit='$(COMMIT)' -Vpagelog:Proved=$(PROVED) -Vpagelog:Kit='$(KIT)' -Vpagelog:Noted='$(NOTED)' -Vpagelog:Words='$(WORDS)' \
 	    -Vpagelog:Mark='$(MARK)' -Vpagelog:Sum=$(SUM)
 
 .PHONY: c units pages

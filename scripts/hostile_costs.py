@@ -1,11 +1,17 @@
 """Parts of scripts/hostile: what a service takes of processors, memory and descriptors. Each bound is some five times what was
 measured."""
 
+import contextlib
+import os
+import pathlib
 import statistics
+import subprocess
+import sys
+import tempfile
 
 from clients import asked, read_reply, same
 from hostile_limits import with_descriptors
-from hostile_service import EMPTY, NO_REQUEST, SPINNING, STATUS, Serve, at_most, grows, is_asleep, until, used
+from hostile_service import EMPTY, NO_REQUEST, ROOT, SPINNING, STATUS, Serve, at_most, grows, is_asleep, until, used
 from wire import frame
 
 # How many KiB more a service may hold with the parts of a second hundred connections than with those of a first, which are silent
@@ -14,6 +20,8 @@ from wire import frame
 KEPT = 1024
 # A worker that polled awake this often has run 230 to 400 times as long as most, which answered a request; others up to 15 times.
 IDLE_POLLS, AWAKE = 10000, 60
+# How often a worker polls awake without --idle-polls, and how many processors the service may use then at least.
+DEFAULT_POLLS, PROCESSORS = 300, 3
 
 
 def with_parts(service, honest, count, data, part):
@@ -109,3 +117,42 @@ def idle(workers, rounds):
         client.close()
     service.ends(workers, 0)
     return f"{sum(awake)} of {workers * rounds} polled awake"
+
+
+def processors():
+    """Those that this process may use; of a cgroup that has less of their time, fewer."""
+    allowed = sorted(os.sched_getaffinity(0))
+    with contextlib.suppress(OSError, ValueError):
+        time, period = pathlib.Path("/sys/fs/cgroup/cpu.max").read_text().split()
+        return allowed[:max(1, int(time) // int(period))]
+    return allowed
+
+
+def polls_of(counter, allowed, words):
+    """How often the worker of a service that may use these processors polled awake, until it slept after a request."""
+    told = counter.with_suffix(".polls")
+    preload = {**os.environ, "LD_PRELOAD": str(counter), "COUNT_POLLS": str(told)}
+    service = Serve(1, 1, *words, env=preload, preexec_fn=lambda: os.sched_setaffinity(0, allowed))
+    client = service.connect()
+    same("before the worker sleeps", EMPTY, asked(client, STATUS))
+    until("a worker that sleeps", lambda: all(map(is_asleep, service.threads())))
+    client.close()
+    service.ends(1, 0)
+    return int.from_bytes(told.read_bytes(), sys.byteorder)
+
+
+def default_polls():
+    """Without --idle-polls a worker polls awake where the service may use three processors, and not where it may use fewer; with it,
+    as often as it says."""
+    own = processors()
+    with tempfile.TemporaryDirectory() as folder:
+        counter = pathlib.Path(folder) / "count_polls.so"
+        subprocess.run(["gcc", "-O2", "-shared", "-fPIC", "-o", counter, ROOT / "scripts" / "count_polls.c"], check=True)
+        for count in range(1, min(len(own), PROCESSORS) + 1):
+            allowed = own[:count]
+            found = polls_of(counter, allowed, [])
+            same(f"whether it polls awake with {count} processors", count >= PROCESSORS, found >= DEFAULT_POLLS)
+            same(f"whether it sleeps at once with {count} processors", count < PROCESSORS, found == 0)
+            same("whether it polls awake if that is said", True, polls_of(counter, allowed, ["--idle-polls", 40]) >= 40)
+            same("how often if none is said", 0, polls_of(counter, allowed, ["--idle-polls", 0]))
+    return f"with 1 to {min(len(own), PROCESSORS)} processors"

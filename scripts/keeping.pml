@@ -17,7 +17,7 @@
  *
  * Under the name of a function or a statement of clients/python come its decisive lines, as in primary.pml.
  *
- * Left out: what writers do (moves.pml); releases, which a take-over shows as well; the lives of keepers; a PostgreSQL that goes back.
+ * Left out: what writers do (moves.pml); releases, which a take-over shows as well; the lives of keepers; a PostgreSQL that goes back (identity.pml).
  */
 #ifndef RUNS
 #define RUNS 3
@@ -252,7 +252,7 @@ end:
     /* The next run. */
 // statements.py: NUMBER
                     // ..
-                    // UPDATE pagelog_log SET next_generation = next_generation + 1
+                    // UPDATE pagelog_log SET next_generation = GREATEST(next_generation, %(least)s) + 1
                     // WHERE id = %(id)s AND run = %(run)s AND generation = %(generation)s AND NOT dropped RETURNING next_generation - 1
                     // ..
     :: d_step { mine != 0 && stage == NONE && !doubts && alive[mine] && runs < RUNS && HOLDS(mine) ->
@@ -264,7 +264,7 @@ end:
     :: d_step { stage == MAKING && !doubts && alive[next] && reached[next] < reached[mine] -> fill(next, reached[mine]) }
 // succession.py: _closed
                     // ..
-                    // end = served.close()
+                    // end = patiently(served, served.close)
                     // ..
                     // blocks = _pulled(served, successor.reached, end)
                     // ..
@@ -337,7 +337,7 @@ end:
           seen_generation = generation; seen_archived = archived }
 // statements.py: TAKE
                     // ..
-                    // UPDATE pagelog_log SET generation = next_generation, next_generation = next_generation + 1, run = %(run)s, holder = %(me)s,
+                    // UPDATE pagelog_log SET generation = GREATEST(next_generation, %(least)s), next_generation = GREATEST(next_generation, %(least)s) + 1, run = %(run)s, holder = %(me)s,
                     // address = %(address)s, shift = COALESCE(%(shift)s::bigint, shift), images = COALESCE(%(images)s::bigint, images), base = archived,
                     // wanted = NULL, succeed = false
                     // WHERE id = %(id)s AND generation = %(generation)s AND archived = %(archived)s AND run IS NOT DISTINCT FROM %(seen_run)s::text

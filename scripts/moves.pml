@@ -25,7 +25,7 @@
  * Under the name of a function of clients/c come its decisive lines, as in primary.pml.
  *
  * Left out: commits of several blocks; epochs within a generation, but for who has begun the last one, and whether another has since
- * (primary.pml has them); turns; commits that nobody waits for; the keepers' own steps; an archive that goes back.
+ * (primary.pml has them); turns; commits that nobody waits for; the keepers' own steps; an archive that goes back, and a name that is used again (identity.pml).
  */
 #ifndef GENS
 #define GENS 3
@@ -153,6 +153,7 @@ end:
                     // carry(file, named->place.shift - place->shift);
                     // ..
                     // named->place = *place;
+                    // ..
                     // named->has_place = named->is_between = true;
                     // ..
                     // pagelog_become_follower(file);
@@ -219,11 +220,11 @@ inline tell_durable(b) { assert(archived >= place_of[b] && archive[place_of[b]] 
                     // pagelog_cache_clear(file->cache);
                     // file->named.is_gone = true;
                     // file->named.given_up++;
-// pagelog_move.c: lose_from
+// pagelog_move.c: lose_to
                     // ..
                     // bool was_told = position <= named->own;
                     // pagelog_tail_cut(&named->tail, position);
-                    // named->settled = named->place.generation;
+                    // named->settled = named->place;
                     // named->is_between = false;
                     // if (named->told >= position) named->told = position - 1;
                     // pagelog_become_follower(file);
@@ -262,9 +263,9 @@ inline lose_from(p, told_as) {
 
 // pagelog_move.c: learn_end
                     // ..
-                    // if (pagelog_tail_is_empty(&named->tail) || named->settled == named->place.generation) return PAGELOG_DONE;
+                    // if (pagelog_tail_is_empty(&named->tail) || is_settled_here(named)) return PAGELOG_DONE;
                     // ..
-                    // pagelog_fate_of(named->keepers, NULL, named->settled, named->tail.next - 1, &fate);
+                    // pagelog_fate_of(named->keepers, NULL, &named->settled, named->tail.next - 1, &fate);
                     // ..
                     // uint64_t told = fate.end < named->told ? fate.end : named->told;
                     // if (told > named->durable) named->durable = told;
@@ -427,7 +428,7 @@ inline settle_tail() {
                     // if (outcome == PAGELOG_DONE) outcome = learn_end(file);
                     // if (outcome == PAGELOG_DONE) outcome = settle_tail(file, &status);
                     // if (outcome != PAGELOG_DONE) return outcome;
-                    // named->settled = named->place.generation;
+                    // named->settled = named->place;
                     // ..
                     // outcome = find_transaction(file, pagelog_end(file->log));
                     // if (outcome == PAGELOG_DONE) named->is_between = false;
@@ -473,7 +474,8 @@ inline send_again() {
                     // uint64_t least = named->has_place ? named->place.generation : 0;
                     // ..
                     // enum pagelog_outcome outcome = pagelog_where(named->keepers, least, &place);
-                    // bool is_other = !named->has_place || place.generation > least;
+                    // ..
+                    // bool is_other = !named->has_place || place.generation > least || (named->is_superseded && !is_same);
                     // ..
                     // if (is_other) outcome = enter(file, &place);
                     // return outcome == PAGELOG_DONE ? go_on(file) : outcome;
@@ -503,16 +505,18 @@ inline try_to_move() {
 
 // pagelog_move.c: may_be_there
                     // return named->is_sent_again && !pagelog_tail_is_empty(&named->tail) && named->tail.next - 1 > named->told;
+// pagelog_move.c: give_up_move
+                    // ..
+                    // return pagelog_file_fail(file, may_be_there(&file->named) ? PAGELOG_IN_DOUBT : leaving->cause, why);
 // pagelog_move.c: move
                     // ..
                     // file->named.is_sent_again = false;
                     // for (;;)
-                    // enum pagelog_outcome outcome = try_to_move(file, is_over && file->named.place.generation == left);
+                    // bool is_over = leaving.is_over && file->named.place.generation == leaving.generation;
+                    // enum pagelog_outcome outcome = try_to_move(file, is_over);
                     // if (outcome == PAGELOG_DONE || !is_passing(file, outcome)) return outcome;
                     // ..
-                    // if (!pause_until(file, until, &ms))
-                    // return pagelog_file_fail(file, may_be_there(&file->named) ? PAGELOG_IN_DOUBT : cause
-                    // ..
+                    // if (!pagelog_file_may_wait(file, &patience)) return give_up_move(file, &leaving);
 #ifdef GIVES_UP_AS_LOST
 #define MAY_BE_THERE false
 #else
@@ -541,6 +545,7 @@ inline move(why) {
 #define IS_TOLD(g) ((g) < now -> ends[g] : archived)
 
 // pagelog_move.c: pagelog_arrive
+                    // ..
                     // return file->named.is_between ? pagelog_move(file, PAGELOG_LOST) : PAGELOG_DONE;
 #ifdef READS_ON_BEFORE_IT_HAS_LOOKED
 #define HAS_ARRIVED true
@@ -581,8 +586,10 @@ inline follow() {
 // pagelog_named.c: become_writer
                     // ..
                     // if (outcome == PAGELOG_DONE) outcome = compare_newest(file, PAGELOG_SECONDARY, status.hard);
+                    // bool is_let_in = outcome == PAGELOG_DONE;
                     // if (outcome == PAGELOG_DONE)
                     // outcome = pagelog_take_over(file->log, options->operator_principal, options->operator_token, 0);
+                    // ..
                     // if (outcome == PAGELOG_DONE) outcome = compare_newest(file, PAGELOG_PRIMARY, pagelog_end(file->log));
                     // if (outcome != PAGELOG_DONE) return outcome;
                     // ..
@@ -616,11 +623,12 @@ inline append() {
                     // ..
                     // if (outcome != PAGELOG_DONE && pagelog_may_move(file, outcome)) outcome = pagelog_move(file, outcome);
                     // if (outcome != PAGELOG_DONE) return let_go(file, outcome);
-                    // named->settled = named->place.generation;
+                    // named->settled = named->place;
                     // if (!pagelog_tail_is_empty(&named->tail)) named->told = named->own = named->tail.next - 1;
                     // return PAGELOG_DONE;
 // pagelog_move.c: pagelog_move
-                    // return move(file, false, cause == PAGELOG_IN_DOUBT || cause == PAGELOG_AUDIT_FULL ? cause : PAGELOG_LOST);
+                    // bool is_kept = cause == PAGELOG_IN_DOUBT || cause == PAGELOG_AUDIT_FULL || cause == PAGELOG_NO_MEMORY;
+                    // return move(file, (struct leaving){.cause = is_kept ? cause : PAGELOG_LOST});
 inline end_append() {
     if
     :: outcome == IN_DOUBT -> move(IN_DOUBT)
@@ -665,15 +673,16 @@ inline hold_nothing() {
 // pagelog_durable.c: pagelog_file_is_durable
                     // ..
                     // if (awaited->position <= named->durable) return true;
-                    // awaited->generation = named->place.generation;
+                    // awaited->place = named->place;
                     // ..
 // pagelog_durable.c: note_durable
                     // ..
-                    // if (named->settled != named->place.generation) return;
+                    // if (!is_settled_here(named)) return;
                     // if (position > named->durable) named->durable = position;
                     // pagelog_tail_drop(&named->tail, position < named->told ? position : named->told);
 // pagelog_durable.c: pagelog_note_fate
-                    // bool is_here = generation == file->named.place.generation;
+                    // bool is_here = strcmp(place->run, file->named.place.run) == 0;
+                    // ..
                     // if (is_here) note_durable(file, fate->end);
                     // return is_here && fate->is_over && fate->end < position ? pagelog_move_on(file) : PAGELOG_DONE;
 #ifdef TAKES_ANY_ANSWER
@@ -702,7 +711,7 @@ inline note_durable(p) {
                     // if (named->told < awaited->position && named->durable < awaited->position)
                     // return pagelog_file_fail(file, PAGELOG_CONFLICT
                     // ..
-                    // if (outcome == PAGELOG_DONE) return pagelog_note_fate(file, awaited->generation, fate, awaited->position);
+                    // if (outcome == PAGELOG_DONE) return pagelog_note_fate(file, &awaited->place, fate, awaited->position);
                     // ..
 inline wait_until_durable() {
     do
@@ -817,9 +826,10 @@ end:
 #ifdef READERS
 // pagelog_durable.c: pagelog_glance
                     // ..
-                    // if (place.generation > named->place.generation) return pagelog_move_on(file);
+                    // if (place.generation > named->place.generation)
+                    // return was_suspect && has_lost_run(file, &place) ? PAGELOG_DONE : pagelog_move_on(file);
                     // note_durable(file, place.archived);
-                    // return PAGELOG_DONE;
+                    // return file->options.durable_only && !file->options.at ? hurry(file) : PAGELOG_DONE;
 // pagelog_named.c: pagelog_limit_of
                     // return file->options.durable_only ? lsn_of(file, file->named.durable) : UINT64_MAX;
 #ifdef SEES_WHAT_IS_NOT_DURABLE

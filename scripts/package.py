@@ -5,7 +5,10 @@ Usage: scripts/package [--quick PROGRAM] [--out FOLDER]
 The program is the one that rt has proved and built, crates/pagelog/out/pagelog, byte for byte. It is refused if a source is newer.
 With --quick it is PROGRAM, and version and description say that it is not proved. All else is what git has of this checkout, with
 changes that are not committed yet, and then the version says so. The packages and SHA256SUMS go into FOLDER, by default
-packaging/out/VERSION. The same commit and program give the same bytes.
+packaging/out/VERSION. The same commit, program and note give the same bytes.
+
+With which kit the program was built is what was noted then (build_note.py). If nothing was, as after `rt ci`, the packages say so, and
+which kit was at hand when they were built. No kit is refused for its name.
 """
 
 import argparse
@@ -17,7 +20,8 @@ import subprocess
 import sys
 import tempfile
 
-from version import ROOT, version_and_kit
+from build_note import kit_at_hand, note_of, sum_of
+from version import ROOT, version
 
 PROVED = ROOT / "crates" / "pagelog" / "out" / "pagelog"
 # The folders of a crate of which rt proves it anew where a file has changed.
@@ -26,7 +30,7 @@ MAINTAINER = "Kayakugli maintainers <maintainers@users.noreply.kayakugli.example
 CHANGELOG = """pagelog ({version}) unstable; urgency=medium
 
   * Commit {commit}.
-  * The program {words}, with {kit}.
+  * The program {words}. {noted}
 
  -- {maintainer}  {date}
 """
@@ -73,11 +77,11 @@ def newer_source(program):
     return next((file for file in [ROOT / "crates.txt", *files] if file.stat().st_mtime > built), None)
 
 
-def check_program(program, is_proved, release, kit):
+def check_program(program, is_proved, release):
     """It runs, is of this version, and, if it was proved, of these sources."""
     if not os.access(program, os.X_OK):
         fail(f"there is no {program}: `rt ci` builds the proved program, and --quick takes another")
-    said, wanted = output([program, "--version"]), f"pagelog {release} ({kit})"
+    said, wanted = output([program, "--version"]), f"pagelog {release}"
     if said != wanted:
         fail(f"{program} is {said}, not {wanted}")
     newer = newer_source(program) if is_proved else None
@@ -85,14 +89,19 @@ def check_program(program, is_proved, release, kit):
         fail(f"{newer.relative_to(ROOT)} is newer than {program.relative_to(ROOT)}: prove it again")
 
 
-def identity(kit, is_proved):
-    """The kit, as it names itself if it is at hand."""
-    if not shutil.which("rt"):
-        return fail("who proved it is said by rt, which is not on the PATH") if is_proved else kit
-    said = output(["rt", "version"])
-    if said.split()[0] != kit:
-        fail(f"the program is of {kit}, and rt is {said}")
-    return said
+def kit_of(program, is_proved):
+    """The kit with which the program was built, as far as anybody knows: a short form, and a sentence."""
+    note = note_of(program)
+    if note and is_proved and note.proved != "yes":
+        fail(f"it was noted of {program} that it is not proved: prove it, or say --quick {program}")
+    if note:
+        return note.kit, f"It was noted when it was built: with {note.kit}."
+    kit = kit_at_hand()
+    if kit:
+        return f"not noted; at packaging {kit}", f"Its kit was not noted when it was built; at packaging it was {kit}."
+    if is_proved:
+        fail("its kit was not noted, and no rt is on the PATH: python3 -B scripts/build.py proved notes it")
+    return "not noted", "Its kit was not noted when it was built."
 
 
 def build(folder, checkout, program, facts):
@@ -130,14 +139,14 @@ def main():
     parser.add_argument("--out", metavar="FOLDER", type=pathlib.Path, help="where the packages go")
     words = parser.parse_args()
     program, is_proved = (words.quick or PROVED).resolve(), words.quick is None
-    release, kit = version_and_kit()
-    check_program(program, is_proved, release, kit)
-    checkout = Checkout()
+    release = version()
+    check_program(program, is_proved, release)
+    (kit, noted), checkout = kit_of(program, is_proved), Checkout()
     facts = {
-        "version": checkout.version(release, is_proved), "release": release, "kit": identity(kit, is_proved),
+        "version": checkout.version(release, is_proved), "release": release, "kit": kit, "noted": noted,
         "commit": checkout.commit + (" with changes" if checkout.is_changed else ""), "proved": "yes" if is_proved else "no",
         "words": "is proved" if is_proved else "is NOT PROVED", "mark": "" if is_proved else ", not proved",
-        "sum": hashlib.sha256(program.read_bytes()).hexdigest(),
+        "sum": sum_of(program),
     }  # fmt: skip
     with tempfile.TemporaryDirectory() as name:
         folder = pathlib.Path(name) / "pagelog"

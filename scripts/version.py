@@ -6,24 +6,23 @@ import re
 import sys
 
 ROOT = pathlib.Path(__file__).resolve().parent.parent
-SOURCE = "crates/pl_command/src/options.rt", r'^const VERSION: &str = "(\S+) \((\S+)\)";$'
+SOURCE = "crates/pl_command/src/options.rt", r'^const VERSION: &str = "(\S+)";$'
 # What says the same.
 ALSO = [("clients/python/src/pagelog/__init__.py", r'^__version__ = "(.*)"$'), ("CHANGELOG.md", r"^## (\d\S*)$")]
 
 
 def found_in(name, pattern):
-    """What the first line of the file has that is like the pattern."""
+    """The part of the pattern in the first line of the file that is like it."""
     found = re.search(pattern, (ROOT / name).read_text(), flags=re.M)
     if not found:
         sys.exit(f"version: {name} has no line {pattern}")
-    return found.groups()
+    return found[1]
 
 
-def version_and_kit():
-    """The version, and the kit with which the program is proved and compiled. It ends the process if a place says another version."""
-    version, kit = found_in(*SOURCE)
+def version():
+    """The version. It ends the process if a place says another one."""
+    version = found_in(*SOURCE)
     for name, pattern in ALSO:
-        (other,) = found_in(name, pattern)
-        if other != version:
+        if (other := found_in(name, pattern)) != version:
             sys.exit(f"version: {name} says {other}, and {SOURCE[0]} says {version}")
-    return version, kit
+    return version
