@@ -263,18 +263,28 @@ inline lose_from(p, told_as) {
 
 // pagelog_move.c: learn_end
                     // ..
-                    // if (pagelog_tail_is_empty(&named->tail) || is_settled_here(named)) return PAGELOG_DONE;
+                    // uint64_t last = is_empty ? named->own : named->tail.next - 1;
+                    // if (is_settled_here(named) || last == 0) return PAGELOG_DONE;
+                    // enum pagelog_outcome outcome = pagelog_fate_of(named->keepers, NULL, &named->settled, last, &fate);
                     // ..
-                    // pagelog_fate_of(named->keepers, NULL, &named->settled, named->tail.next - 1, &fate);
+                    // bool is_lost = fate.end < named->durable || (is_empty && fate.is_over && fate.end < last);
+                    // if (is_lost) fate.loss = PAGELOG_SUPERSEDED;
                     // ..
                     // uint64_t told = fate.end < named->told ? fate.end : named->told;
                     // if (told > named->durable) named->durable = told;
                     // pagelog_tail_drop(&named->tail, told);
                     // ..
+/* This archive never goes back, so nothing that was durable is lost. */
+#ifdef FORGETS_THE_TAIL
+#define IS_LOST (ends[settled] < safe)
+#else
+#define IS_LOST (ends[settled] < safe || (IS_EMPTY && ends[settled] < own))
+#endif
 inline learn_end() {
     if
-    :: !IS_EMPTY && settled != gen ->
+    :: settled != gen && (IS_EMPTY -> own : next - 1) > 0 ->
        assert(settled < now);
+       assert(!IS_LOST);
        i = (ends[settled] < told -> ends[settled] : told);
        safe = (i > safe -> i : safe);
        tail_drop(i);
