@@ -274,9 +274,9 @@ inline lose_from(p, told_as) {
                     // if (told > named->durable) named->durable = told;
                     // pagelog_tail_drop(&named->tail, told);
                     // ..
-/* This archive never goes back, so nothing that was durable is lost. */
-#ifdef FORGETS_THE_TAIL
-#define IS_LOST (ends[settled] < safe)
+/* This archive never goes back, so nothing that was durable is lost. A planted fault is to be found by what its user meets. */
+#ifdef PLANTED
+#define IS_LOST false
 #else
 #define IS_LOST (ends[settled] < safe || (IS_EMPTY && ends[settled] < own))
 #endif
