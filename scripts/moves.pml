@@ -224,6 +224,7 @@ inline tell_durable(b) { assert(archived >= place_of[b] && archive[place_of[b]] 
                     // ..
                     // bool was_told = position <= named->own;
                     // pagelog_tail_cut(&named->tail, position);
+                    // if (named->durable >= position) named->durable = position - 1;
                     // named->settled = named->place;
                     // named->is_between = false;
                     // if (named->told >= position) named->told = position - 1;
@@ -238,6 +239,7 @@ inline tell_durable(b) { assert(archived >= place_of[b] && archive[place_of[b]] 
 inline lose_from(p, told_as) {
     is_over = is_over || p <= own;
     tail_cut(p);
+    safe = (safe >= p -> p - 1 : safe);
     settled = gen; is_between = 0;
     told = (told >= p -> p - 1 : told);
     is_writer = 0; is_gone = 1;

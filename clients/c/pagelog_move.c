@@ -219,6 +219,7 @@ static enum pagelog_outcome lose_to(struct pagelog_file *file, uint64_t position
     struct named *named = &file->named;
     bool was_told = position <= named->own;
     pagelog_tail_cut(&named->tail, position);
+    if (named->durable >= position) named->durable = position - 1;
     named->settled = named->place;
     named->is_between = false;
     if (named->told >= position) named->told = position - 1;
@@ -262,6 +263,7 @@ enum pagelog_outcome pagelog_lose_run(struct pagelog_file *file, const struct pa
     else if (is_durable)
         first = named->own;
     named->lost = reason_of(loss);
+    named->durable = 0; /* of the run that follows, whose positions come again, nothing is known */
     enum pagelog_outcome outcome =
         lose_to(file, first, is_no_more ? PAGELOG_DENIED : PAGELOG_FENCED, reason_of(loss));
     named->is_superseded = named->is_between = is_here && !is_no_more;

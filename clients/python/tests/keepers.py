@@ -289,8 +289,8 @@ class Keeping:
         return {} if row is None else {standby.keeper: standby.reached for standby in look.standbys_of(row.id)}
 
     def primary(self, name: str = "shop", id: int = 2, **options: Any) -> NamedPrimary:
-        return Primary.named(name, keepers=self.addresses, principal=id, token=token(id), operator=(1, token(1)), patience=PATIENCE,
-                             timeout=PATIENCE, **options)  # fmt: skip
+        options = {"patience": PATIENCE, "timeout": PATIENCE, **options}
+        return Primary.named(name, keepers=self.addresses, principal=id, token=token(id), operator=(1, token(1)), **options)
 
     def reader(self, name: str = "shop", **options: Any) -> NamedReader:
         return Reader.named(name, keepers=self.addresses, principal=3, token=token(3), patience=PATIENCE, timeout=PATIENCE, **options)

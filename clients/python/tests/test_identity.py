@@ -15,7 +15,7 @@ from typing import Any, Callable
 import psycopg
 
 from keepers import Kept, eventually, new_url
-from pagelog import NamedPrimary
+from pagelog import ConnectionLost, NamedPrimary
 from pagelog.keeper import numbers
 from pagelog.keeper.rows import Row
 from pagelog.place import Lost, Place, UnknownName
@@ -325,7 +325,7 @@ class NumbersComeAgain(Going):
     def go_back_before_a_switchover(self, write: Callable[[int], object], continues: bool) -> Place:
         """Returns the place of the generation that PostgreSQL has lost, and a writer is in, once that continues, or another has gone on:
         the keeper that would do the other thing stands still meanwhile."""
-        before = str(self.holder())
+        before, first = str(self.holder()), self.keeping.row().run
         eventually(lambda: len(self.keeping.standbys()) == 1, "a standby")
         self.copy()
         write(1)
@@ -337,16 +337,18 @@ class NumbersComeAgain(Going):
         stand_still(pid)
         try:
             self.set_back()
-            eventually(lambda: self.has_gone_on(place, continues), "who goes on")
+            eventually(lambda: self.has_gone_on(first, place, continues), "who goes on")
         finally:
             os.kill(pid, signal.SIGCONT)
-        self.assertGreater(self.keeping.row().generation, place.generation)
         return place
 
-    def has_gone_on(self, place: Place, continues: bool) -> bool:
-        """Whether the run that PostgreSQL had lost is known to it again, or a later one serves."""
+    def has_gone_on(self, first: str | None, place: Place, continues: bool) -> bool:
+        """Whether the run that PostgreSQL had lost has a later number there, or one serves that is neither this one nor the first, perhaps
+        under the same number."""
         row = self.keeping.row()
-        return row.address is not None and row.run is not None and row.generation > place.generation and (row.run == place.run) == continues
+        if row.address is None or row.run is None:
+            return False
+        return row.run == place.run and row.generation > place.generation if continues else row.run not in (first, place.run)
 
     def test_a_writer_is_told_nothing_of_another_run_of_the_number(self) -> None:
         primary = self.enterContext(self.keeping.primary())
@@ -394,6 +396,35 @@ class NumbersComeAgain(Going):
         old = self.sqlite_over(continues=True)
         old.execute("insert into t values(9001)")
         self.assertEqual(self.rows(), (9001, 1, 20))
+
+    def test_what_was_durable_of_a_lost_run_is_not_so_of_the_next(self) -> None:
+        """Its positions come again, and each commit there is durable once PostgreSQL has it."""
+        old = connected(self.keeping.addresses, move=2000)
+        old.execute("create table t(n integer primary key)")
+
+        def write(number: int) -> None:
+            for each in range(20):
+                old.execute("insert into t values(?)", (100 * number + each,))
+
+        self.go_back_before_a_switchover(write, continues=False)
+        with self.assertRaises(sqlite3.OperationalError):
+            old.execute("insert into t values(9000)")
+        self.keeping.referee.close()
+        self.cut_off()
+        self.addCleanup(self.server, "ALTER DATABASE {name} ALLOW_CONNECTIONS true")
+        with self.assertRaises(sqlite3.OperationalError):
+            old.execute("insert into t values(9001)")
+
+    def test_what_was_durable_of_a_lost_run_is_not_so_of_the_next_in_python(self) -> None:
+        primary = self.enterContext(self.keeping.primary(patience=2.0))
+        self.commit(primary, "0", durable=True)
+        self.go_back_before_a_switchover(lambda number: [self.commit(primary, f"gone {number}", durable=True) for _ in range(20)], continues=False)
+        self.lost(primary, durable=True)
+        self.keeping.referee.close()
+        self.cut_off()
+        self.addCleanup(self.server, "ALTER DATABASE {name} ALLOW_CONNECTIONS true")
+        with self.assertRaises(ConnectionLost):
+            self.commit(primary, "not durable yet", durable=True)
 
 
 if __name__ == "__main__":

@@ -435,7 +435,7 @@ class NamedPrimary(Following):
         if lost is not None:
             self._tail, self.end, self.place, self._epoch = [], hard, place, None
             self.keepers.is_of(place)
-            self._told = min(self._told, lost - 1)
+            self._told, self.durable_end = min(self._told, lost - 1), min(self.durable_end, lost - 1)
             self._leave()
             raise Lost(lost)
 
