@@ -113,7 +113,8 @@ static enum pagelog_outcome learn_end(struct pagelog_file *file) {
     struct pagelog_fate fate;
     bool is_empty = pagelog_tail_is_empty(&named->tail);
     uint64_t last = is_empty ? named->own : named->tail.next - 1; /* where all is durable, it may be lost */
-    if (is_settled_here(named) || last == 0) return PAGELOG_DONE;
+    bool is_told = named->settled.run[0] == '\0';
+    if (is_settled_here(named) || is_told || last == 0) return PAGELOG_DONE;
     enum pagelog_outcome outcome = pagelog_fate_of(named->keepers, NULL, &named->settled, last, &fate);
     if (outcome != PAGELOG_DONE) return outcome;
     bool is_lost = fate.end < named->durable || (is_empty && fate.is_over && fate.end < last);
@@ -267,6 +268,7 @@ enum pagelog_outcome pagelog_lose_run(struct pagelog_file *file, const struct pa
     enum pagelog_outcome outcome =
         lose_to(file, first, is_no_more ? PAGELOG_DENIED : PAGELOG_FENCED, reason_of(loss));
     named->is_superseded = named->is_between = is_here && !is_no_more;
+    if (named->is_superseded) named->settled = (struct pagelog_place){0}; /* it is told of that once */
     return outcome;
 }
 

@@ -350,9 +350,9 @@ class Kept(unittest.TestCase):
         if any(test is self or getattr(test, "test_case", None) is self for test, _ in result.failures + result.errors):
             print(self.keeping.said())
 
-    def texts(self) -> list[bytes]:
+    def texts(self, name: str = "shop") -> list[bytes]:
         """The text of each archived block, in order."""
-        return [Block.decode(block).records[-1].data.strip(b"<>") for block in self.keeping.archive()]  # type: ignore[union-attr]
+        return [Block.decode(block).records[-1].data.strip(b"<>") for block in self.keeping.archive(name)]  # type: ignore[union-attr]
 
     def commit(self, primary: object, text: str, **how: bool) -> int:
         primary.append(put(0, f"<{text}>".encode()))  # type: ignore[attr-defined]

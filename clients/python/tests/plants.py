@@ -166,7 +166,7 @@ PLANTS = {
                                     "lives", "before_it_has"),
     "folder": Plant("folder", "            fcntl.flock(self._descriptor, fcntl.LOCK_EX | fcntl.LOCK_NB)\n", "            pass\n", "lives",
                     "its_folder"),
-    "vanished": Plant("keeping", "            self.databases[id].lose()\n", "            pass\n", "lives", "has_lost"),
+    "vanished": Plant("keeping", "            self.databases[identity].lose()\n", "            pass\n", "lives", "has_lost"),
     "given up": Plant("committer", "            if due.future.cancelled():\n                continue\n", "", "attacks", "two_batches"),
     "one of a database": Plant("committer", "due.batch.log in taken or ", "", "attacks", "two_batches"),
     "let go": Plant("ending", "            self._database.let_go = last.generation  # first: whether it is released may be in doubt\n", "", "lives", "release_was"),

@@ -17,9 +17,10 @@ import psycopg
 from keepers import Kept, eventually, new_url
 from pagelog import ConnectionLost, NamedPrimary
 from pagelog.keeper import numbers
+from pagelog.keeper.referee import Referee
 from pagelog.keeper.rows import Row
-from pagelog.place import Lost, Place, UnknownName
-from service import stand_still
+from pagelog.place import Keepers, Lost, Place, UnknownName
+from service import PATIENCE, stand_still
 from sqlite_named import connected, enter, error_of
 
 
@@ -83,12 +84,12 @@ class Going(Kept):
         self.assertTrue(self.keeping.referee.create("shop", self.keeping.table.read_text(), b"s" * 16))
         self.wait_for_another_than(before)
 
-    def wait_for_another_than(self, run: str | None) -> None:
+    def wait_for_another_than(self, run: str | None, name: str = "shop") -> None:
         """Until a keeper tells the place of another run."""
 
         def is_told() -> bool:
             try:
-                place = self.keeping.keepers().where()
+                place = self.keeping.keepers(name).where()
             except UnknownName:
                 return False
             return place is not None and place.run != run
@@ -333,6 +334,9 @@ class NumbersComeAgain(Going):
         write(2)
         after = str(self.holder())
         self.assertNotEqual(after, before)
+        for address in self.keeping.addresses:  # who goes on has seen its number
+            with closing(Keepers("shop", [address], PATIENCE)) as keeper:
+                keeper.place(place.generation)
         pid = self.keeping.processes[before if continues else after].pid
         stand_still(pid)
         try:
@@ -391,6 +395,73 @@ class NumbersComeAgain(Going):
         self.assertIn("went back", error_of(old))
         old.execute("insert into t values(9001)")
         self.assertEqual(self.rows(), (9001, 0, 20))
+
+    def give_a_number_twice(self, write: Callable[[int], object]) -> Place:
+        """The keeper that goes on was dead while the other one had the generation of this number, so that it gives it again. Returns the
+        place of the run that is lost, and a writer is in."""
+        before = str(self.holder())
+        eventually(lambda: len(self.keeping.standbys()) == 1, "a standby")
+        write(1)
+        self.copy()
+        self.keeping.kill(before)
+        place = self.keeping.place(least=self.keeping.row().generation + 1)
+        write(2)
+        pid = self.keeping.processes[str(self.holder())].pid
+        stand_still(pid)
+        try:
+            self.set_back()
+            self.keeping.start(before)
+            self.keeping.word("succeed", "shop")
+            eventually(lambda: self.keeping.row().generation == place.generation, "another run of the number")
+        finally:
+            os.kill(pid, signal.SIGCONT)
+        for address in self.keeping.addresses:
+            with closing(Keepers("shop", [address], PATIENCE)) as keeper:
+                eventually(lambda: keeper.place().run != place.run, "a word of the other run")  # noqa: B023
+        return place
+
+    def test_a_writer_is_told_nothing_of_another_run_whose_number_is_its_own(self) -> None:
+        primary = self.enterContext(self.keeping.primary())
+        self.give_a_number_twice(lambda number: self.commit(primary, f"{number}", durable=True))
+        self.fill("new", 30)
+        self.assertIn("PostgreSQL went back", self.lost(primary, durable=True))
+        self.commit(primary, "after", durable=True)
+        texts = self.texts()
+        self.assertEqual((texts[0], b"new" in texts, b"mine" in texts, texts[-1]), (b"1", True, False, b"after"))
+
+    def test_a_writer_of_sqlite_is_told_nothing_of_another_run_whose_number_is_its_own(self) -> None:
+        old = connected(self.keeping.addresses)
+        old.execute("create table t(n integer primary key)")
+        self.give_a_number_twice(lambda number: old.execute("insert into t values(?)", (100 + number,)))
+        enter(self.keeping.addresses, 20)
+        with self.assertRaises(sqlite3.OperationalError):
+            old.execute("insert into t values(9000)")
+        self.assertIn("went back", error_of(old))
+        old.execute("insert into t values(9001)")
+        highest, _, others = self.rows()
+        self.assertEqual((highest, others), (9001, 20))
+
+    def test_a_database_is_no_other_whose_number_it_has(self) -> None:
+        """PostgreSQL has lost it, and has given the number of its row, and its name too, to another one."""
+        self.holder()
+        self.copy()
+        self.assertTrue(self.keeping.referee.create("again", self.keeping.table.read_text(), b"s" * 16))
+        self.wait_for_another_than(None, "again")
+        primary = self.enterContext(self.keeping.primary("again"))
+        for _ in range(5):
+            self.commit(primary, "lost", durable=True)
+        eventually(lambda: len(self.keeping.standbys("again")) == 1, "a standby")
+        id, run, name = self.keeping.row("again").id, self.keeping.row("again").run, self.name()
+        with closing(Referee(self.url.replace(f"/{name}", f"/{name}_before"))) as before:
+            self.assertTrue(before.create("again", self.keeping.table.read_text(), b"s" * 16))
+        self.set_back()
+        self.assertEqual(self.keeping.row("again").id, id)
+        self.wait_for_another_than(run, "again")
+        with self.keeping.primary("again", id=5) as other:
+            for _ in range(10):
+                self.commit(other, "new", durable=True)
+        self.assertIn("another", self.lost(primary, durable=True))
+        self.assertEqual(self.texts("again"), [b"new"] * 10)
 
     def test_a_writer_of_sqlite_whose_run_continues_has_lost_nothing(self) -> None:
         old = self.sqlite_over(continues=True)

@@ -19,11 +19,12 @@ from keepers import Kept as KeptService
 from pagelog import Block
 from pagelog.desk.words import pagelogctl
 from pagelog.keeper.bases import Bases, make_base
+from pagelog.keeper.fate import Of
 from pagelog.keeper.recorder import Recorder, Trails
 from pagelog.keeper.rows import Batch, Kept, Lines, Row
 from pagelog.keeper.switch import Switch, number, release, succeed
 from pagelog.reply import LINE_SIZE
-from pagelog.trail import Trail
+from pagelog.trail import OtherKeeper, Trail
 from pagelog.trail.replay import lines_of
 from pagelog.trail.store import piece_behind
 from pagelog_model import wire
@@ -93,7 +94,7 @@ class Statement(Referees):
         other = new_database(self.referee, "other")
         self.referee.take(other, "r1")
         with Trail(self.url, self.row.name, create=True) as trail, Trail(self.url, "other", create=True) as second:
-            one, two = trail.begin(generation=1), second.begin(generation=1)
+            one, two = trail.begin(generation=1, of=f"{self.row.identity}/r1"), second.begin(generation=1, of=f"{other.identity}/r1")
             good = self.batch("r1", self.row, trail, 3)
             assert good.lines is not None
             for wrong in (replace(good, run="r2"), replace(good, generation=9), replace(good, old=1)):
@@ -115,12 +116,31 @@ class Statement(Referees):
             self.assertEqual(self.referee.keep([late]), {self.row.id})
             self.assertEqual((trail.lists()[-1].kept, two.kept), (3, 0))
 
+    def test_lines_of_a_run_come_into_no_list_of_another(self) -> None:
+        """PostgreSQL went back, and has given the number of the list's row to another one."""
+        self.taken()
+        other = new_database(self.referee, "other")
+        self.referee.take(other, "r1")
+        with Trail(self.url, self.row.name, create=True) as trail, Trail(self.url, "other", create=True) as second:
+            second.begin(generation=1, of=f"{other.identity}/r1")
+            lines = self.batch("r1", other, second, 3).lines
+            assert lines is not None
+            for of in (f"{self.row.identity}/r1", f"{other.identity}/r2", None):
+                kept = self.referee.kept(self.row.id, "r1")
+                assert kept is not None
+                lost = replace(lines.one, of=of, kept=0)
+                self.assertEqual(self.referee.keep([replace(batch_of(self.row, kept, "r1"), lines=Lines(lines.values, lost))]), {self.row.id})
+                self.assertRaises(OtherKeeper, second.keep, lost, b"x" * LINE_SIZE, 5)
+                second.end(lost, "it is over", 6)
+            [found] = second.lists()
+            self.assertEqual((found.kept, found.ended), (0, None))
+
     def test_the_last_blocks_of_a_generation_bring_their_lines(self) -> None:
         with Trail(self.url, self.row.name, create=True) as trail:
             for run, end in (("r1", self.succeeded), ("r2", self.released)):
                 if run == "r1":
                     self.taken(run)
-                trail.begin(generation=self.seen().generation)
+                trail.begin(generation=self.seen().generation, of=f"{self.row.identity}/{run}")
                 last = self.batch(run, self.seen(), trail, 3)
                 assert last.lines is not None
                 for wrong in (replace(last, run="r9"), replace(last, generation=9), replace(last, old=99)):
@@ -159,7 +179,8 @@ class Statement(Referees):
         kept = self.taken(run)
         served = SimpleNamespace(database="shop", run=run, generation=kept.generation, operator=Listed, texts=lambda: [TABLE.read_bytes()])
         self.said: list[str] = []
-        return Recorder(trails, served, lambda _, sentence: self.said.append(sentence))  # type: ignore[arg-type]
+        of = Of(self.seen().identity, run)
+        return Recorder(trails, served, of, lambda _, sentence: self.said.append(sentence))  # type: ignore[arg-type]
 
     def succeeded(self, last: Batch) -> bool:
         following = number(self.referee, last.log, "r1", self.seen().generation)

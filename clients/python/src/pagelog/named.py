@@ -266,9 +266,9 @@ class NamedPrimary(Following):
             raise error
 
     def _is_anothers(self, place: Place) -> bool:
-        """Whether another client's failover is what denied; it may have been the keeper, who closes the generation. A service that is
-        being killed is not asked: it would be silent until all its memory is freed."""
-        if self.keepers.has_left(place):
+        """Whether another client's failover is what denied; it may have been the keeper, who closes the generation. Another run that has
+        the number says nothing of it. A service that is being killed is not asked: it would be silent until all its memory is freed."""
+        if self.place is not None and place.run != self.place.run or self.keepers.has_left(place):
             return False
         try:
             with Operator(self._connection(place), self._operator.of(place)) as operator:

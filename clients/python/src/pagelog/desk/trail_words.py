@@ -69,11 +69,10 @@ def start_of(table: Path | None, primary: int | None) -> Start | None:
 def chosen(trail: Trail, run: int | None) -> list[TrailList]:
     """The lists that --list chooses."""
     lists = trail.lists()
-    if run is None:
-        return lists
-    if run > len(lists):
+    found = [one for one in lists if run in (None, one.run)]
+    if run is not None and not found:
         raise NoTrail(f"the trail of {trail.log!r} has {len(lists)} lists")
-    return [lists[run - 1]]
+    return found
 
 
 # Keeping.
@@ -268,15 +267,16 @@ def _need_pygal() -> None:
 
 def _lines(trail: Trail, run: int | None, question: Question, follow: bool, stop: Callable[[], bool]) -> Iterator[Seen | TrailList]:
     """The lines that are asked for, and each list behind its last line, if that is in the time."""
-    following = {one.id: 1 for one in chosen(trail, run)}
-    is_ended: set[int] = set()
+    following = {(one.id, one.of): 1 for one in chosen(trail, run)}
+    is_ended: set[tuple[int, str | None]] = set()
     while not stop():
         is_last = not follow or (question.until is not None and 1e6 * (time.time() - _LATE) >= question.until)
         for one in chosen(trail, run):
-            yield from answer(trail, one, question, following.get(one.id, 1))
-            following[one.id] = one.kept + 1
-            if one.ended is not None and one.id not in is_ended and _is_in_time(one, question):
-                is_ended.add(one.id)
+            key = one.id, one.of
+            yield from answer(trail, one, question, following.get(key, 1))
+            following[key] = one.kept + 1
+            if one.ended is not None and key not in is_ended and _is_in_time(one, question):
+                is_ended.add(key)
                 yield one
         if is_last:
             return
@@ -294,10 +294,14 @@ def _time(seen: int) -> datetime:
 
 def _words(found: Seen | TrailList) -> str:
     if isinstance(found, TrailList):
-        of = f" of generation {found.generation}" if found.generation else ""
+        of = f" of generation {found.generation}{_run_of(found)}" if found.generation else ""
         return (f"{_clock(found.ended_seen or found.seen)} list {found.run}{of} ends behind line {found.kept}, seen at {_clock(found.seen)}: "
                 f"{found.ended}")  # fmt: skip
     return f"{_clock(found.seen)} list {found.run}: {entry_line(found.entry)}"
+
+
+def _run_of(one: TrailList) -> str:
+    return "" if one.of is None else f", run {one.of.partition('/')[2]},"
 
 
 def _clock(seen: int) -> str:
@@ -306,8 +310,8 @@ def _clock(seen: int) -> str:
 
 def _json(found: Seen | TrailList) -> str:
     if isinstance(found, TrailList):
-        fields: dict[str, Any] = {"seen": _time(found.ended_seen or found.seen).isoformat(), "list": found.run, "generation": found.generation, "ended": found.ended,
-                                  "last": found.kept, "last_seen": _time(found.seen).isoformat()}  # fmt: skip
+        fields: dict[str, Any] = {"seen": _time(found.ended_seen or found.seen).isoformat(), "list": found.run, "generation": found.generation,
+                                  "of": found.of, "ended": found.ended, "last": found.kept, "last_seen": _time(found.seen).isoformat()}  # fmt: skip
         return json.dumps(fields)
     return json.dumps({"seen": _time(found.seen).isoformat(), "list": found.run, **entry_fields(found.entry)})
 
@@ -396,7 +400,7 @@ def _reader(accounts: Accounts, db: int, archive: Archive, one: TrailList) -> Re
         return client(Reader, accounts, db)
     account = accounts.account(Role.SECONDARY)
     place = Keepers(archive.log, [str(account.to)], timeout()).place()
-    if place.generation != one.generation:
+    if place.generation != one.generation or one.of not in (None, place.of):
         return None
     run = NamedAccount(archive.log, account.credentials.id, account.credentials.token.hex()).of(place)
     return Reader(Connection(place.address, timeout=timeout(), attempts=8), run)

@@ -73,7 +73,7 @@ class Database:
         self._still = Stillness(shared.settings.ttl)
         self._acting: asyncio.Task[None] | None = None
         self._news = False
-        self.work = Work(shared, row.name, self.waits, self.kick)
+        self.work = Work(shared, row, self.waits, self.kick)
         self.moves = Moves()
         self.succession = Succession(self)
         self.beginning, self.standing, self.ending = Beginning(self), Standing(self), Ending(self)
@@ -228,6 +228,11 @@ class Database:
     def follows(self) -> int | None:
         """How far a standby of this keeper is, of what a statement that wrote has shown to be archived; None where it has none."""
         return None if self.served is None or self.holds else min(self.served.reached, self._confirmed)
+
+    def may_have_noted(self, standby: StandbyRow) -> bool:
+        """Whether a standby that is noted of this keeper is the one that is here, if there is one: PostgreSQL may have gone back to
+        another."""
+        return self.served is None or self.served.kind is not Kind.STANDBY or self.served.run == standby.run
 
     @property
     def should_stand_by(self) -> bool:

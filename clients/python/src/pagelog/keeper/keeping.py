@@ -60,7 +60,8 @@ class Keeper:
         self._folder = Folder(settings.program.folder, settings.name)
         self._repeats = Repeats(self._say)
         self.life = secrets.token_hex(8)
-        self.databases: dict[int, Database] = {}
+        self.databases: dict[str, Database] = {}
+        """By their identities: a PostgreSQL that went back gives the number of a row again."""
         self._by_name: dict[str, Database] = {}
         """Those that the last look has shown, and that were not dropped."""
         self.look = Look()
@@ -93,7 +94,7 @@ class Keeper:
         self._left: list[Run] = []
         """Those whose runs nobody holds, and of which it is not known yet what is to become."""
         self._orphans: dict[str, Served] = {}
-        """Those of them that go on, by the names of their databases."""
+        """Those of them that go on, by the identities of their databases."""
 
     def _trails(self) -> Trails | None:
         if not self.settings.trail:
@@ -222,13 +223,13 @@ class Keeper:
                 await asyncio.sleep(rest.next())
                 continue
             self._left.pop()
-            goes_on = has_name and orphan.fate is Fate.CONTINUE and process.facts.name not in self._orphans
+            goes_on = has_name and orphan.fate is Fate.CONTINUE and orphan.database not in self._orphans
             fate = orphan.fate if goes_on or orphan.fate is Fate.END else Fate.SET_ASIDE
             self._say(process.facts.name, f"the service of run {process.name}, which an earlier life left, is {fate.value}: {orphan.why}")
             if fate is Fate.END:
                 await asyncio.to_thread(process.end)
             elif goes_on and orphan.served is not None:
-                self._orphans[process.facts.name] = orphan.served
+                self._orphans[orphan.database] = orphan.served
             else:
                 await self._set_aside(process)
 
@@ -333,7 +334,7 @@ class Keeper:
         return min(usual, _SOON) if any(each.is_awaited for each in self.databases.values()) else usual
 
     async def _look(self) -> None:
-        reached = {each.row.id: reached for each in self.databases.values() if (reached := each.follows) is not None}
+        reached = {each.row.id: reached for each in self.databases.values() if each.is_known and (reached := each.follows) is not None}
         began = seconds()
         try:
             self.look = await self._session.ask(self._session.referee.look, reached, self._report())
@@ -350,19 +351,19 @@ class Keeper:
         self._say_of_referee(self.synchronous.meaning)
         self._see_lives()
         for row in self.look.rows:
-            if row.id not in self.databases and not row.dropped:
-                self.databases[row.id] = Database(self._shared, row, self._orphans.pop(row.name, None))
-        self._by_name = {row.name: self.databases[row.id] for row in self.look.rows if not row.dropped}
+            if row.identity not in self.databases and not row.dropped:
+                self.databases[row.identity] = Database(self._shared, row, self._orphans.pop(row.identity, None))
+        self._by_name = {row.name: self.databases[row.identity] for row in self.look.rows if not row.dropped}
         for row in self.look.rows:
-            if (database := self.databases.get(row.id)) is None:
+            if (database := self.databases.get(row.identity)) is None:
                 continue
             holder = self.look.keeper(row.holder)
-            is_noted = any(standby.keeper == self.settings.name for standby in self.look.standbys_of(row.id))
+            is_noted = any(standby.keeper == self.settings.name and database.may_have_noted(standby) for standby in self.look.standbys_of(row.id))
             database.see(row, None if holder is None else holder.beat, self._others(row.id), is_noted=is_noted, began=began,
                          reports=self._reports_of(row.name))  # fmt: skip
             self._changed(row.name)
-        for id in self.databases.keys() - {row.id for row in self.look.rows}:
-            self.databases[id].lose()
+        for identity in self.databases.keys() - {row.identity for row in self.look.rows}:
+            self.databases[identity].lose()
         self._may_have = False
         self._turns.look(self._held)
 

@@ -63,12 +63,13 @@ def fate_of(found: Found) -> tuple[Fate, str]:
 
 @dataclass(frozen=True)
 class Orphan:
-    """A service with its fate; `served` is how it is asked, where it goes on."""
+    """A service with its fate; `served` is how it is asked, where it goes on, and `database` the identity of the one that it is of."""
 
     process: Run
     fate: Fate
     why: str
     served: Served | None = None
+    database: str = ""
 
 
 def seen_to(referee: Referee, look: Look, process: Run, timeout: float, has_name: bool = True) -> Orphan:
@@ -95,7 +96,7 @@ def seen_to(referee: Referee, look: Look, process: Run, timeout: float, has_name
     except PagelogError:
         return Orphan(process, *fate_of(Found(seen, origin, row, was_dropped, answers=False)))
     fate, why = fate_of(Found(seen, origin, row, was_dropped, True, was_written, is_behind))
-    return Orphan(process, fate, why, served if fate is Fate.CONTINUE else None)
+    return Orphan(process, fate, why, served if fate is Fate.CONTINUE else None, row.identity)
 
 
 def _is_behind(referee: Referee, row: Row, served: Served) -> bool:

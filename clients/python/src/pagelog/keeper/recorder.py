@@ -12,6 +12,7 @@ import sqlalchemy as sql
 
 from pagelog.archive_engine import bound_waits, engine_of
 from pagelog.errors import AuditListFull
+from pagelog.keeper.fate import Of
 from pagelog.keeper.referee import plain_url
 from pagelog.keeper.refusal import line_of
 from pagelog.keeper.rows import Lines
@@ -28,7 +29,7 @@ _TTLS = 3
 _PATIENCE = 1 / 8
 """For so much of a ttl blocks wait for lines that a thread has to see to."""
 _IS_OF_THE_NAME = sql.text("SELECT 1 FROM pagelog_generation g JOIN pagelog_log l ON l.id = g.log "
-                           "WHERE l.name = :name AND g.generation = :generation AND g.run = :run")  # fmt: skip
+                           "WHERE l.name = :name AND l.identity = CAST(:database AS uuid) AND g.generation = :generation AND g.run = :run")  # fmt: skip
 _STEPS = 4
 """How many questions one database asks before another has its turn."""
 
@@ -87,9 +88,13 @@ class Trails:
         self.engine = engine_of(self.url)
         self.thread = ThreadPoolExecutor(1)
 
-    def recorder(self, served: Served, say: Callable[[str, str], None], *, is_waited_for: bool) -> Recorder:
+    def recorder(self, served: Served, of: Of, say: Callable[[str, str], None], *, is_waited_for: bool) -> Recorder:
         """Of one run, which this keeper holds."""
-        return Recorder(self, served, say, is_waited_for)
+        return Recorder(self, served, of, say, is_waited_for)
+
+    def trail(self, name: str, of: Of) -> Trail:
+        """That of a database."""
+        return Trail(self.url, name, create=True, engine=self.engine, database=of.database)
 
     def close(self) -> None:
         """Ends the thread once it has done what it is at."""
@@ -101,8 +106,8 @@ class Recorder:
     """The trail of one run. What it cannot do it says, and tries again later: no batch needs it to be kept, and the end of a run that is
     closed waits for it no longer than a ttl. Where it `is_waited_for` the first blocks wait for it too, and not long."""
 
-    def __init__(self, trails: Trails, served: Served, say: Callable[[str, str], None], is_waited_for: bool = False) -> None:
-        self._trails, self._served, self._say = trails, served, say
+    def __init__(self, trails: Trails, served: Served, of: Of, say: Callable[[str, str], None], is_waited_for: bool = False) -> None:
+        self._trails, self._served, self._of, self._say = trails, served, of, say
         self._operator = served.operator()  # it connects once it asks
         self._due = asyncio.Event()
         self._due.set()
@@ -236,7 +241,7 @@ class Recorder:
     def _is_open(self) -> bool:
         """Whether the list before has not ended."""
         lists: list[TrailList] = []
-        self._tried(lambda: lists.extend(Trail(self._trails.url, self._served.database, create=True, engine=self._trails.engine).lists()))
+        self._tried(lambda: lists.extend(self._trails.trail(self._served.database, self._of).lists()))
         return any(one.ended is None for one in lists)
 
     def _tried(self, work: Callable[[], None]) -> bool:
@@ -263,18 +268,18 @@ class Recorder:
     def _opened(self) -> TrailKeeper:
         if self._keeper is None:
             served = self._served
-            trail = Trail(self._trails.url, served.database, create=True, engine=self._trails.engine)
-            tables = served.texts()
-            self._keeper = TrailKeeper(self._operator, trail, generation=served.generation, start=Start(tables[0], KEEPER), tables=tables)
+            trail, tables = self._trails.trail(served.database, self._of), served.texts()
+            self._keeper = TrailKeeper(self._operator, trail, generation=served.generation, of=str(self._of), start=Start(tables[0], KEEPER),
+                                       tables=tables)  # fmt: skip
         if self._keeper.list is None:
             self._check_name()
         return self._keeper
 
     def _check_name(self) -> None:
-        """A list is looked for by the name of the database, which may be another one's by now. Raises `OtherKeeper`."""
+        """No list is begun of a run that PostgreSQL does not know, or under a name that is another database's by now. Raises `OtherKeeper`."""
         served = self._served
         with self._trails.engine.begin() as connection:
-            known = {"name": served.database, "generation": served.generation, "run": served.run}
+            known = {"name": served.database, "database": self._of.database, "generation": served.generation, "run": served.run}
             if connection.execute(_IS_OF_THE_NAME, known).first() is None:
                 raise OtherKeeper(f"generation {served.generation} of {served.database} is not that of run {served.run}")
 

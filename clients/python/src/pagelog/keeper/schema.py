@@ -88,7 +88,12 @@ _IDENTITY = (
     "CREATE UNIQUE INDEX IF NOT EXISTS pagelog_log_identity ON pagelog_log (identity)",
 )
 
-STEPS = (_FIRST, _LIVES, _IDENTITY)
+_TRAILS = (
+    # of_run: whose audit list it is, DATABASE/RUN. Where there are no trails yet, who keeps one makes the tables with it.
+    "ALTER TABLE IF EXISTS pagelog_trail_list ADD COLUMN IF NOT EXISTS of_run varchar(120)",
+)
+
+STEPS = (_FIRST, _LIVES, _IDENTITY, _TRAILS)
 """What brings the tables from each version to the next one. Tables of version 1 have no number: they are older than it."""
 VERSION = len(STEPS)
 

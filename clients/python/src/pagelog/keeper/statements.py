@@ -152,9 +152,9 @@ lined AS (
   UPDATE pagelog_trail_list t SET kept = v.first + v.count - 1, seen = v.seen,
     digest = substring(%(line_digest)b::bytea FROM (32 * v.n - 31)::integer FOR 32)
   FROM unnest(%(line_logs)s::integer[], %(line_lists)s::integer[], %(line_firsts)s::bigint[], %(line_counts)s::integer[],
-    %(line_seens)s::bigint[], %(line_days)s::text[], %(line_starts)s::integer[], %(line_lengths)s::integer[])
-    WITH ORDINALITY AS v(log, list, first, count, seen, day, start, length, n)
-  WHERE v.log IN (SELECT id FROM {held}) AND t.id = v.list AND t.kept = v.first - 1 AND t.ended IS NULL
+    %(line_seens)s::bigint[], %(line_days)s::text[], %(line_ofs)s::text[], %(line_starts)s::integer[], %(line_lengths)s::integer[])
+    WITH ORDINALITY AS v(log, list, first, count, seen, day, of_run, start, length, n)
+  WHERE v.log IN (SELECT id FROM {held}) AND t.id = v.list AND t.of_run = v.of_run AND t.kept = v.first - 1 AND t.ended IS NULL
   RETURNING v.*),
 told AS (
   INSERT INTO pagelog_trail_piece (list, first, count, seen, day, before, digest, data)

@@ -7,6 +7,7 @@ from typing import TYPE_CHECKING, Callable
 
 from pagelog.errors import AuditListFull, PagelogError, TurnsSpent
 from pagelog.keeper.archiver import Archiver
+from pagelog.keeper.fate import Of
 from pagelog.keeper.machine import Stillness
 from pagelog.keeper.rows import Row
 from pagelog.keeper.served import Served, seconds
@@ -20,8 +21,8 @@ if TYPE_CHECKING:
 class Work:
     """Of one database. `kick` is called where there is something to decide."""
 
-    def __init__(self, shared: Shared, name: str, waits: Waits, kick: Callable[[], None]) -> None:
-        self._shared, self._name, self._waits, self._kick = shared, name, waits, kick
+    def __init__(self, shared: Shared, row: Row, waits: Waits, kick: Callable[[], None]) -> None:
+        self._shared, self._name, self._identity, self._waits, self._kick = shared, row.name, row.identity, waits, kick
         self._silent = Stillness(shared.settings.ttl)
         self._looking: asyncio.Task[None] | None = None
         self._archiving: asyncio.Task[None] | None = None
@@ -68,7 +69,8 @@ class Work:
         """From now on its audit list is kept, if lists are, and if it is held still. It ends the list that the trail has open. Blocks
         wait for its first lines where they come behind a generation that nobody closed."""
         if self._shared.trails is not None and self.recorder is None and served is self._served:
-            self.recorder = self._shared.trails.recorder(served, self._shared.repeats.say, is_waited_for=is_first)
+            of = Of(self._identity, served.run)
+            self.recorder = self._shared.trails.recorder(served, of, self._shared.repeats.say, is_waited_for=is_first)
             if self.archiver is not None:
                 self.archiver.recorder = self.recorder
             self._recording = self._shared.spawn(self.recorder.run(), self._name)

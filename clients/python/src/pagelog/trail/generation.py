@@ -11,6 +11,7 @@ from pagelog.keeper.bases import NOTHING, Base, Bases
 from pagelog.keeper.images import PAGES, Image, blocks_of, labelled
 from pagelog.keeper.referee import BrokenArchive, Referee, digest
 from pagelog.trail.pages import redo
+from pagelog.trail.store import TrailList
 from pagelog_model.bodies import Block, read_block
 
 IMAGES = 32
@@ -19,8 +20,10 @@ _GENERATION = """
 SELECT g.shift, g.images, l.archived, l.chain,
   COALESCE((SELECT min(n.base) FROM pagelog_generation n WHERE n.log = g.log AND n.generation > g.generation), l.archived),
   COALESCE((SELECT min(lsn) FROM pagelog_block WHERE log = g.log), l.archived + 1)
-FROM pagelog_generation g JOIN pagelog_log l ON l.id = g.log WHERE g.log = %s AND g.generation = %s
+FROM pagelog_generation g JOIN pagelog_log l ON l.id = g.log
+WHERE g.log = %(log)s AND CASE WHEN %(run)s = '' THEN g.generation = %(generation)s ELSE g.run = %(run)s AND l.identity::text = %(database)s END
 """
+"""A list that says of which run it is is looked for by that: its number may be another run's by now."""
 
 
 class GenerationLog:
@@ -31,9 +34,11 @@ class GenerationLog:
     """
 
     @classmethod
-    def of(cls, referee: Referee, log: int, generation: int) -> GenerationLog | None:
-        """As `referee` has it in a snapshot; None where nobody was ever told how the generation began."""
-        found = referee._ask(_GENERATION, (log, generation))
+    def of(cls, referee: Referee, log: int, one: TrailList) -> GenerationLog | None:
+        """That of a list, as `referee` has it in a snapshot; None where nobody was ever told how the generation began, or PostgreSQL has
+        lost it."""
+        database, _, run = (one.of or "").partition("/")
+        found = referee._ask(_GENERATION, {"log": log, "generation": one.generation, "database": database, "run": run})
         return cls(referee, log, *found[0]) if found and (found[0][1] or not found[0][0]) else None
 
     def __init__(self, referee: Referee, log: int, shift: int, images: int, archived: int, chain: bytes, end: int, oldest: int) -> None:

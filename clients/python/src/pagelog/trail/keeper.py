@@ -43,18 +43,20 @@ class TrailKeeper:
     which has the number that was asked from. Where they are others, so is the list. The old one ends in the trail, and says so;
     what came behind its last line was not seen. A new list begins.
 
-    A keeper of a service with generations gives the number of its own: what was kept of an older one ends likewise.
+    A keeper of a service with generations gives the number of its own: what was kept of an older one ends likewise. Of a named
+    database it gives the database and the run too, `of`: a list of another run is never its own, whatever number that has.
     """
 
     def __init__(
-        self, operator: Operator, trail: Trail, *, generation: int = 0, start: Start | None = None, tables: Sequence[bytes] = (),
-        clock: Callable[[], int] = now,
+        self, operator: Operator, trail: Trail, *, generation: int = 0, of: str | None = None, start: Start | None = None,
+        tables: Sequence[bytes] = (), clock: Callable[[], int] = now,
     ) -> None:  # fmt: skip
         """`start` is what each list begins from, where that is known: without it none can be replayed. `tables` are texts that may
         be set in any of them."""
         self.operator = operator
         self.trail = trail
         self.generation = generation
+        self.of = of
         self.start = start
         self._tables = tables
         self._clock = clock
@@ -79,7 +81,9 @@ class TrailKeeper:
                 self._end(one, "the audit list is full: the database decides nothing any more")
                 raise
             if is_same:
-                one = one or self.trail.begin(generation=self.generation, start=self.start, tables=self._tables)
+                one = one or self.trail.begin(generation=self.generation, start=self.start, tables=self._tables, of=self.of)
+                if one.of is None and self.of is not None:
+                    one = self.trail.claim(one, self.of)
                 self._list = self.trail.keep(one, b"".join(map(encode_entry, found)), self._clock())
                 return Step(len(found), all(map(self._is_own, found)))
             if is_same is False:
@@ -116,7 +120,7 @@ class TrailKeeper:
         if self._list is not None:
             return self._list
         [*_, last] = [None, *self.trail.lists()]
-        if last is not None and last.generation > self.generation:
+        if last is not None and (last.generation > self.generation or self._is_anothers(last)):
             raise OtherKeeper(f"generation {last.generation} has a list by now")
         if last is not None and last.ended is None and last.generation < self.generation:
             self._end(last, f"generation {self.generation} has begun: what was decided behind the last line was not seen")
@@ -129,6 +133,10 @@ class TrailKeeper:
             self.trail.give_table(last, text)
         self._list = last
         return last
+
+    def _is_anothers(self, last: TrailList) -> bool:
+        """Whether a list with the number of this generation is another run's."""
+        return last.generation == self.generation and None not in (self.of, last.of) and last.of != self.of
 
     def _is_of_the_service(self, one: TrailList | None) -> bool | None:
         """Whether the service of the last reply has this list; None where its connection is gone."""

@@ -60,6 +60,6 @@ def log_of(trail: Trail, archive: Archive, one: TrailList) -> Iterator[Log | Non
     referee = Referee(trail.url)
     try:
         with snapshot(referee):
-            yield GenerationLog.of(referee, archive.id, one.generation)
+            yield GenerationLog.of(referee, archive.id, one)
     finally:
         referee.close()

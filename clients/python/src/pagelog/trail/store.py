@@ -50,6 +50,8 @@ _lists = sql.Table(
     sql.Column("digest", sql.LargeBinary, nullable=False),
     sql.Column("ended", sql.String(100)),
     sql.Column("ended_seen", sql.BigInteger),
+    # Of a named database: the identity of that, and the run whose list it is, as DATABASE/RUN. Names and numbers come again.
+    sql.Column("of_run", sql.String(120)),
     sql.UniqueConstraint("log", "run"),
 )
 _pieces = sql.Table(
@@ -80,6 +82,8 @@ _seals = sql.Table(
     sql.Column("digest", sql.LargeBinary, nullable=False),
 )
 _START, _ANY = 0, -1
+_MAY_LOOK = sql.text("SELECT COALESCE(has_table_privilege(to_regclass('pagelog_log'), 'SELECT'), false)")
+_IDENTITY = sql.text("SELECT to_jsonb(l) ->> 'identity' FROM pagelog_log l WHERE name = :name")
 
 
 class NoTrail(TrailError):
@@ -111,7 +115,8 @@ class TrailList:
     """One audit list, as far as it was seen: lines 1 to `kept`, of which the first `pruned` were taken away.
 
     `run` counts the lists of the log from 1. `seen` is when the last line was seen. `ended` says in words why the list got no
-    more lines, and is None where it may.
+    more lines, and is None where it may. `of` is the database and the run that it is of, as DATABASE/RUN; None where it is of no
+    named database, or an older keeper began it.
     """
 
     id: int
@@ -123,6 +128,7 @@ class TrailList:
     digest: bytes
     ended: str | None
     ended_seen: int | None
+    of: str | None = None
 
 
 @dataclass(frozen=True)
@@ -162,21 +168,24 @@ def day_of(seen: int) -> str:
 class Trail:
     """The trail of one log. A database error is an exception of SQLAlchemy, and then nothing of a reply was kept."""
 
-    def __init__(self, url: str, log: str = "0", *, create: bool = False, engine: Engine | None = None) -> None:
+    def __init__(self, url: str, log: str = "0", *, create: bool = False, engine: Engine | None = None, database: str | None = None) -> None:
         """Opens the trail of the log of this name; with `create` makes what is not there. Raises `NoTrail`.
 
-        `engine` is one of this URL that trails share. None of them closes it.
+        `engine` is one of this URL that trails share. None of them closes it. `database` is the identity of a named database, by
+        default of the one that has the name.
         """
         self.url = url
         self.log = log
         self._is_shared = engine is not None
+        self._has_runs = True
         if not create and file_is_missing(url):
             raise NoTrail("there is no archive at this URL")
         self.engine = engine or engine_of(url)
         try:
+            self.database = database or self._identity()
             if create:
                 _make(self.engine)
-            elif not sql.inspect(self.engine).has_table(_lists.name) or not self.lists():
+            elif not self._is_there() or not self.lists():
                 raise NoTrail(f"there is no trail of {log!r} at this URL")
         except BaseException:
             self.close()
@@ -193,27 +202,49 @@ class Trail:
     def __exit__(self, *_: object) -> None:
         self.close()
 
+    def _identity(self) -> str | None:
+        """That of the named database that has the name of the log, if it is one, and if the role may see that."""
+        if self.engine.dialect.name != "postgresql":
+            return None
+        with self.engine.begin() as connection:
+            may_look = connection.execute(_MAY_LOOK).scalar_one()
+            found = connection.execute(_IDENTITY, {"name": self.log}).first() if may_look else None
+        return None if found is None or found[0] is None else str(found[0])
+
+    def _is_there(self) -> bool:
+        """Whether there are trails. Those of an older version say of no list whose it is."""
+        if not sql.inspect(self.engine).has_table(_lists.name):
+            return False
+        self._has_runs = _says_runs(self.engine)
+        return True
+
     # Lists.
 
     def lists(self) -> list[TrailList]:
-        """The lists of this log, in the order in which they began."""
+        """The lists of this log, in the order in which they began. Of a named database those are left out that are of another one."""
+        columns = [column for column in _lists.c if self._has_runs or column is not _lists.c.of_run]
+        is_own = _lists.c.log == self.log
+        if self.database is not None and self._has_runs:
+            is_own = _lists.c.of_run.like(f"{self.database}/%") | (is_own & _lists.c.of_run.is_(None))
         try:
             with self.engine.begin() as connection:
-                rows = connection.execute(sql.select(_lists).where(_lists.c.log == self.log).order_by(_lists.c.run)).fetchall()
+                rows = connection.execute(sql.select(*columns).where(is_own).order_by(_lists.c.run)).fetchall()
             if rows and rows[-1].format != FORMAT:
                 raise TrailError(f"the trail has format {rows[-1].format}, and this program reads {FORMAT}")
-            return [TrailList(row.id, row.run, row.generation, row.kept, row.seen, row.pruned, bytes(row.digest), row.ended, row.ended_seen)
-                    for row in rows]  # fmt: skip
+            return [TrailList(row.id, row.run, row.generation, row.kept, row.seen, row.pruned, bytes(row.digest), row.ended, row.ended_seen,
+                              row.of_run if self._has_runs else None) for row in rows]  # fmt: skip
         except _NO_ROWS as error:
             raise TrailError("the trail's tables cannot be read: they are damaged") from error
 
-    def begin(self, *, generation: int = 0, start: Start | None = None, tables: Sequence[bytes] = ()) -> TrailList:
-        """Begins a list without lines, which may set these tables, in one transaction. The one before it has to have ended."""
+    def begin(self, *, generation: int = 0, start: Start | None = None, tables: Sequence[bytes] = (), of: str | None = None) -> TrailList:
+        """Begins a list without lines, which may set these tables, in one transaction. The one before it has to have ended. `of` is
+        the database and the run, of a named database."""
         before = self.lists()
         if before and before[-1].ended is None:
             raise TrailError(f"list {before[-1].run} has not ended")
-        values = {"log": self.log, "run": len(before) + 1, "format": FORMAT, "generation": generation, "kept": 0, "pruned": 0,
-                  "seen": before[-1].seen if before else 0, "digest": NO_DIGEST,
+        number = self._last_number() + 1
+        values = {"log": self.log, "run": number, "format": FORMAT, "generation": generation, "kept": 0, "pruned": 0,
+                  "seen": before[-1].seen if before else 0, "digest": NO_DIGEST, "of_run": of,
                   "start_primary": None if start is None else start.primary}  # fmt: skip
         texts = ([(start.table, _START)] if start is not None else []) + [(text, _ANY) for text in dict.fromkeys(tables)]
         try:
@@ -222,14 +253,25 @@ class Trail:
                 if texts:
                     connection.execute(_texts.insert(), [_text(id, text, line) for text, line in texts])
         except sql.exc.IntegrityError as error:
-            raise OtherKeeper(f"another keeper has begun list {len(before) + 1}") from error
+            raise OtherKeeper(f"another keeper has begun list {number}") from error
         return self.lists()[-1]
+
+    def _last_number(self) -> int:
+        """That of the last list of the name, of whichever database."""
+        with self.engine.begin() as connection:
+            return int(connection.execute(sql.select(sql.func.max(_lists.c.run)).where(_lists.c.log == self.log)).scalar_one() or 0)
+
+    def claim(self, one: TrailList, of: str) -> TrailList:
+        """An older keeper began this list, and its lines are those of this run: says so."""
+        with self.engine.begin() as connection:
+            connection.execute(_lists.update().where(_lists.c.id == one.id, *_is_of(one), _lists.c.kept == one.kept).values(of_run=of))
+        return replace(one, of=of)
 
     def end(self, one: TrailList, why: str, seen: int) -> None:
         """The list gets no more lines, for this reason. One that has ended keeps its own."""
         latest = sql.case((_lists.c.seen > seen, _lists.c.seen), else_=seen)
         with self.engine.begin() as connection:
-            is_open = (_lists.c.id == one.id, _lists.c.ended.is_(None))
+            is_open = (_lists.c.id == one.id, *_is_of(one), _lists.c.ended.is_(None))
             connection.execute(_lists.update().where(*is_open).values(ended=why, ended_seen=latest))
 
     # Tables.
@@ -293,7 +335,7 @@ class Trail:
         with self.engine.begin() as connection:
             moved = connection.execute(
                 _lists.update()
-                .where(_lists.c.id == one.id, _lists.c.kept == one.kept, _lists.c.ended.is_(None))
+                .where(_lists.c.id == one.id, *_is_of(one), _lists.c.kept == one.kept, _lists.c.ended.is_(None))
                 .values(kept=after.kept, seen=after.seen, digest=after.digest)
             )
             if moved.rowcount != 1:
@@ -406,6 +448,11 @@ class Trail:
         return gone
 
 
+def _is_of(one: TrailList) -> tuple[Any, ...]:
+    """That a row is this list's: a PostgreSQL that went back gives the number of a row again. Older tables say nothing of it."""
+    return (_lists.c.of_run.is_(None) if one.of is None else _lists.c.of_run == one.of,)
+
+
 def _text(id: int, text: bytes, line: int) -> dict[str, Any]:
     hidden = without_tokens(text)
     return {"list": id, "line": line, "digest": hashlib.sha256(hidden).hexdigest(), "text": hidden}
@@ -427,7 +474,18 @@ def _piece(row: Any) -> Piece:
 def _make(engine: Engine) -> None:
     """Makes what is not there. Where another does so at the same time, it is looked for again."""
     try:
-        _metadata.create_all(engine)
+        _make_all(engine)
     except (sql.exc.IntegrityError, sql.exc.ProgrammingError, sql.exc.OperationalError):
         time.sleep(0.1)
-        _metadata.create_all(engine)
+        _make_all(engine)
+
+
+def _make_all(engine: Engine) -> None:
+    _metadata.create_all(engine)
+    if not _says_runs(engine):  # an older version has made it
+        with engine.begin() as connection:
+            connection.execute(sql.text(f"ALTER TABLE {_lists.name} ADD COLUMN of_run VARCHAR(120)"))
+
+
+def _says_runs(engine: Engine) -> bool:
+    return any(column["name"] == "of_run" for column in sql.inspect(engine).get_columns(_lists.name))
