@@ -406,7 +406,7 @@ class Migration(Referees):
         self.addCleanup(limited.close)
         self.addCleanup(owner.close)
         for call in (limited.prepare, limited.everything):
-            self.assertRaisesRegex(Refused, "tables of version 1, and 3 is needed: run `pagelogctl create` or `keep`", call)
+            self.assertRaisesRegex(Refused, "tables of version 1, and 4 is needed: run `pagelogctl create` or `keep`", call)
         owner.prepare()
         with psycopg.connect(url, autocommit=True) as connection:
             connection.execute("INSERT INTO pagelog_schema (version) VALUES (99)")

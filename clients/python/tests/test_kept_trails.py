@@ -24,7 +24,7 @@ from pagelog.keeper.recorder import Recorder, Trails
 from pagelog.keeper.rows import Batch, Kept, Lines, Row
 from pagelog.keeper.switch import Switch, number, release, succeed
 from pagelog.reply import LINE_SIZE
-from pagelog.trail import OtherKeeper, Trail
+from pagelog.trail import OtherKeeper, Trail, TrailKeeper
 from pagelog.trail.replay import lines_of
 from pagelog.trail.store import piece_behind
 from pagelog_model import wire
@@ -173,6 +173,49 @@ class Statement(Referees):
             self.assertEqual([(one.generation, one.ended) for one in trail.lists()], [(self.seen().generation, None)])
             self.assertEqual([one.generation for one in dropped.lists()], [2])
         self.assertRegex(self.said[-1], "generation 2 of shop is not that of run r2")
+
+    def test_a_list_under_the_name_of_another_database_is_not_read_as_its_own(self) -> None:
+        """It was begun as its database was dropped."""
+        self.assertTrue(self.referee.drop("shop"))
+        row = new_database(self.referee, "shop")
+        with Trail(self.url, "shop", create=True, database=self.row.identity) as late:
+            one = late.keep(late.begin(generation=1, of=f"{self.row.identity}/r1"), b"x" * LINE_SIZE, 5)
+        with Trail(self.url, "shop", create=True) as trail:
+            self.assertEqual(trail.lists(), [])
+            two = trail.begin(generation=1, of=f"{row.identity}/r2")
+            self.assertEqual(trail.lists(), [two])
+        with Trail(self.url, f"shop!{self.row.id}") as dropped, Trail(self.url, "shop") as trail:
+            self.assertEqual((dropped.lists(), trail.lists()), ([one], [two]))
+
+    def test_a_list_of_another_run_of_the_number_is_not_its_own(self) -> None:
+        self.taken("r1")
+        with Trail(self.url, "shop", create=True) as trail:
+            TrailKeeper(Listed(), trail, generation=1, of=f"{self.row.identity}/r1").step()  # type: ignore[arg-type]
+            other = TrailKeeper(Listed(), trail, generation=1, of=f"{self.row.identity}/r2")  # type: ignore[arg-type]
+            self.assertRaisesRegex(OtherKeeper, "generation 1 has a list by now", other.step)
+            [one] = trail.lists()
+            self.assertEqual((one.of, one.ended), (f"{self.row.identity}/r1", None))
+
+    def test_a_list_of_an_older_keeper_is_gone_on_with(self) -> None:
+        """It says of no run: that its lines are those of this one is looked at. Tables without the column are read too."""
+        service = Listed()
+        self.taken("r1")
+        with Trail(self.url, "shop", create=True) as trail:
+            older = TrailKeeper(service, trail, generation=1)  # type: ignore[arg-type]
+            older.step()
+            older.step()
+            self.assertEqual([(one.of, one.kept) for one in trail.lists()], [(None, 1)])
+        with psycopg.connect(self.url, autocommit=True) as session:
+            session.execute("ALTER TABLE pagelog_trail_list DROP COLUMN of_run")
+            with Trail(self.url, "shop") as trail:
+                self.assertEqual([(one.generation, one.of) for one in trail.lists()], [(1, None)])
+            session.execute("DELETE FROM pagelog_schema WHERE version > 3")
+            self.referee.prepare()
+            session.execute("SELECT of_run FROM pagelog_trail_list")
+        with Trail(self.url, "shop", create=True) as trail:
+            TrailKeeper(service, trail, generation=1, of=f"{self.row.identity}/r1").step()  # type: ignore[arg-type]
+            [one] = trail.lists()
+            self.assertEqual((one.of, one.ended, one.kept), (f"{self.row.identity}/r1", None, 2))
 
     def recorder(self, trails: Trails, run: str) -> Recorder:
         """Of a run that takes the database."""

@@ -9,6 +9,7 @@ import shutil
 import signal
 import socket
 import zlib
+from contextlib import closing
 
 import psycopg
 
@@ -23,6 +24,7 @@ from pagelog.keeper.schema import FORMAT
 from pagelog.keeper.table import token_of
 from pagelog.place import UnknownName
 from service import PATIENCE, stand_still, token
+from sqlite_named import connected
 
 
 KILLED = """
@@ -345,6 +347,29 @@ class WentBack(Kept):
         credentials = Credentials(3, token_of(bytes.fromhex(token(3)), "shop", place.run))
         with Reader(Connection(place.address), credentials) as reader:
             self.assertEqual([block.lsn for block in reader.blocks(1, follow=False)], [1, 2, 3])
+        # Nor does a drop end it: only a person's word does.
+        self.keeping.word("drop", "shop", "--force")
+        self.keeping.kill("a")
+        self.keeping.start("a")
+        self.assertTrue(self.keeping.referee.create("next", self.keeping.table.read_text(), b"s" * 16))
+        eventually(lambda: self.is_there("next"), "a place of the next one")
+        with Reader(Connection(place.address), credentials) as reader:
+            self.assertEqual([block.lsn for block in reader.blocks(1, follow=False)], [1, 2, 3])
+
+    def test_what_was_saved_of_sqlite_opens_under_its_own_name(self) -> None:
+        """Its page 0 has the name of what it is a copy of."""
+        with closing(connected(self.keeping.addresses)) as writer:
+            writer.execute("create table t(n integer primary key)")
+            writer.execute("insert into t values(7)")
+        place, pid = self.keeping.place(), self.keeping.pid()
+        self.addCleanup(os.kill, pid, signal.SIGKILL)
+        self.put_back(1, self.RELEASED, other=True)
+        self.keeping.place(least=place.generation + 6)
+        eventually(lambda: f"set aside: run {place.run}" in self.keeping.word("kept"), "its word")
+        self.keeping.word("rescue", "shop", "--as", "saved")
+        eventually(lambda: self.keeping.row("saved").address is not None, "its place")
+        with closing(connected(self.keeping.addresses, id=3, name="saved", mode="ro")) as reader:
+            self.assertEqual(reader.execute("select n from t").fetchone(), (7,))
 
     def test_a_service_that_was_set_aside_is_shown_saved_and_ended_by_a_word(self) -> None:
         with self.keeping.primary() as primary:

@@ -24,6 +24,7 @@ from keepers import Keeping, eventually
 from pagelog import Block
 from pagelog.keeper.referee import plain_url
 from pagelog.place import OlderKeepers
+from pagelog.trail import Trail
 from postgres import postgres
 from service import SOURCE, put, token
 from sqlite_named import connected, enter
@@ -102,10 +103,14 @@ class MixedKeeping(Keeping):
             self.start(name)
 
 
-class Mixed(unittest.TestCase):
+class Beside(unittest.TestCase):
+    """Two keepers, older ones at first."""
+
+    options: dict[str, str] = {}
+
     def setUp(self) -> None:
         url = plain_url(postgres().url(f"mixed{os.getpid()}_{self.id().rpartition('.')[2][:20]}"))
-        self.keeping = self.enterContext(MixedKeeping(url=url))
+        self.keeping = self.enterContext(MixedKeeping(url=url, **self.options))  # type: ignore[arg-type]
         self.addCleanup(lambda: None if self._outcome.success else print(self.keeping.said()))  # type: ignore[attr-defined]
         self.keeping.old_word("create", "shop", "--table", self.keeping.table)
         with self.keeping.older():
@@ -133,6 +138,8 @@ class Mixed(unittest.TestCase):
         with self.assertRaises(sqlite3.OperationalError):
             connected(self.keeping.addresses, id=3, mode="ro")
 
+
+class Mixed(Beside):
     def test_an_upgrade_and_the_way_back(self) -> None:
         keeping, texts = self.keeping, list[bytes]()
 
@@ -212,6 +219,34 @@ class Mixed(unittest.TestCase):
         enter(keeping.addresses, 5, 15)
         with closing(connected(keeping.addresses, id=3, mode="ro")) as reader:
             self.assertEqual(reader.execute("select count(*), max(n) from t").fetchone(), (20, 19))
+
+
+class Trailed(Beside):
+    options = {"more": "trail = 3\n"}
+
+    def lists(self) -> list[tuple[int, str | None, str | None]]:
+        """The generation of each list, the run that it says it is of, and why it ended."""
+        with Trail(self.keeping.url, "shop", create=True) as trail:
+            return [(one.generation, one.of and one.of.partition("/")[2], one.ended) for one in trail.lists()]
+
+    def test_a_list_is_gone_on_with_in_both_directions(self) -> None:
+        keeping = self.keeping
+        keeping.kill("b")
+        eventually(lambda: self.held()[0] == "a", "its place")
+        run = self.held()[1]
+        with closing(OldWriter(keeping.addresses)) as writer:
+            self.assertEqual(writer.commit("1"), "1")
+            for number, (is_old, of) in enumerate(((False, run), (True, run), (False, run)), 2):
+                before = self.lists()
+                keeping.kill("a")
+                if is_old:
+                    with keeping.older():
+                        keeping.start("a")
+                else:
+                    keeping.start("a")
+                self.assertEqual(writer.commit(str(number)), str(number))
+                eventually(lambda: self.lists() == [(1, of, None)], f"the list of {before}")  # noqa: B023
+        eventually(lambda: "4 blocks hardened, 4 of them archived, which fit" in keeping.word("replay", "shop"), "all of its lines")
 
 
 if __name__ == "__main__":

@@ -70,6 +70,7 @@ class Board:
         self._histories: dict[int, History] = {}
         self._generations: dict[int, tuple[Generation, ...]] = {}
         self._trails: dict[str, TrailCounts] = {}
+        """By whose they are: a name may be another database's by now."""
         self._events: deque[tuple[int, Event]] = deque(maxlen=EVENTS)
         self._seen: Seen | None = None
         self._messages: dict[int, str] = {}
@@ -92,8 +93,10 @@ class Board:
         living = self._see_beats(seen.look, at)
         keepers = {keeper.name: (keeper.run, keeper.name in living) for keeper in seen.look.keepers}
         known = {row.id: self._known_of(seen.look, row, living) for row in seen.look.rows}
+        for gone in self._trails.keys() - set(seen.trails.values()):
+            del self._trails[gone]
         for recorded in seen.recorded:
-            for failover in self._trails.setdefault(recorded.name, TrailCounts()).take(recorded):
+            for failover in self._trails.setdefault(recorded.whose, TrailCounts()).take(recorded):
                 text = f"epoch {failover.epoch} began: principal {failover.primary} is its primary"
                 events.append(Event(failover.at, text, failover.name))
         if self._seen is None:
@@ -153,7 +156,7 @@ class Board:
         forecast = forecast_of(used, grown, self.limits.share)
         spares = tuple(Spare(each.keeper, each.reached, each.keeper in living) for each in look.standbys_of(row.id))
         scene = Scene(row, known.state, spares, living, forecast, report.get("state") == "succeeding")
-        trail, generations = self._trails.get(row.name), self._generations.get(row.id, ())
+        trail, generations = self._trail_of(row), self._generations.get(row.id, ())
         lag = None if hard is None else max(0, hard - row.archived)
         why = {keeper: said for keeper, said in look.decisions_of(row).items() if keeper in living}
         begins = [each.began.timestamp() for each in generations]
@@ -169,6 +172,9 @@ class Board:
             "why": told(row.holder, why) or None, "next": sentence(scene),
             "next_in": _short(forecast.seconds, 2) if known.state is State.SERVING and not row.paused else None,
         }  # fmt: skip
+
+    def _trail_of(self, row: Row) -> TrailCounts | None:
+        return None if self._seen is None else self._trails.get(self._seen.trails.get(row.id, ""))
 
     def _say(self, events: Iterable[Event]) -> None:
         self._events.extend((self.number, event) for event in sorted(events, key=lambda event: event.at))
@@ -219,7 +225,7 @@ class Board:
         known = next((known for known in self._known.values() if known.row.name == name), None)
         if known is None:
             return None
-        generations, trail = self._generations.get(known.row.id, ()), self._trails.get(name)
+        generations, trail = self._generations.get(known.row.id, ()), self._trail_of(known.row)
         points = self._histories[known.row.id].points()
         ends: list[Generation | None] = [*generations[1:], None]
         events = islice((_event(event) for _, event in reversed(self._events) if event.name == name), 20)
@@ -227,7 +233,7 @@ class Board:
             "version": VERSION, "at": iso(self._at), **self._rows[name].fields,
             "generations": [_generation(one, end) for one, end in zip(generations, ends)],
             "points": [[iso(each.at), each.lag, round(each.commits, 2), each.entries_left] for each in points],
-            "has_trail": name in self._seen.trails if self._seen else False,
+            "has_trail": known.row.id in self._seen.trails if self._seen else False,
             "rules": trail.denials(self._at) if trail else {}, "trail_is_damaged": trail is not None and trail.is_damaged,
             "denied": [{**asdict(denial), "at": iso(denial.at)} for denial in reversed(trail.latest)] if trail else [],
             "events": list(events),

@@ -54,10 +54,11 @@ class Generation:
 
 @dataclass(frozen=True)
 class Recorded:
-    """A piece of the trail of a database; None where it is damaged."""
+    """A piece of the trail of a database; None where it is damaged. `whose` tells it from another database that has had the name."""
 
     name: str
     piece: Piece | None
+    whose: str = ""
 
 
 @dataclass(frozen=True)
@@ -67,8 +68,8 @@ class Seen:
     look: Look
     generations: Mapping[int, tuple[Generation, ...]] = field(default_factory=dict)
     recorded: tuple[Recorded, ...] = ()
-    trails: frozenset[str] = frozenset()
-    """The databases that have a trail."""
+    trails: Mapping[int, str] = field(default_factory=dict)
+    """The databases that have a trail, by their ids: whose that is."""
     is_prepared: bool = True
     """False where PostgreSQL has no tables of keepers yet."""
 
@@ -80,9 +81,10 @@ class Source:
         self._url = url
         self._options: dict[str, Any] = {**_OPTIONS, **options_of(url)}
         self._connection: psycopg.Connection[dict[str, Any]] | None = None
-        self._generations: dict[int, int] = {}
-        self._next: dict[int, int] = {}
-        """For each list of a trail the number of the line that comes next."""
+        self._generations: dict[int, tuple[int, str | None]] = {}
+        """Of each database the generation and the run of the last look."""
+        self._next: dict[tuple[int, str | None], int] = {}
+        """For each list of a trail, by its row and the run that it is of, the number of the line that comes next."""
 
     def close(self) -> None:
         """Closes the connection. The next look makes another."""
@@ -136,12 +138,12 @@ class Source:
         generations = self._new_generations(look.rows)
         if not found["has_trail"]:
             return Seen(look, generations)
-        lists = self._ask(statements.LISTS, {"format": FORMAT})
-        return Seen(look, generations, tuple(self._new_pieces(lists)), frozenset(row["name"] for row in lists))
+        lists = self._ask(statements.LISTS if found["has_runs"] else statements.LISTS_BY_NAME, {"format": FORMAT})
+        return Seen(look, generations, tuple(self._new_pieces(lists)), {row["log"]: row["whose"] for row in lists})
 
     def _new_generations(self, rows: Iterable[Row]) -> dict[int, tuple[Generation, ...]]:
-        now = {row.id: row.generation for row in rows}
-        changed = [id for id, generation in now.items() if self._generations.get(id) != generation]
+        now = {row.id: (row.generation, row.run) for row in rows}
+        changed = [id for id, run in now.items() if self._generations.get(id) != run]
         found: dict[int, list[Generation]] = {}
         if changed:
             for row in self._ask(statements.GENERATIONS, {"logs": changed, "most": GENERATIONS}):
@@ -151,19 +153,20 @@ class Source:
 
     def _new_pieces(self, lists: list[dict[str, Any]]) -> Iterable[Recorded]:
         """The pieces that have come, in the order in which they were seen."""
-        names = {row["id"]: row["name"] for row in lists}
-        due = [row["id"] for row in lists if row["kept"] >= self._next.get(row["id"], 1)]
+        keys = {row["id"]: (row["id"], row["of_run"]) for row in lists}
+        of = {row["id"]: row for row in lists}
+        due = [id for id, row in of.items() if row["kept"] >= self._next.get(keys[id], 1)]
         if not due:
             return
-        values = {"lists": due, "firsts": [self._next.get(id, 1) for id in due], "most": PIECES,
+        values = {"lists": due, "firsts": [self._next.get(keys[id], 1) for id in due], "most": PIECES,
                   "since": int((time.time() - PAST) * 1e6)}  # fmt: skip
         rows = self._ask(statements.PIECES, values)
         for row in rows:
-            self._next[row["list"]] = row["first"] + row["count"]
-            yield Recorded(names[row["list"]], _piece_of(row))
+            self._next[keys[row["list"]]] = row["first"] + row["count"]
+            yield Recorded(of[row["list"]]["name"], _piece_of(row), of[row["list"]]["whose"])
         if len(rows) < PIECES:
-            for row in lists:  # the rest is older
-                self._next[row["id"]] = max(row["kept"] + 1, self._next.get(row["id"], 1))
+            for id, row in of.items():  # the rest is older
+                self._next[keys[id]] = max(row["kept"] + 1, self._next.get(keys[id], 1))
 
 
 def _piece_of(row: Mapping[str, Any]) -> Piece | None:

@@ -14,7 +14,8 @@ SELECT
   CASE WHEN pg_has_role('pg_read_all_stats', 'USAGE')
     THEN (SELECT count(*) FROM pg_stat_replication WHERE sync_state IN ('sync', 'quorum')) END AS standbys_of_postgresql,
   COALESCE(has_table_privilege(to_regclass('pagelog_trail_list'), 'SELECT')
-    AND has_table_privilege(to_regclass('pagelog_trail_piece'), 'SELECT'), false) AS has_trail
+    AND has_table_privilege(to_regclass('pagelog_trail_piece'), 'SELECT'), false) AS has_trail,
+  EXISTS (SELECT 1 FROM pg_attribute WHERE attrelid = to_regclass('pagelog_trail_list') AND attname = 'of_run') AS has_runs
 """
 
 GENERATIONS = """
@@ -25,11 +26,21 @@ ORDER BY g.log, g.generation
 """
 
 LISTS = f"""
-SELECT DISTINCT ON (t.log) t.id, t.log AS name, t.kept, t.ended
+SELECT DISTINCT ON (l.id) t.id, l.id AS log, l.name, t.of_run, COALESCE(split_part(t.of_run, '/', 1), t.log) AS whose, t.kept, t.ended
+FROM pagelog_trail_list t JOIN pagelog_log l ON l.format = {FORMAT} AND NOT l.dropped
+  AND CASE WHEN t.of_run IS NULL THEN l.name = t.log ELSE l.identity::text = split_part(t.of_run, '/', 1) END
+WHERE t.format = %(format)s
+ORDER BY l.id, t.run DESC
+"""
+"""The last list of each database. `whose` it is, its identity says, or where an older keeper began it a name alone."""
+
+LISTS_BY_NAME = f"""
+SELECT DISTINCT ON (t.log) t.id, l.id AS log, t.log AS name, NULL AS of_run, t.log AS whose, t.kept, t.ended
 FROM pagelog_trail_list t JOIN pagelog_log l ON l.name = t.log AND l.format = {FORMAT} AND NOT l.dropped
 WHERE t.format = %(format)s
 ORDER BY t.log, t.run DESC
 """
+"""The same of tables of an older version."""
 
 PIECES = """
 SELECT p.list, p.first, p.count, p.seen, p.data

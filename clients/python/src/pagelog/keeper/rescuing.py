@@ -16,8 +16,9 @@ from pagelog.keeper.served import Served
 
 _MAKE = f"""
 WITH made AS (
-  INSERT INTO pagelog_log (id, name, format, archived, epoch, chain, read_only, dropped, run)
-  SELECT n, %(name)s || '!' || n, {FORMAT}, 0, 1, ''::bytea, true, true, %(run)s
+  INSERT INTO pagelog_log (id, name, format, archived, epoch, chain, read_only, dropped, run, ancestor)
+  SELECT n, %(name)s || '!' || n, {FORMAT}, 0, 1, ''::bytea, true, true, %(run)s,
+    (SELECT COALESCE(ancestor, name) FROM pagelog_log WHERE id = %(log)s)
   FROM nextval(pg_get_serial_sequence('pagelog_log', 'id')) n RETURNING id)
 INSERT INTO pagelog_table (log, text, secret) SELECT made.id, text, secret FROM made, pagelog_table WHERE log = %(log)s RETURNING log
 """
