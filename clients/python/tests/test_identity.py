@@ -370,9 +370,9 @@ class NumbersComeAgain(Going):
         primary = self.enterContext(self.keeping.primary())
         self.commit(primary, "0", durable=True)
         self.go_back_before_a_switchover(lambda number: self.commit(primary, f"kept {number}", durable=True), continues=True)
-        self.fill("new", 3)
-        self.commit(primary, "after", durable=True)
-        self.assertEqual(self.texts(), [b"0", b"kept 1", b"kept 2", b"new", b"new", b"new", b"after"])
+        self.assertEqual(self.commit(primary, "after", durable=True), 4)
+        self.fill("new", 5)
+        self.assertEqual(self.texts(), [b"0", b"kept 1", b"kept 2", b"after", b"new"])
 
     def sqlite_over(self, continues: bool) -> sqlite3.Connection:
         """A connection whose commits, all durable, PostgreSQL has lost; another process has written since."""

@@ -66,6 +66,8 @@ class Database:
         """When a look showed less than one before."""
         self._reports: Mapping[str, Mapping[str, Any]] = {}
         """What the other keepers that are alive have last said of it."""
+        self._rose = float("-inf")
+        """When its holder's beat was last seen to rise."""
         self._noted, self._noted_at = Seen(), float("-inf")
         self._known: tuple[str, str | None, bool] | None = None
         """Whether PostgreSQL knew this run, when it named that one."""
@@ -83,9 +85,9 @@ class Database:
     # Facts.
 
     def see(self, row: Row, beat: int | None, others: tuple[StandbyRow, ...], *, is_noted: bool, began: float,
-            reports: Mapping[str, Mapping[str, Any]] = {}) -> None:  # fmt: skip
-        """What a look has shown that began then. `beat` is the holder's, and `is_noted` is of a standby of this keeper. `reports` are
-        what the other keepers that are alive say of it."""
+            reports: Mapping[str, Mapping[str, Any]] = {}, rose: float = float("-inf")) -> None:  # fmt: skip
+        """What a look has shown that began then. `beat` is the holder's, which was last seen to rise when it `rose`, and `is_noted` is of
+        a standby of this keeper. `reports` are what the other keepers that are alive say of it."""
         if began <= self._switched_at:
             return  # over another connection a switch was committed meanwhile, which it may not have seen
         if row.generation < self.row.generation:
@@ -93,7 +95,7 @@ class Database:
         if (row.generation, row.archived) < (self.row.generation, self._confirmed):
             self._seen_back_at = seconds()
         self.row, self.beat, self._others, self.is_noted, self.is_known = row, beat, others, is_noted, True
-        self._reports = reports
+        self._reports, self._rose = reports, rose
         self._confirmed = row.archived
         if self.served is not None and not is_noted:
             self.served.is_noted = False  # PostgreSQL has lost that
@@ -188,7 +190,10 @@ class Database:
             return Rival.NOT_KNOWN
         if row.holder == settings.name:
             return Rival.LIVES if is_there(settings.program.folder, row.name, row.run) else Rival.GONE
-        return Rival.LIVES if self._reports.get(row.holder or "", {}).get("run") == row.run else Rival.NOT_KNOWN
+        # What a PostgreSQL that went back has of a report is of before: who lives says so anew.
+        since = float("inf") if self.served is None or self.served.back_since is None else self.served.back_since
+        is_said = self._reports.get(row.holder or "", {}).get("run") == row.run
+        return Rival.LIVES if is_said and self._rose > since else Rival.NOT_KNOWN
 
     def _further(self) -> str | None:
         """A keeper that has more of what PostgreSQL has lost than this one; of two that have as much it is the one whose name is first."""

@@ -84,6 +84,9 @@ class Keeper:
         """Whether a keeper of another folder has the name."""
         self._lives: dict[str, Stillness] = {}
         self._living: set[str] = set()
+        self._beats: dict[str, int] = {}
+        self._rose: dict[str, float] = {}
+        """When a look showed that the beat of a keeper had risen: that one was alive since, and knew this PostgreSQL."""
         self.synchronous = Synchronous()
         self._looks = 0
         """How many PostgreSQL has confirmed."""
@@ -360,7 +363,7 @@ class Keeper:
             holder = self.look.keeper(row.holder)
             is_noted = any(standby.keeper == self.settings.name and database.may_have_noted(standby) for standby in self.look.standbys_of(row.id))
             database.see(row, None if holder is None else holder.beat, self._others(row.id), is_noted=is_noted, began=began,
-                         reports=self._reports_of(row.name))  # fmt: skip
+                         reports=self._reports_of(row.name), rose=self._rose.get(row.holder or "", float("-inf")))  # fmt: skip
             self._changed(row.name)
         for identity in self.databases.keys() - {row.identity for row in self.look.rows}:
             self.databases[identity].lose()
@@ -391,6 +394,9 @@ class Keeper:
         for keeper in self.look.keepers:
             seen = self._lives.setdefault(keeper.name, Stillness(self.settings.ttl)).see((keeper.run, keeper.beat), now)
             (self._living.add if seen < self.settings.ttl else self._living.discard)(keeper.name)
+            if keeper.beat > self._beats.get(keeper.name, keeper.beat):
+                self._rose[keeper.name] = now
+            self._beats[keeper.name] = keeper.beat
 
     def _others(self, log: int) -> tuple[StandbyRow, ...]:
         return tuple(standby for standby in self.look.standbys_of(log)
