@@ -40,7 +40,7 @@ struct named {
     uint8_t token[PAGELOG_TOKEN_BYTES],
         operator_token[PAGELOG_TOKEN_BYTES]; /* of the table; each run has others */
     struct pagelog_tail tail;     /* of who may write: the blocks that are not known to be durable */
-    struct pagelog_place settled; /* the generation whose log had all of these; none where they are lost */
+    struct pagelog_place settled; /* the generation whose log had all of these */
     uint64_t told;                /* position: the blocks up to it were in its log, and may be sent again */
     uint64_t own;                 /* position: of the last commit of this file that was acknowledged */
     uint64_t durable;             /* position: all up to it is durable */

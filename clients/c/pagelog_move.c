@@ -97,6 +97,7 @@ static enum pagelog_outcome enter(struct pagelog_file *file, const struct pagelo
         named->is_accepted = false;
         named->refused = 0;
     }
+    if (named->is_superseded) named->settled = *place; /* nothing is left of before: that is told once */
     named->is_superseded = false;
     if (file->options.durable_only && place->archived > named->durable) named->durable = place->archived;
     pagelog_become_follower(file);
@@ -113,8 +114,7 @@ static enum pagelog_outcome learn_end(struct pagelog_file *file) {
     struct pagelog_fate fate;
     bool is_empty = pagelog_tail_is_empty(&named->tail);
     uint64_t last = is_empty ? named->own : named->tail.next - 1; /* where all is durable, it may be lost */
-    bool is_told = named->settled.run[0] == '\0';
-    if (is_settled_here(named) || is_told || last == 0) return PAGELOG_DONE;
+    if (is_settled_here(named) || last == 0) return PAGELOG_DONE;
     enum pagelog_outcome outcome = pagelog_fate_of(named->keepers, NULL, &named->settled, last, &fate);
     if (outcome != PAGELOG_DONE) return outcome;
     bool is_lost = fate.end < named->durable || (is_empty && fate.is_over && fate.end < last);
@@ -268,7 +268,6 @@ enum pagelog_outcome pagelog_lose_run(struct pagelog_file *file, const struct pa
     enum pagelog_outcome outcome =
         lose_to(file, first, is_no_more ? PAGELOG_DENIED : PAGELOG_FENCED, reason_of(loss));
     named->is_superseded = named->is_between = is_here && !is_no_more;
-    if (named->is_superseded) named->settled = (struct pagelog_place){0}; /* it is told of that once */
     return outcome;
 }
 

@@ -220,6 +220,7 @@ PLANTS = {
     "trails, by a step": Plant("schema", "STEPS = (_FIRST, _LIVES, _IDENTITY, _TRAILS)", "STEPS = (_FIRST, _LIVES, _IDENTITY, ())", "kept_trails",
                                "list_of_an_older"),
     "saved, of another name": Plant("rescuing", "(SELECT COALESCE(ancestor, name) FROM pagelog_log WHERE id = %(log)s)", "NULL", "lives", "opens_under"),
+    "rival of before": Plant("database", " and self._rose > since", "", "identity", "a_writer_whose_run_continues"),
     "another run's writer": Plant("../named", "self.place is not None and place.run != self.place.run or self.keepers", "self.keepers", "identity",
                                   "test_a_writer_is_told_nothing_of_another_run_whose"),
     "phantom": Plant("machine", "if own is None and facts.is_noted:", "if False:", "lives", "taken_back"),
