@@ -353,6 +353,7 @@ def failure(plant: Plant) -> str | None:
     with tempfile.TemporaryDirectory(prefix="pagelog-plants-") as folder:
         copy = Path(folder) / "clients" / "python"
         shutil.copytree(PYTHON, copy, ignore=shutil.ignore_patterns("__pycache__", ".mypy_cache"))
+        (copy.parent / "c").symlink_to(PYTHON.parent / "c")  # for SQLite
         tables = Path(folder) / "crates" / "pagelog" / "data"
         tables.mkdir(parents=True)
         shutil.copy(PYTHON.parent.parent / "crates" / "pagelog" / "data" / "t0.toml", tables)
@@ -366,7 +367,7 @@ def failure(plant: Plant) -> str | None:
         done = subprocess.run(words, stdout=subprocess.PIPE, stderr=subprocess.STDOUT, text=True, env=environment)
         if "clients/python: 0 passed, 0 failed" in done.stdout:
             raise AssertionError(f"there is no test {plant.test} in {plant.part}")
-        errors = [line.strip() for line in done.stdout.splitlines() if re.match(r"\s*[\w.]+(Error|Exception|Base|Lost|Doubt)\b", line)]
+        errors = [line.strip() for line in done.stdout.splitlines() if re.match(r"\s*([\w.]+(Error|Exception|Base|Lost|Doubt|TimedOut)\b|pagelog\.rules\.)", line)]
         return None if done.returncode == 0 else (errors or ["it did not come to its end"])[-1]
 
 
