@@ -266,8 +266,7 @@ inline lose_from(p, told_as) {
 // pagelog_move.c: learn_end
                     // ..
                     // uint64_t last = is_empty ? named->own : named->tail.next - 1;
-                    // ..
-                    // if (is_settled_here(named) || is_told || last == 0) return PAGELOG_DONE;
+                    // if (is_settled_here(named) || last == 0) return PAGELOG_DONE;
                     // enum pagelog_outcome outcome = pagelog_fate_of(named->keepers, NULL, &named->settled, last, &fate);
                     // ..
                     // bool is_lost = fate.end < named->durable || (is_empty && fate.is_over && fate.end < last);
