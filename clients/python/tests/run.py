@@ -54,6 +54,7 @@ PARTS = {
     "test_readers": "how old what a reader sees may be",
     "test_keepers": "named databases under a keeper",
     "test_group": "threads that share a writer of a named database",
+    "test_changes": "tables and tokens of named databases that change",
     "test_successions": "successions, from images at the same positions",
     "test_top": "a live page of named databases",
     "test_standbys": "standbys, switchovers, and keepers that are gone",

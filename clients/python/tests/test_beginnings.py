@@ -217,7 +217,7 @@ class Adopts(Meanwhile):
             await self.done(lambda: self.process.poll() is not None)
 
     async def test_one_that_postgresql_knows_no_more_is_not_ended(self) -> None:
-        self.session.ask = AsyncMock(side_effect=lambda call, *_: ("", b"") if call is self.session.referee.table else None)
+        self.session.ask = AsyncMock(side_effect=lambda call, *_: ("", b"", 1) if call is self.session.referee.table else None)
         self.see()
         await self.done(lambda: self.database._acting.done())  # type: ignore[union-attr]
         self.see(replace(ROW, run="other", generation=2, archived=4, holder="b", address="b:1"))

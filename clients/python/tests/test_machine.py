@@ -13,7 +13,7 @@ from unittest.mock import Mock
 from pagelog.keeper.database import Database
 from pagelog.keeper.machine import PATIENCE, Action, Facts, Kind, Own, Rival, Stage, State, Stillness, decide, state_of
 from pagelog.keeper.referee import Referee
-from pagelog.keeper.rows import Row, StandbyRow
+from pagelog.keeper.rows import Row, StandbyRow, TableOf
 from pagelog.keeper.settings import Settings
 from pagelog.keeper.shared import Shared
 
@@ -144,6 +144,30 @@ class Cases(unittest.TestCase):
         self.check(Action.STAND_DOWN, ROW, is_noted=True, stands_by=True)
         self.check(Action.NOTHING, ROW, STANDBY, is_noted=True)
 
+    def test_of_a_table_that_was_changed(self) -> None:
+        ours, theirs, released = (replace(row, table_number=2) for row in (OURS, ROW, RELEASED))
+        # Its holder makes the next generation, paused or not, and before any switchover.
+        for row in (ours, replace(ours, paused=True), replace(ours, wanted="c"), replace(ours, wanted="a", paused=True)):
+            self.check(Action.PREPARE, row, HOLDS, others=(OF_C,))
+            self.check(Action.SUCCEED, row, HOLDS, successor=Stage.READY)
+            for stage in (Stage.MAKING, Stage.FAILED):
+                self.check(Action.NOTHING, row, HOLDS, others=(OF_C,), successor=stage)
+        self.check(Action.CLOSE, ours, replace(HOLDS, share=0.8))
+        self.check(Action.CLOSE, ours, HOLDS, ending=True)
+        self.check(Action.RELEASE, ours, replace(HOLDS, alive=False))
+        self.check(Action.FILL, replace(ours, address=None), HOLDS)
+        self.check(Action.NOTHING, replace(ours, paused=True), replace(HOLDS, table_number=2))
+        # A standby stays until the holder has the newest one, or is gone.
+        self.check(Action.NOTHING, theirs, STANDBY)
+        self.check(Action.END, replace(theirs, run_table=2), STANDBY)
+        self.check(Action.NOTHING, replace(theirs, run_table=2), replace(STANDBY, table_number=2))
+        self.check(Action.END, theirs, STANDBY, still=TTL)
+        self.check(Action.END, released, STANDBY)
+        self.check(Action.END, replace(released, paused=True), STANDBY)
+        self.check(Action.TAKE, released, replace(STANDBY, table_number=2))
+        # What may be the only copy is not ended for it.
+        self.check(Action.CONTINUE, released, replace(STANDBY, reached=5001))
+
     def test_of_a_run_that_is_over(self) -> None:
         for row in (replace(ROW, generation=4), RELEASED, replace(ROW, generation=2), ROW):
             self.check(Action.LOOK_UP, row, HOLDS)  # also where the number was given twice: the run alone says which it is
@@ -269,7 +293,7 @@ class Taken(unittest.TestCase):
         async def ask(call: Callable[..., object], *arguments: Any) -> object:
             if call == session.referee.table:
                 database.see(seen, beat_seen, (), is_noted=False, began=2.0)
-                return "", b"secret"
+                return TableOf("", b"secret", 1)
             takes.append(arguments)
             return None
 

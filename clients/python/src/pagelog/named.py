@@ -26,7 +26,7 @@ from pagelog.primary import Primary
 from pagelog.reader import Reader
 from pagelog.repeating import Backoff
 from pagelog.request import PULL_MAX, QUORUM
-from pagelog.rules import Denial, NoRowMatches, OlderEpoch, OtherPrimary, TableRow, UnknownPrincipal
+from pagelog.rules import Denial, NoRowMatches, OlderEpoch, OtherPrimary, TableRow, UnknownPrincipal, UnlistedPrimary
 
 TAIL = 16 << 20
 """The most bytes of blocks that are kept because they are not known to be durable. Then a commit waits for the archive."""
@@ -309,6 +309,9 @@ class NamedPrimary(Following):
         except GONE as error:
             if isinstance(error, UnknownPrincipal):
                 self._see_refused(place, f"principal {self._account.id} or operator {self._operator.id}")
+            return False
+        except UnlistedPrimary:
+            self._see_refused(place, f"principal {self._account.id}")
             return False
         except (TableRow, NoRowMatches) as error:
             if self._is_barred(place, witness, error):

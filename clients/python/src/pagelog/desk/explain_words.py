@@ -11,6 +11,7 @@ from pagelog.desk.explain import Question, Table, differences, explain, question
 from pagelog.desk.explain_all import all_differences
 from pagelog.desk.options import fail, faults
 from pagelog.errors import PagelogError
+from pagelog.table_editing import changed_tokens
 
 
 @click.command("explain")
@@ -25,7 +26,7 @@ def explain_word(is_diff: bool, arguments: tuple[str, ...]) -> None:
     the partitions of a write, an offer or a pull (0..3 or 1,4), the page of a get, the partition of an advance, and the
     principal of a failover. The LSN, by default the lowest, matters for rows that end at one (`through`).
 
-    With --diff the requests that are decided otherwise are listed, and the exit status is as of diff(1): 0 if there are none, 1 if
+    With --diff the principals with another token, and the requests that are decided otherwise, are listed, and the exit status is as of diff(1): 0 if there are none, 1 if
     there are, and 2 for a fault. Without a FILE
     of requests they are those of each principal, role and operation, at the first and last partition of each row's range, at
     the ones beside it, and at each LSN that a row ends at and the next.
@@ -41,7 +42,7 @@ def explain_word(is_diff: bool, arguments: tuple[str, ...]) -> None:
         if len(arguments) not in (2, 3):
             raise click.UsageError("--diff takes OLD NEW, and FILE if need be")
         try:
-            count = _show_differences(*map(Path, arguments))
+            count = show_differences(*map(Path, arguments))
         except PagelogError as error:
             fail(f"{type(error).__name__}: {error}", 2)
         sys.exit(1 if count else 0)
@@ -52,14 +53,18 @@ def explain_word(is_diff: bool, arguments: tuple[str, ...]) -> None:
         click.echo(f"{words}: {explain(table, Question.parse(words))}")
 
 
-def _show_differences(old_file: Path, new_file: Path, requests: Path | None = None) -> int:
-    """Shows what two tables decide otherwise, and returns how many requests that are."""
+def show_differences(old_file: Path, new_file: Path, requests: Path | None = None) -> int:
+    """Shows which principals have another token, and what two tables decide otherwise, and returns how many principals and requests
+    that are. No token is shown."""
     old, new = Table(old_file), Table(new_file)
+    changed = changed_tokens(old.text.decode(), new.text.decode())
+    for principal in changed:
+        click.echo(f"principal {principal}\n  {old.name}: a token\n  {new.name}: another token")
     found = differences(old, new, questions_of(requests)) if requests else all_differences(old, new)
     count = 0
     for count, difference in enumerate(found, 1):
         click.echo(f"{difference.question.words}\n  {old.name}: {difference.old}\n  {new.name}: {difference.new}")
-    return count
+    return len(changed) + count
 
 
 @click.command("completion")

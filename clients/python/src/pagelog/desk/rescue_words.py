@@ -99,7 +99,7 @@ def _histories(referee: Referee, look: Look, name: str, run: str | None) -> tupl
         fail(f"there is no database {name}: PostgreSQL has the secret of its keepers no more")
     if not known:
         fail(f"no keeper says that it has a run of {name} which PostgreSQL lacks")
-    text, secret = referee.table(row.id)
+    text, secret, _ = referee.table(row.id)
     found, silent = [], None
     for each in known:
         try:

@@ -23,6 +23,8 @@ WORDS = {
     "mend": "logs_words",
     "keep": "keeper_words",
     "create": "keeper_words",
+    "table": "table_words",
+    "token": "token_words",
     "pause": "keeper_words",
     "resume": "keeper_words",
     "kept": "kept_words",

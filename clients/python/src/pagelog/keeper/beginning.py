@@ -25,7 +25,7 @@ def continued_from_images(referee: Referee, served: Served, row: Row, beat: int 
     for blocks in served.began_with():
         replay.apply(blocks)
     with transaction(referee):
-        kept = referee.continue_run(row, served.run, beat, served.where, least, start)
+        kept = referee.continue_run(row, served.run, beat, served.where, least, start, served.table_number)
         if kept is not None:
             Bases(referee, row.id).keep_all(start[0], list(replay.images()), start[1])
     return kept
@@ -57,15 +57,17 @@ class Beginning:
             raise
         except PagelogError as error:
             return await database.standing.give_up(served, error)
-        kept = await self._shared.ask(self._shared.referee.take, row, served.run, beat, where, self._shared.numbers.least(row))
+        kept = await self._shared.ask(self._shared.referee.take, row, served.run, beat, where, self._shared.numbers.least(row),
+                                      served.table_number)  # fmt: skip
         if kept is None:
             return False
         self._shared.numbers.note(row.identity, kept.generation)
+        self._shared.session.woken.set()  # the next look reports its run
         served.kind, served.generation, database.served = Kind.HOLDER, kept.generation, served
         served.is_after_release = row.run is None and row.generation not in (0, database.let_go)
         database.row = replace(row, generation=kept.generation, run=served.run, holder=self._shared.settings.name, address=where.address,
                            archived=kept.archived, base=kept.archived, shift=served.shift, images=served.images, chain=kept.chain,
-                           wanted=None, next_generation=kept.generation + 1)  # fmt: skip
+                           wanted=None, next_generation=kept.generation + 1, run_table=served.table_number)  # fmt: skip
         return True
 
     async def _ready(self, served: Served, row: Row) -> Where:
@@ -123,7 +125,12 @@ class Beginning:
         beat = None if row.holder == self._shared.settings.name else database.beat  # its own rises with each look
         is_before = (row.generation, row.run) == database.before
         try:
+            newest = await self._shared.ask(self._shared.referee.table, row.id)
+            if served.table_number < newest.number:
+                await asyncio.to_thread(served.renew, newest)
             start = await asyncio.to_thread(served.continues, row.archived, row.chain, is_before=is_before)
+        except (Away, Doubt, Refused):
+            raise
         except PagelogError as error:
             self._say(f"the service does not answer its keeper: {error}")
             return False
@@ -140,13 +147,13 @@ class Beginning:
         served.reached, served.chain = kept.archived, kept.chain
         database.row = replace(row, generation=kept.generation, run=served.run, holder=self._shared.settings.name, address=served.where.address,
                                archived=kept.archived, chain=kept.chain, base=kept.archived, shift=served.shift, images=served.images,
-                               wanted=None, succeed=False, next_generation=kept.generation + 1)  # fmt: skip
+                               wanted=None, succeed=False, next_generation=kept.generation + 1, run_table=served.table_number)  # fmt: skip
         return await self.fill()
 
     async def _continued(self, served: Served, row: Row, beat: int | None, least: int, start: tuple[int, bytes]) -> Kept | None:
         """Where it starts behind what is archived, its images are kept with the statement, as the base from which the archive goes on."""
         if start[0] == row.archived:
-            return await self._shared.ask(self._shared.referee.continue_run, row, served.run, beat, served.where, least, start)  # type: ignore[no-any-return]
+            return await self._shared.ask(self._shared.referee.continue_run, row, served.run, beat, served.where, least, start, served.table_number)  # type: ignore[no-any-return]
         settings = self._shared.settings
         referee = Referee(settings.url, settings.name, self._shared.life, requires_standby=settings.require_standby)
         try:
@@ -183,7 +190,7 @@ class Beginning:
             return True
         archived, chain = (row.archived, row.chain) if kept is None else (kept.archived, kept.chain)
         served.adopt(process, archived, chain, shift=shift, images=images)
-        served.generation = row.generation
+        served.generation, served.table_number = row.generation, row.run_table
         database.served = served
         database.watch(served)
         if kept is None:

@@ -13,7 +13,7 @@ from pagelog.keeper.fates import Moves
 from pagelog.keeper.fate import Of
 from pagelog.keeper.lines import Line, of_word
 from pagelog.keeper.machine import Action, Decision, Facts, Kind, Own, Rival, State, Stillness, decide, is_only_copy, state_of, went_back
-from pagelog.keeper.referee import Away, Doubt, Refused
+from pagelog.keeper.referee import Away, Doubt, KeeperError, Refused
 from pagelog.keeper.rows import Row, StandbyRow
 from pagelog.keeper.run import Seen, is_there
 from pagelog.keeper.served import Served, seconds
@@ -54,6 +54,8 @@ class Database:
         """A generation that has followed here directly on another, and the run of that."""
         self._ends: dict[str, int] = {}
         """The last runs that were ended here, and the positions at which: who asks while PostgreSQL is away is told so all the same."""
+        self.leaving: set[str] = set()
+        """Runs that hold it no more here, and whose processes have not ended yet."""
         self.before: tuple[int, str] | None = None
         """The generation, and its run, from which the one that is held here came by a succession."""
         self.let_go = -1
@@ -115,7 +117,16 @@ class Database:
         if served is not None and served.kind is Kind.STANDBY and row.wanted in ("*", self.shared.settings.name):
             self.shared.spawn(self.shared.committer.warm(), row.name)
         self.note_seen()
+        if self.served is not None and self.served.table_number > row.table_number and self.served.identity == row.identity:
+            self.shared.spawn(self._put_table_back(self.served), row.name)
         self.kick()
+
+    async def _put_table_back(self, served: Served) -> None:
+        """PostgreSQL went back to an older table than that of a service that is here, so that tokens would be good again which were
+        changed; or the look is older than the change."""
+        with suppress(KeeperError):  # the next look shows it again
+            if await self.shared.ask(self.shared.referee.put_table_back, self.row.id, served.identity, served.table):
+                self.shared.say(self.row.name, f"PostgreSQL has forgotten table {served.table_number}: it is put back")
 
     def note_seen(self) -> None:
         """Notes what PostgreSQL has of the run that is held here, at most once in a ttl: a later life knows by that whether it went back."""
@@ -165,7 +176,7 @@ class Database:
         back_for = 0.0 if served.back_since is None else seconds() - served.back_since
         return Own(served.run, served.kind, served.generation, served.reached, served.is_alive, served.silent, share, served.went_back,
                    served.is_open, served.was_closed, served.is_full and self._may_be_asked_for_more, is_known, served.is_apart,
-                   back_for)  # fmt: skip
+                   back_for, served.table_number)  # fmt: skip
 
     @property
     def _may_be_asked_for_more(self) -> bool:
@@ -353,8 +364,10 @@ class Database:
 
     async def new_served(self, run: str) -> Served:
         """What is to be the service of this run."""
-        text, secret = await self.shared.ask(self.shared.referee.table, self.row.id)
-        return Served(self.row.name, run, text, secret, timeout=self.shared.settings.ttl, is_read_only=self.row.read_only)
+        text, secret, number = await self.shared.ask(self.shared.referee.table, self.row.id)
+        made = Served(self.row.name, run, text, secret, timeout=self.shared.settings.ttl, is_read_only=self.row.read_only, table_number=number)
+        made.identity = self.row.identity
+        return made
 
     async def filled(self, served: Served, archived: int, chain: bytes) -> None:
         """Fills it with what it lacks of the archive, up to this position."""
@@ -374,10 +387,12 @@ class Database:
         """The next generation has begun: what is asked of the one before is over, and its service is ended."""
         before, name, generation, recorder = self.own, self.row.name, switch.next, self.work.recorder
         self._switched_at = seconds()
+        self.leaving.add(before.run)
         self.work.stop()
         successor.kind, successor.generation, self.served = Kind.HOLDER, generation, successor
         self.row = replace(self.row, generation=generation, run=successor.run, address=switch.address, base=switch.end,
                            archived=switch.end, shift=switch.shift, images=switch.images, chain=switch.chain, succeed=False,
+                           run_table=successor.table_number,
                            next_generation=max(self.row.next_generation, generation + 1))  # fmt: skip
         self.after, self.before = (generation, before.run), (before.generation, before.run)
         self.has_ended(before.run, switch.end)

@@ -111,6 +111,13 @@ class Ending:
         """Kills its process, once, unless it may be the only copy of something: that is set aside."""
         process, served.process = served.process, None
         served.is_broken = True
+        self._database.leaving.add(served.run)
+        try:
+            await self._end_process(served, process)
+        finally:
+            self._database.leaving.discard(served.run)
+
+    async def _end_process(self, served: Served, process: Run | None) -> None:
         if process is None:
             return
         asyncio.get_running_loop().remove_reader(process.descriptor)

@@ -33,6 +33,7 @@ from pagelog.keeper.rows import Look, Named, Row, StandbyRow, Synchronous
 from pagelog.keeper.run import Run, Seen, has_services, orphans_of
 from pagelog.keeper.served import Served, seconds
 from pagelog.keeper.session import Session
+from pagelog.keeper.schema import NUMBERS
 from pagelog.keeper.settings import Settings
 from pagelog.keeper.shared import Shared
 from pagelog.keeper.turns import AllTurns
@@ -156,6 +157,7 @@ class Keeper:
                     return 1  # its next life adopts what it has
                 await self._look()
                 await self._session.rest(self._pause)
+            await self._say_what_is_left()
             return 0
         except NameInUse as error:
             _log.error("%s", error)
@@ -179,6 +181,12 @@ class Keeper:
         self._stops, self._shared.ending = self._shared.ending, True
         self._say("the keeper", "told to end at once" if self._stops else "told to end")
         self._session.woken.set()
+
+    async def _say_what_is_left(self) -> None:
+        """The last report of a keeper that has handed over names no run that has ended."""
+        if not self._stops:
+            with suppress(KeeperError):
+                await self._session.ask(self._session.referee.look, {}, self._report())
 
     def _is_over(self) -> bool:
         has_handed_over = not self._may_have and all(each.is_at_rest for each in self.databases.values())
@@ -421,13 +429,16 @@ class Keeper:
         """What `kept` shows of the services of this keeper, measured for it and for what is decided until the next look; and what is
         decided of them, and of what nobody has."""
         audit, limit, report = self.settings.program.audit, self.settings.memory, dict[str, Any](self._shared.asides.report(self._lost()))
+        report[NUMBERS] = True
         for each in self.databases.values():
-            if each.row.dropped or (each.served is None and each.row.holder not in (None, self.settings.name)):
+            if each.row.dropped or (each.served is None and not each.leaving and each.row.holder not in (None, self.settings.name)):
                 continue
             said: dict[str, Any] = {"state": each.state.value, "why": str(each.decision or "")}
             report[each.row.name] = said
+            if each.leaving:
+                said["leaving"] = sorted(each.leaving)
             if each.served is not None and each.served.process is not None:
-                said.update(run=each.served.run, back=each.back)
+                said.update(run=each.served.run, back=each.back, table=each.served.table_number)
                 memory = each.served.measure()
                 said.update(entries_left=audit - each.served.entries, memory=memory >> 20,
                             memory_left=max(0, limit - memory) >> 20 if limit else None, hard=each.served.hard)  # fmt: skip

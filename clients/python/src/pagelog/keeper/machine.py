@@ -22,6 +22,7 @@ NEAR = 1024
 PATIENCE = 1.5
 """For how many ttl a run of which PostgreSQL went back waits to see whether the run that PostgreSQL names is alive."""
 _FULL = "its list or its memory is {} full"
+_CHANGED = "the table was changed"
 
 
 class Kind(Enum):
@@ -95,6 +96,12 @@ class Own:
     """Whether the archive is known to have something else than its log."""
     back_for: float = 0.0
     """For how many seconds it has been known that PostgreSQL went back."""
+    table_number: int = 1
+    """That of the table that it was started with."""
+
+    def has_old_table(self, row: Row) -> bool:
+        """Whether a newer one was set."""
+        return self.table_number < row.table_number
 
 
 class Rival(Enum):
@@ -226,15 +233,16 @@ def _of_the_holder(facts: Facts, row: Row, own: Own) -> Decision:
         return Decision(Action.RELEASE, "the service has not answered for {} s", f"{own.silent:.1f}")
     if facts.ending:
         return Decision(Action.CLOSE, "the keeper ends")
-    if row.paused:
+    has_old_table = own.has_old_table(row)
+    if row.paused and not has_old_table:
         return Decision(Action.NOTHING, "serves; paused")
-    if row.wanted == facts.me:
+    if row.wanted == facts.me and not row.paused:
         return Decision(Action.UNWISH, "it is here already")
     if facts.successor is Stage.READY:
         return Decision(Action.SUCCEED, "the service of the next generation is ready")
-    if own.share >= ROLL_AT:  # a wish may wait for ever
+    if own.share >= ROLL_AT and not row.paused:  # a wish may wait for ever
         return Decision(Action.CLOSE, _FULL, f"{own.share:.0%}")
-    if row.wanted is not None:
+    if row.wanted is not None and not has_old_table:
         return _of_a_wish(facts, row)
     return _of_a_succession(facts, row, own)
 
@@ -242,6 +250,8 @@ def _of_the_holder(facts: Facts, row: Row, own: Own) -> Decision:
 def _of_a_succession(facts: Facts, row: Row, own: Own) -> Decision:
     if facts.successor is not Stage.NONE:
         return Decision(Action.NOTHING, f"serves; the service of the next generation: {facts.successor.value}")
+    if own.has_old_table(row):
+        return Decision(Action.PREPARE, _CHANGED)
     if row.succeed:
         return Decision(Action.PREPARE, "a succession was asked for")
     if own.share >= facts.succeed_at:
@@ -309,6 +319,8 @@ def _of_a_rival(facts: Facts, row: Row, own: Own, back: str) -> Decision:
 
 
 def _of_a_released(facts: Facts, row: Row) -> Decision:
+    if facts.own is not None and facts.own.has_old_table(row):
+        return Decision(Action.END, f"{_CHANGED}: the standby is made anew")
     if row.paused:
         return Decision(Action.NOTHING, "nobody has it; paused")
     if facts.further is not None and facts.still < facts.ttl:
@@ -328,6 +340,9 @@ def _of_a_released(facts: Facts, row: Row) -> Decision:
 
 def _of_another_holder(facts: Facts, row: Row) -> Decision:
     wait = facts.ttl * (1.5 if facts.own is None and facts.others else 1)
+    # One after the other: until the holder has the newest table, a standby of before is as good as that.
+    if facts.own is not None and facts.own.has_old_table(row) and (row.run_table >= row.table_number or facts.still >= wait):
+        return Decision(Action.END, f"{_CHANGED}: the standby is made anew")
     if facts.still >= wait and not row.paused:
         return Decision(Action.TAKE, f"the beat of {row.holder} has stood still for {{}} s", f"{facts.still:.1f}")
     if facts.own is not None:

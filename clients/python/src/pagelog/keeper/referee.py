@@ -23,7 +23,7 @@ from pagelog.keeper.batches import array_of, statement_of, values_of
 from pagelog.keeper.hosts import shut_down, turn_hosts
 from pagelog.keeper.fate import Fate, FateRow, Of, fate_of_rows
 from pagelog.keeper.refusal import is_refusal, line_of
-from pagelog.keeper.rows import Batch, Kept, Look, Named, Origin, Row, Where, look_of
+from pagelog.keeper.rows import Batch, Kept, Look, Named, Origin, Row, TableOf, Where, look_of
 from pagelog.keeper.schema import CHANNEL, FORMAT, FOUND, NUMBERED, VERSION, script
 
 PIECE = 2048
@@ -309,23 +309,25 @@ class Referee:
             raise
         return look_of(*found)
 
-    def table(self, log: int) -> tuple[str, bytes]:
-        """The text of the table of a database, and the secret of its keepers."""
-        found = self._ask("SELECT text, secret FROM pagelog_table WHERE log = %s", (log,))
+    def table(self, log: int) -> TableOf:
+        """The newest table of a database, with its number."""
+        found = self._ask(statements.TABLE, (log,))
         if not found:
             raise Refused(f"the referee has no table of database {log}: it was dropped")
-        return str(found[0][0]), bytes(found[0][1])
+        return TableOf(str(found[0][0]), bytes(found[0][1]), int(found[0][2]))
 
     # Who holds a database.
 
-    def take(self, seen: Row, run: str, beat: int | None = None, where: Where = Where(), least: int = 0) -> Kept | None:
-        """Makes this keeper the holder, in a new generation of this run, if all is as it was seen. Its number is `least` or above.
+    def take(self, seen: Row, run: str, beat: int | None = None, where: Where = Where(), least: int = 0,
+             table_number: int = 1) -> Kept | None:  # fmt: skip
+        """Makes this keeper the holder, in a new generation of this run, if all is as it was seen, and no newer table than that of this
+        number was set. The number of the generation is `least` or above.
 
         `beat` is that of the holder, as it was seen. `where` publishes a service that has all that was seen to be archived. Returns
         what is archived and will stay so; None where it has changed.
         """
         values = {"id": seen.id, "generation": seen.generation, "archived": seen.archived, "seen_run": seen.run, "run": run,
-                  "me": self.me, "beat": beat, "least": least, **vars(where)}  # fmt: skip
+                  "me": self.me, "beat": beat, "least": least, "table_number": table_number, **vars(where)}  # fmt: skip
         try:
             found = self._ask(statements.TAKE, values)
         except Refused as error:
@@ -351,12 +353,13 @@ class Referee:
         found = self._ask("SELECT chain FROM pagelog_base WHERE log = %s AND base = %s", (log, base))
         return bytes(found[0][0]) if found else None
 
-    def continue_run(self, seen: Row, run: str, beat: int | None, where: Where, least: int, start: tuple[int, bytes]) -> Kept | None:
+    def continue_run(self, seen: Row, run: str, beat: int | None, where: Where, least: int, start: tuple[int, bytes],
+                     table_number: int = 1) -> Kept | None:  # fmt: skip
         """As `take`, with a service that has more than is archived, and is archived again from `start` on, a position with its digest.
         Its generation is `least` at least."""
         values = {"id": seen.id, "generation": seen.generation, "archived": seen.archived, "chain": seen.chain, "seen_run": seen.run,
                   "run": run, "me": self.me, "beat": beat, "least": least, "address": where.address, "shift": where.shift,
-                  "images": where.images, "start": start[0], "start_chain": start[1]}  # fmt: skip
+                  "images": where.images, "start": start[0], "start_chain": start[1], "table_number": table_number}  # fmt: skip
         found = self._ask(statements.CONTINUE, values)
         return Kept(found[0][1], bytes(found[0][2]), found[0][0]) if found else None
 
@@ -439,12 +442,13 @@ class Referee:
 
     # Standbys.
 
-    def stand_by(self, log: int, address: str, run: str, reached: int, shift: int = 0, images: int = 0) -> None:
-        """Says where this keeper has a standby, and where positions are there."""
-        self._ask("INSERT INTO pagelog_standby (log, keeper, address, run, reached, shift, images) VALUES (%s, %s, %s, %s, %s, %s, %s) "
+    def stand_by(self, log: int, address: str, run: str, reached: int, shift: int = 0, images: int = 0, table_number: int = 1) -> None:
+        """Says where this keeper has a standby, where positions are there, and which table it has."""
+        self._ask("INSERT INTO pagelog_standby (log, keeper, address, run, reached, shift, images, table_number) "
+                  "VALUES (%s, %s, %s, %s, %s, %s, %s, %s) "
                   "ON CONFLICT (log, keeper) DO UPDATE SET address = excluded.address, run = excluded.run, reached = excluded.reached, "
-                  "shift = excluded.shift, images = excluded.images RETURNING log",
-                  (log, self.me, address, run, reached, shift, images))  # fmt: skip
+                  "shift = excluded.shift, images = excluded.images, table_number = excluded.table_number RETURNING log",
+                  (log, self.me, address, run, reached, shift, images, table_number))  # fmt: skip
 
     def stand_down(self, log: int) -> None:
         """Says that this keeper has no standby any more."""
@@ -493,6 +497,16 @@ class Referee:
             while found := self._ask(f"DELETE FROM {table} WHERE ({key}) IN ({some}) RETURNING log", (name,)):
                 gone += len(found)
         return dropped or gone > 0
+
+    def set_table(self, row: Row, text: str, seen: int) -> int | None:
+        """Gives a database another table, and returns its number; None where that of number `seen` is not the newest any more."""
+        found = self._ask(statements.SET_TABLE, {"id": row.id, "identity": row.identity, "text": text, "seen": seen})
+        return int(found[0][0]) if found else None
+
+    def put_table_back(self, log: int, identity: str, table: TableOf) -> bool:
+        """PostgreSQL went back, and has an older table than this. Returns whether it had."""
+        values = {"id": log, "identity": identity, "number": table.number, "text": table.text}
+        return bool(self._ask(statements.PUT_TABLE_BACK, values))
 
     def pause(self, name: str | None, paused: bool) -> int:
         """Keepers take nothing over while it is paused. Without a name it is for all. Returns how many there are."""

@@ -3,7 +3,7 @@
 from __future__ import annotations
 
 from dataclasses import dataclass, field
-from typing import TYPE_CHECKING, Any, Mapping
+from typing import TYPE_CHECKING, Any, Mapping, NamedTuple
 
 if TYPE_CHECKING:
     from pagelog.trail.store import TrailList
@@ -40,6 +40,10 @@ class Row:
     """Of a copy the name of the database that it was made of, which SQLite has written into its pages."""
     doubted: int = 0
     """The numbers of generations up to it may have been given to two runs, as PostgreSQL went back."""
+    table_number: int = 1
+    """That of its newest table."""
+    run_table: int = 1
+    """That of the table that its run was started with."""
 
     @property
     def plain_name(self) -> str:
@@ -61,6 +65,14 @@ class Where:
     shift: int | None = None
     images: int | None = None
     chain: bytes | None = field(default=None, repr=False)
+
+
+class TableOf(NamedTuple):
+    """The text of the newest table of a database, the secret of its keepers, and the number of the table."""
+
+    text: str
+    secret: bytes
+    number: int
 
 
 @dataclass(frozen=True)
@@ -99,6 +111,8 @@ class StandbyRow:
     reached: int
     shift: int = 0
     images: int = 0
+    table_number: int = 1
+    """That of the table that its service was started with."""
 
 
 @dataclass(frozen=True)

@@ -7,6 +7,8 @@ not go on with gets another `format`. Each statement may be repeated: it makes w
 
 FORMAT = 3
 """The number of the form of these tables, which each named database carries."""
+NUMBERS = "numbers of tables"
+"""In the report of each keeper that takes nothing with a table which is not the newest. No name of a database has a space."""
 CHANNEL = "pagelog_keeper"
 """The channel of the notifications that a release, a wish and a new database send."""
 
@@ -93,7 +95,15 @@ _TRAILS = (
     "ALTER TABLE IF EXISTS pagelog_trail_list ADD COLUMN IF NOT EXISTS of_run varchar(120)",
 )
 
-STEPS = (_FIRST, _LIVES, _IDENTITY, _TRAILS)
+_TABLE_NUMBERS = (
+    # table_number: of a database the number of its newest table, from 1 on, of a generation and of a standby that of the table that its
+    # service was started with. An older keeper does not say it: 1, so that what it has counts as old once the table was changed.
+    "ALTER TABLE pagelog_log ADD COLUMN IF NOT EXISTS table_number bigint NOT NULL DEFAULT 1",
+    "ALTER TABLE pagelog_generation ADD COLUMN IF NOT EXISTS table_number bigint NOT NULL DEFAULT 1",
+    "ALTER TABLE pagelog_standby ADD COLUMN IF NOT EXISTS table_number bigint NOT NULL DEFAULT 1",
+)
+
+STEPS = (_FIRST, _LIVES, _IDENTITY, _TRAILS, _TABLE_NUMBERS)
 """What brings the tables from each version to the next one. Tables of version 1 have no number: they are older than it."""
 VERSION = len(STEPS)
 

@@ -18,7 +18,7 @@ from pagelog.keeper.looker import Looker
 from pagelog.keeper.machine import Kind
 from pagelog.keeper.puller import Puller, connected
 from pagelog.keeper.referee import BrokenArchive, Referee, digest
-from pagelog.keeper.rows import Where
+from pagelog.keeper.rows import TableOf, Where
 from pagelog.keeper.run import Program, Run
 from pagelog.keeper.table import KEEPER, Form, keeper_of, quorum_of, table_of_run
 from pagelog.operator import Operator
@@ -38,7 +38,8 @@ class Served:
     thread at a time calls each of its methods; `look`, `pulled` and the others may run side by side, and what is done
     `at_once` is the event loop's."""
 
-    def __init__(self, name: str, run: str, text: str, secret: bytes, *, timeout: float, is_read_only: bool = False) -> None:
+    def __init__(self, name: str, run: str, text: str, secret: bytes, *, timeout: float, is_read_only: bool = False,
+                 table_number: int = 1) -> None:  # fmt: skip
         self.database = name
         self.run = run
         self.kind = Kind.HOLDER
@@ -81,6 +82,10 @@ class Served:
         self.process: Run | None = None
         self._quick_looker: Looker | None = None
         self._text, self._secret = text, secret
+        self.table_number = table_number
+        """That of the table that it was started with. What is known of no run is older than all."""
+        self.identity = ""
+        """Of the database that it was made for."""
         self.timeout = timeout
         """Seconds for which an answer is waited for."""
         self._entries, self._step = 0, FEW
@@ -263,6 +268,17 @@ class Served:
         self._operator.set_table(self._table(Form.READING if self._is_read_only else Form.OPEN))
         self.is_open, self.was_closed = True, False
         self.begun = self.begun or (0 if self.process is None else self.process.memory)
+
+    @property
+    def table(self) -> TableOf:
+        """The database's table, as it was read for this run."""
+        return TableOf(self._text, self._secret, self.table_number)
+
+    def renew(self, newest: TableOf) -> None:
+        """Gives it the newest table, closed: from now on it knows no older token."""
+        self._text, self.was_closed = newest.text, True
+        self._operator.set_table(self._table(Form.READING))
+        self.table_number = newest.number
 
     def close(self) -> int:
         """Lets nobody write any more, and returns the position of its end."""

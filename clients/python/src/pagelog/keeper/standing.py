@@ -63,7 +63,7 @@ class Standing:
 
     async def _note_standby(self, served: Served) -> None:
         assert served.process is not None
-        place = (served.process.address, served.run, served.reached, served.shift, served.images)
+        place = (served.process.address, served.run, served.reached, served.shift, served.images, served.table_number)
         await self._shared.ask(self._shared.referee.stand_by, self._database.row.id, *place)
         served.is_noted = self._database.is_noted = True
         served.note_place()
@@ -78,7 +78,8 @@ class Standing:
     async def follow(self) -> bool:
         """A standby follows the archive, as far as a look has shown it, and never more."""
         database = self._database
-        if database.row.paused and database.succession.stage in (Stage.MAKING, Stage.READY):
+        is_asked_for = database.served is not None and database.served.table_number < database.row.table_number
+        if database.row.paused and not is_asked_for and database.succession.stage in (Stage.MAKING, Stage.READY):
             await database.succession.give_up()  # others wait for its turn, and a pause may last
         served = database.served if database.is_known else None
         if served is None or served.kind is not Kind.STANDBY:

@@ -16,8 +16,11 @@ SELECT (SELECT beat FROM me),
   (SELECT COALESCE(json_agg(k), '[]') FROM (SELECT name, run, lines, beat, report FROM pagelog_keeper) k),
   (SELECT COALESCE(json_agg(l), '[]') FROM (
     SELECT id, name, generation, run, holder, address, archived, base, shift, images, encode(chain, 'hex') AS chain, wanted,
-      succeed, read_only, paused, dropped, identity, next_generation, doubted, ancestor FROM pagelog_log WHERE format = {FORMAT} ORDER BY name) l),
-  (SELECT COALESCE(json_agg(s), '[]') FROM (SELECT log, keeper, address, run, reached, shift, images FROM pagelog_standby) s),
+      succeed, read_only, paused, dropped, identity, next_generation, doubted, ancestor, table_number,
+      COALESCE((SELECT g.table_number FROM pagelog_generation g WHERE g.log = o.id AND g.generation = o.generation AND g.run = o.run), 1)
+        AS run_table
+    FROM pagelog_log o WHERE format = {FORMAT} ORDER BY name) l),
+  (SELECT COALESCE(json_agg(s), '[]') FROM (SELECT log, keeper, address, run, reached, shift, images, table_number FROM pagelog_standby) s),
   current_setting('synchronous_standby_names'),
   CASE WHEN pg_has_role('pg_read_all_stats', 'USAGE')
     THEN (SELECT count(*) FROM pg_stat_replication WHERE sync_state IN ('sync', 'quorum')) END
@@ -67,11 +70,12 @@ WITH taken AS (
     wanted = NULL, succeed = false
   WHERE id = %(id)s AND generation = %(generation)s AND archived = %(archived)s AND run IS NOT DISTINCT FROM %(seen_run)s::text
     AND (%(address)s::text IS NULL OR chain = %(chain)s) AND NOT paused AND NOT dropped
+    AND table_number <= %(table_number)s
     AND (%(beat)s::bigint IS NULL OR NOT EXISTS (SELECT 1 FROM pagelog_keeper k WHERE k.name = holder AND k.beat > %(beat)s::bigint))
   RETURNING id, generation, archived, chain, shift),
 begun AS (
-  INSERT INTO pagelog_generation (log, generation, run, holder, base, shift, images)
-  SELECT id, generation, %(run)s, %(me)s, archived, shift, COALESCE(%(images)s::bigint, 0) FROM taken),
+  INSERT INTO pagelog_generation (log, generation, run, holder, base, shift, images, table_number)
+  SELECT id, generation, %(run)s, %(me)s, archived, shift, COALESCE(%(images)s::bigint, 0), %(table_number)s FROM taken),
 gone AS (DELETE FROM pagelog_standby WHERE log IN (SELECT id FROM taken) AND keeper = %(me)s)
 SELECT generation, archived, chain FROM taken
 """
@@ -98,12 +102,12 @@ WITH taken AS (
     address = %(address)s, shift = %(shift)s, images = %(images)s, base = %(start)s, archived = %(start)s, chain = %(start_chain)b::bytea,
     wanted = NULL, succeed = false
   WHERE id = %(id)s AND generation = %(generation)s AND archived = %(archived)s AND run IS NOT DISTINCT FROM %(seen_run)s::text
-    AND chain = %(chain)b::bytea AND NOT paused AND NOT dropped
+    AND chain = %(chain)b::bytea AND NOT paused AND NOT dropped AND table_number <= %(table_number)s
     AND (%(beat)s::bigint IS NULL OR NOT EXISTS (SELECT 1 FROM pagelog_keeper k WHERE k.name = holder AND k.beat > %(beat)s::bigint))
   RETURNING id, generation, archived, chain, shift, images),
 begun AS (
-  INSERT INTO pagelog_generation (log, generation, run, holder, base, shift, images)
-  SELECT id, generation, %(run)s, %(me)s, archived, shift, images FROM taken),
+  INSERT INTO pagelog_generation (log, generation, run, holder, base, shift, images, table_number)
+  SELECT id, generation, %(run)s, %(me)s, archived, shift, images, %(table_number)s FROM taken),
 gone AS (DELETE FROM pagelog_standby WHERE log IN (SELECT id FROM taken) AND keeper = %(me)s)
 SELECT generation, archived, chain FROM taken
 """
@@ -183,10 +187,11 @@ WITH begun AS (
   UPDATE pagelog_log SET generation = %(next)s, run = %(next_run)s, holder = %(me)s, address = %(address)s, shift = %(shift)s,
     images = %(images)s, base = %(new)s, archived = %(new)s, chain = %(chain)b, succeed = false
   WHERE id = %(id)s AND run = %(run)s AND generation = %(generation)s AND archived = %(old)s AND next_generation > %(next)s AND NOT dropped
+    AND table_number <= %(table_number)s
   RETURNING id, generation),
 noted AS (
-  INSERT INTO pagelog_generation (log, generation, run, holder, base, shift, images)
-  SELECT id, generation, %(next_run)s, %(me)s, %(new)s, %(shift)s, %(images)s FROM begun),
+  INSERT INTO pagelog_generation (log, generation, run, holder, base, shift, images, table_number)
+  SELECT id, generation, %(next_run)s, %(me)s, %(new)s, %(shift)s, %(images)s, %(table_number)s FROM begun),
 kept AS (
   INSERT INTO pagelog_block (log, lsn, crc, data)
   SELECT begun.id, %(old)s + b.n, b.crc, substring(%(bytes)b::bytea FROM b.start FOR b.length)
@@ -256,6 +261,25 @@ WITH told AS (
   UPDATE pagelog_log SET address = %(address)s, shift = %(shift)s, images = %(images)s
   WHERE id = %(id)s AND run = %(run)s RETURNING id, generation)
 UPDATE pagelog_generation g SET shift = %(shift)s, images = %(images)s FROM told WHERE g.log = told.id AND g.generation = told.generation RETURNING g.log
+"""
+
+TABLE = "SELECT t.text, t.secret, l.table_number FROM pagelog_table t JOIN pagelog_log l ON l.id = t.log WHERE t.log = %s"
+
+SET_TABLE = f"""
+WITH told AS (
+  UPDATE pagelog_log SET table_number = table_number + 1
+  WHERE id = %(id)s AND identity = %(identity)s::uuid AND table_number = %(seen)s AND NOT dropped RETURNING id, table_number),
+noted AS (UPDATE pagelog_table SET text = %(text)s FROM told WHERE log = told.id RETURNING log)
+SELECT table_number, pg_notify('{CHANNEL}', '') FROM told JOIN noted ON noted.log = told.id
+"""
+"""Another table, and its number, if the one that it was made from is the newest still. From its commit on no run and no standby with an
+older one can take the database, or follow on another run."""
+
+PUT_TABLE_BACK = """
+WITH told AS (
+  UPDATE pagelog_log SET table_number = %(number)s
+  WHERE id = %(id)s AND identity = %(identity)s::uuid AND table_number < %(number)s AND NOT dropped RETURNING id)
+UPDATE pagelog_table SET text = %(text)s FROM told WHERE log = told.id RETURNING log
 """
 
 PIECE = """

@@ -197,6 +197,8 @@ class Succession:
         served, successor = self._database.own, self._successor
         assert successor is not None
         try:
+            if successor.table_number < self._database.row.table_number:
+                raise Refused("the table was changed meanwhile")
             await self._follow(served)
             await asyncio.to_thread(successor.open)  # nobody knows where it is, nor has its tokens
             await successor.pulled_at_once(successor.reached)  # the first batch finds its connection made
@@ -317,7 +319,7 @@ def _closed(log: int, number: int, served: Served, successor: Served, loader: Lo
         raise Refused("the next service has ended")  # where there is nothing to load, nothing else has shown it
     assert successor.process is not None
     return Switch(log, served.run, served.generation, served.reached, rest, chain, number, successor.run, successor.process.address,
-                  successor.shift, successor.images)  # fmt: skip
+                  successor.shift, successor.images, table_number=successor.table_number)  # fmt: skip
 
 
 def _pulled(served: Served, position: int, end: int) -> list[bytes]:

@@ -29,6 +29,8 @@ class Switch:
     images: int
     lines: Lines | None = None
     """Of the old one's audit list, which speak of the blocks."""
+    table_number: int = 1
+    """Of the table that the next run was started with."""
 
     @property
     def end(self) -> int:
@@ -54,7 +56,7 @@ def succeed(referee: Referee, switch: Switch) -> bool:
     return bool(referee._ask(statement, {
         "id": switch.log, "run": switch.run, "generation": switch.generation, "me": referee.me, "next": switch.next, "next_run": switch.next_run,
         "address": switch.address, "shift": switch.shift, "images": switch.images, "old": switch.old, "new": switch.end,
-        "chain": switch.chain, **values_of_blocks(switch.blocks), **values_of_lines([(switch.log, switch.lines)]),
+        "chain": switch.chain, "table_number": switch.table_number, **values_of_blocks(switch.blocks), **values_of_lines([(switch.log, switch.lines)]),
     }))  # fmt: skip
 
 
@@ -73,7 +75,13 @@ def has_begun(referee: Referee, switch: Switch) -> bool | None:
     if referee.kept(switch.log, switch.next_run) is not None:
         return True
     kept = referee.kept(switch.log, switch.run)
-    return None if kept is not None and kept.archived == switch.old else False
+    return None if kept is not None and kept.archived == switch.old and has_newest_table(referee, switch) else False
+
+
+def has_newest_table(referee: Referee, switch: Switch) -> bool:
+    """Whether no newer table was set than that of the next run: such a run never begins."""
+    newest = referee._ask("UPDATE pagelog_log SET table_number = table_number WHERE id = %s RETURNING table_number", (switch.log,))
+    return bool(newest) and newest[0][0] <= switch.table_number
 
 
 def rehearse(referee: Referee) -> None:
