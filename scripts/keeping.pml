@@ -180,7 +180,7 @@ inline hold(r) {
                     // if referee.kept(switch.log, switch.next_run) is not None:
                     // return True
                     // kept = referee.kept(switch.log, switch.run)
-                    // return None if kept is not None and kept.archived == switch.old else False
+                    // return None if kept is not None and kept.archived == switch.old and has_newest_table(referee, switch) else False
 #ifdef DOUBT_IS_NO
 #define MAY_BEGIN_STILL false
 #else

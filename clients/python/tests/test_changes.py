@@ -394,7 +394,7 @@ class Deaths(Changing):
             status, out, _ = self.renewed()
             self.is_fenced(run)
             self.assertEqual(status, 3)
-            self.assertRegex(out, f"table 2 of shop is in force, but at 1 of its services:\nrun {run} of keeper {holder}, a service: nothing of it becomes")
+            self.assertRegex(out, f"table 2 of shop is in force, but at 1 of its services:\nrun {run} of keeper {holder}, generation [0-9]+: nothing of it becomes")
             self.assertEqual(self.told(str(run), place.address, token(2)), "known")
         finally:
             self.keeping.kill(holder, signal.SIGCONT)

@@ -19,9 +19,11 @@ from pathlib import Path
 from typing import Iterator
 
 import psycopg
+from click.testing import CliRunner
 
 from keepers import Keeping, eventually
 from pagelog import Block
+from pagelog.desk.words import pagelogctl
 from pagelog.keeper.referee import plain_url
 from pagelog.place import OlderKeepers
 from pagelog.trail import Trail
@@ -208,6 +210,20 @@ class Mixed(Beside):
                 primary.commit(durable=True)
         self.assertFalse(writer.commit("old").isdecimal())
         self.assertEqual(set(self.texts()), {b"new"})
+
+    def test_a_table_is_changed_once_all_keepers_know_of_numbers(self) -> None:
+        keeping = self.keeping
+        keeping.replace("a", is_old=False)
+        words = ["token", "shop", "5", "--new", "--credentials", str(keeping.file)]
+        done = CliRunner(mix_stderr=False).invoke(pagelogctl, words)
+        self.assertEqual(done.exit_code, 1)
+        self.assertIn("nothing was changed: keeper b is of a version that knows no numbers of tables", done.stderr)
+        self.assertEqual(keeping.row().table_number, 1)
+        keeping.replace("b", is_old=False)
+        done = CliRunner(mix_stderr=False).invoke(pagelogctl, words)
+        self.assertEqual((done.exit_code, keeping.row().table_number), (0, 2))
+        with closing(OldWriter(keeping.addresses)) as writer:
+            self.assertEqual(writer.commit("old"), "1")
 
     def test_sqlite_of_the_older_version_and_of_this_one(self) -> None:
         keeping = self.keeping
