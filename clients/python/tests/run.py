@@ -73,6 +73,7 @@ PARTS = {
     "test_meanwhile": "what changes while a keeper waits for something",
     "test_beginnings": "what changes while a service is filled, adopted, or follows",
     "test_turns": "whose turn it is to write",
+    "test_postgresql_page": "the commands of docs/POSTGRESQL.md, as they are printed",
     "test_disks": "what durable means as PostgreSQL loses its standby, its leader, or room",
     "test_soak": "named databases that live on for a while",
     "test_administered": "the check of the torture of administration",

@@ -448,6 +448,26 @@ class WentBack(Kept):
             self.assertEqual((self.keeping.place().run, self.keeping.pid(), self.texts()), (place.run, pid, [b"1", b"2"]))
 
 
+class LateNote(Kept):
+    keepers = "a"
+    options = {"ttl": 120.0}
+    """So long there is no look, and nothing is noted."""
+    put_back = WentBack.put_back
+
+    def test_what_was_acknowledged_since_the_last_look_is_set_aside_too(self) -> None:
+        with self.keeping.primary() as primary:
+            for number in range(1, 4):
+                self.commit(primary, f"{number}", durable=True)
+        run, pid = self.keeping.place().run, self.keeping.pid()
+        self.addCleanup(os.kill, pid, signal.SIGKILL)
+        self.keeping.kill("a")
+        self.put_back(1, ", run = NULL, holder = NULL, address = NULL")
+        self.keeping.start("a")
+        self.assertIn(f"the service of run {run}, which an earlier life left, is set aside: PostgreSQL went back: it had the run up to position 3",
+                      self.keeping.said())  # fmt: skip
+        os.kill(pid, 0)
+
+
 class InDoubt(Kept):
     keepers = "a"
     options = {"ttl": 120.0}

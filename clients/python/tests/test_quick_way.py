@@ -33,7 +33,7 @@ from pagelog.keeper.quick import QuickReferee
 from pagelog.keeper.quick_way import MOST, End, QuickPool, QuickWay, QuickWays
 from pagelog.keeper.referee import digest
 from pagelog.keeper.rows import Kept
-from pagelog.keeper.run import Program
+from pagelog.keeper.run import Program, Run
 from pagelog.keeper.served import Served
 from pagelog.keeper.settings import Settings
 from pagelog.place import UnknownName
@@ -256,6 +256,15 @@ class Tells(Hot):
             self.assertEqual(self.archived(), position)
         self.assertEqual(self.ends, [])
         self.assert_whole()
+
+    async def test_how_far_it_has_told_is_known_to_the_next_life_of_the_keeper(self) -> None:
+        client = await self.hot()
+        for _ in range(3):
+            position = await self.commit_quickly(client)
+            adopted = Run.adopt(self.folder, "shop", "r1")
+            assert adopted is not None
+            self.assertEqual(adopted.seen.archived, position)
+            adopted.leave()
 
     async def test_any_count_and_size_of_blocks_is_kept_as_the_service_has_it(self) -> None:
         client, chance = await self.hot(), random.Random(1)

@@ -1,5 +1,6 @@
-"""A PostgreSQL that is set back by a copy of its folder, before or behind a statement of a keeper's: what was acknowledged is in the
-database, or in a service that `rescue` shows and saves, and the database is served again without a person's help.
+"""A PostgreSQL that is set back to before or behind a statement of a keeper's, as an asynchronous standby that leads, or a recovery to a
+point in time: what was acknowledged is in the database, or in a service that `rescue` shows and saves, and the database is served again
+without a person's help.
 
 Here is a cover of the cases, in which each pair of two choices is once; all of them with PAGELOG_TEST_LONG.
 """
@@ -12,15 +13,18 @@ import os
 import re
 import shutil
 import signal
+import tempfile
 import unittest
 from dataclasses import dataclass
 from pathlib import Path
 from typing import Callable, Iterator
 
+import psycopg
 from keepers import Keeping, eventually
 from pagelog import Lost, Put
+from pagelog.keeper.referee import Referee, plain_url
 from pagelog.place import UnknownName
-from postgres import Postgres
+from postgres import FSYNC, PATIENCE, Postgres
 from service import IS_LONG
 
 TTL = 1.0
@@ -29,34 +33,92 @@ AFTER = 8
 OTHER = {"a": "b", "b": "a"}
 
 
+NOTES = """
+CREATE TABLE noted (number serial, xid xid8, what text);
+CREATE FUNCTION noted_log() RETURNS trigger LANGUAGE plpgsql AS $$ BEGIN
+  INSERT INTO noted (xid, what) VALUES (pg_current_xact_id(), CASE
+    WHEN TG_OP = 'INSERT' THEN 'creation'
+    WHEN NEW.dropped AND NOT OLD.dropped THEN 'drop'
+    WHEN NEW.run IS NULL AND OLD.run IS NOT NULL THEN 'release'
+    WHEN NEW.run IS DISTINCT FROM OLD.run AND NEW.holder = OLD.holder AND NEW.base > OLD.base THEN 'switch'
+    WHEN NEW.run IS DISTINCT FROM OLD.run THEN 'take'
+    WHEN NEW.address IS DISTINCT FROM OLD.address THEN 'place'
+    WHEN NEW.next_generation <> OLD.next_generation THEN 'number'
+    WHEN NEW.wanted IS DISTINCT FROM OLD.wanted OR NEW.succeed <> OLD.succeed THEN 'request'
+    ELSE 'batch' END);
+  RETURN NEW; END $$;
+CREATE FUNCTION noted_other() RETURNS trigger LANGUAGE plpgsql AS $$ BEGIN
+  INSERT INTO noted (xid, what) VALUES (pg_current_xact_id(), TG_ARGV[0]); RETURN NULL; END $$;
+CREATE TRIGGER noted AFTER INSERT OR UPDATE ON pagelog_log FOR EACH ROW EXECUTE FUNCTION noted_log();
+CREATE TRIGGER noted AFTER INSERT ON pagelog_standby EXECUTE FUNCTION noted_other('standby');
+CREATE TRIGGER noted AFTER DELETE ON pagelog_table EXECUTE FUNCTION noted_other('deletion of a table');
+CREATE TRIGGER noted AFTER DELETE ON pagelog_block EXECUTE FUNCTION noted_other('deletion of blocks');
+"""
+"""From then on it is noted which transaction was which statement."""
+
+
 class SetBack(Postgres):
-    """A server that is set back to what it was when it was noted."""
+    """A server that is set back to before or behind one of its transactions: by a copy of its first folder, and its log of writes. It begins
+    with the tables of a referee."""
+
+    _first: list[Postgres] = []
+
+    def __init__(self) -> None:
+        if not self._first:
+            self._first.append(self._prepared())
+        self.user = self._first[0].user
+        self.folder = Path(tempfile.mkdtemp(prefix="pagelog-postgres-"))
+        if self.user:
+            shutil.chown(self.folder, self.user)
+        self.data = self.folder / "data"
+        self._begin_again()
+        self.start()
+
+    @staticmethod
+    def _prepared() -> Postgres:
+        server = Postgres()
+        url = plain_url(server.url("set_back"))
+        referee = Referee(url)
+        referee.prepare()
+        referee.close()
+        with psycopg.connect(url) as session:
+            session.execute(NOTES)
+        server.run("pg_ctl", "-D", server.data, "-m", "fast", "-w", "-t", PATIENCE, "stop")
+        return server
 
     @property
-    def copy(self) -> Path:
-        return self.folder / "copy"
+    def tables(self) -> str:
+        """The URL of the database."""
+        return f"postgresql://pagelog@/set_back?host={self.folder}"
 
-    def note(self) -> None:
-        self.crash()
-        shutil.rmtree(self.copy, ignore_errors=True)
-        self._copy(self.data, self.copy)
-        self.start()
+    def _begin_again(self) -> None:
+        self.call(["cp", "-a", str(self._first[0].data), str(self.data)], check=True)
 
-    def set_back(self) -> None:
+    def start(self) -> None:
+        """It keeps its log of writes, and lets nobody in before a recovery has ended."""
+        options = f"-k {self.folder} -c listen_addresses= -c max_connections=30 -c fsync={FSYNC} -c wal_keep_size=4GB -c hot_standby=off"
+        self.run("pg_ctl", "-D", self.data, "-o", options, "-l", self.folder / "log", "-w", "-t", PATIENCE, "start")
+
+    def set_back(self, transaction: str, *, is_behind: bool) -> None:
         self.crash()
+        written = self.folder / "written"
+        (self.data / "pg_wal").rename(written)
         shutil.rmtree(self.data)
-        self._copy(self.copy, self.data)
+        self._begin_again()
+        with (self.data / "postgresql.auto.conf").open("a") as file:
+            file.write(f"restore_command = 'cp {written}/%f %p'\nrecovery_target_xid = '{transaction}'\n"
+                       f"recovery_target_inclusive = {'on' if is_behind else 'off'}\n"
+                       "recovery_target_action = promote\nrecovery_target_timeline = current\n")  # fmt: skip
+        self.call(["touch", str(self.data / "recovery.signal")], check=True)
         self.start()
-
-    def _copy(self, source: Path, target: Path) -> None:
-        self.call(["cp", "-a", str(source), str(target)], check=True)
 
 
 @dataclass(frozen=True)
 class Case:
-    """Which statement PostgreSQL loses, or keeps where it is set back `behind` it; whether another keeper has a standby, and whether all
-    keepers are killed before PostgreSQL is back, and started again."""
+    """What is done, and to before or behind which of its statements PostgreSQL is set back then; whether another keeper has a standby, and
+    whether all keepers are killed before PostgreSQL is back, and started again."""
 
+    action: str
     statement: str
     is_behind: bool
     standby: bool
@@ -64,15 +126,11 @@ class Case:
 
     def __str__(self) -> str:
         where, others = "behind" if self.is_behind else "before", "a standby" if self.standby else "no standby"
-        return f"{where} a {self.statement}, {others}{', keepers killed' if self.restarted else ''}"
-
-
-STATEMENTS = ("succession", "switchover", "takeover", "release", "drop")
-ALL = [Case(*chosen) for chosen in itertools.product(STATEMENTS, (False, True), (False, True), (False, True))]
+        return f"{where} the {self.statement} of a {self.action}, {others}{', keepers killed' if self.restarted else ''}"
 
 
 def cover(cases: list[Case]) -> Iterator[Case]:
-    """Some of them, in which each two choices of a case stand together at least once."""
+    """Some of them: each statement is there, and each two of the other choices stand together at least once."""
     left = {pair for case in cases for pair in _pairs(case)}
     while left:
         best = max(cases, key=lambda case: len(left & _pairs(case)))
@@ -80,8 +138,32 @@ def cover(cases: list[Case]) -> Iterator[Case]:
         yield best
 
 
-def _pairs(case: Case) -> set[tuple[tuple[str, object], tuple[str, object]]]:
-    return set(itertools.combinations(sorted(vars(case).items()), 2))
+def _pairs(case: Case) -> set[object]:
+    choices = {name: chosen for name, chosen in vars(case).items() if name != "statement"}
+    return {case.statement, *itertools.combinations(sorted(choices.items()), 2)}
+
+
+STATEMENTS = {
+    "succession": ("batch", "request", "number", "switch"),
+    "switchover": ("batch", "request", "standby", "release", "take"),
+    "takeover": ("batch", "take", "place"),
+    "release": ("batch", "release", "take", "place"),
+    "drop": ("batch", "drop", "deletion of a table", "deletion of blocks", "creation", "take", "place"),
+}
+"""Those that each action makes, in their order. A batch is one before it."""
+UNKNOWN = ("deletion of a table", "deletion of blocks", "creation")
+"""Before them PostgreSQL has no database of the name."""
+
+
+def _cases() -> Iterator[Case]:
+    for action, statements in STATEMENTS.items():
+        for statement, behind, standby, restarted in itertools.product(statements, *(3 * ((False, True),))):
+            is_its_own = action == "drop" or statement not in ("standby", "place")  # what is made where there is no standby
+            if is_its_own or not standby:
+                yield Case(action, statement, behind, standby, restarted)
+
+
+ALL = list(_cases())
 
 
 class Played:
@@ -94,7 +176,6 @@ class Played:
 
     def play(self) -> None:
         keeping, case = self.keeping, self.case
-        keeping.referee.prepare()
         assert keeping.referee.create("shop", keeping.table.read_text(), b"s" * 16)
         keeping.start("a")
         eventually(self.is_known, "the database")
@@ -102,15 +183,19 @@ class Played:
         if case.standby:
             eventually(lambda: "b" in keeping.standbys(), "a standby")
         self.write(1, 2, 3)
-        if case.is_behind:
-            self.state()
-        keeping.referee.close()
-        self.server.note()
+        before = len(self.noted())
         self.write(4, 5)
-        if not case.is_behind:
-            self.state()
-            self.write(6, 7)
-        self.lose()
+        self.act()
+        self.write(6, 7)
+        noted = self.noted()[before:]
+        transaction = next((transaction for transaction, what in noted if what == case.statement), None)
+        assert transaction is not None, f"there is no {case.statement} in {[what for _, what in noted]}"
+        self.lose(transaction)
+
+    def noted(self) -> list[tuple[str, str]]:
+        """All transactions, by number, with what they are."""
+        with psycopg.connect(self.keeping.url) as session:
+            return session.execute("SELECT xid::text, what FROM noted ORDER BY number").fetchall()
 
     def write(self, *pages: int) -> None:
         """A commit for each, which changes that page."""
@@ -120,20 +205,20 @@ class Played:
                 primary.commit(durable=True)
                 self.acknowledged.add(page)
 
-    def state(self) -> None:
-        """Has the statement made, and waits until it is."""
+    def act(self) -> None:
+        """Has it done, and waits until it is."""
         keeping, row = self.keeping, self.keeping.row()
-        if self.case.statement == "drop":
+        if self.case.action == "drop":
             keeping.word("drop", "shop", "--yes")
             self.acknowledged.clear()
             assert keeping.referee.create("shop", keeping.table.read_text(), b"t" * 16)
-            eventually(self.is_known, "the new database")
+            eventually(lambda: self.is_known() and keeping.place().generation > row.generation, "the new database")
             return
-        if self.case.statement == "succession":
+        if self.case.action == "succession":
             keeping.word("succeed", "shop")
-        elif self.case.statement == "switchover":
+        elif self.case.action == "switchover":
             keeping.word("switchover", "shop", "--to", OTHER[str(row.holder)])
-        elif self.case.statement == "takeover":
+        elif self.case.action == "takeover":
             self.running.remove(str(row.holder))
             pid = keeping.pid()
             keeping.kill(str(row.holder))
@@ -149,14 +234,14 @@ class Played:
             return False
         return True
 
-    def lose(self) -> None:
-        keeping = self.keeping
-        if self.case.restarted:
+    def lose(self, transaction: str) -> None:
+        keeping, case = self.keeping, self.case
+        if case.restarted:
             for name in self.running:
                 keeping.kill(name)
         keeping.referee.close()
-        self.server.set_back()
-        if self.case.restarted:
+        self.server.set_back(transaction, is_behind=case.is_behind)
+        if case.restarted:
             keeping.start(*self.running)
 
     # What has to be.
@@ -204,13 +289,13 @@ class Cases(unittest.TestCase):
     def played(self, case: Case) -> None:
         server = SetBack()
         self.addCleanup(server.stop)
-        with Keeping(ttl=TTL, standby=case.standby, url=server.url("set_back")) as keeping:
+        with Keeping(ttl=TTL, standby=case.standby, url=server.tables) as keeping:
             played = Played(keeping, server, case)
             try:
                 played.play()
                 played.goes_on()
                 lost = played.lost()
-                if lost and case.statement != "drop":
+                if lost and case.action != "drop":
                     self.assertEqual(lost - played.rescued(), set(), "acknowledged, and neither there nor saved")
                 self.assertNotIn("fault of the keeper", keeping.said())
             except BaseException:

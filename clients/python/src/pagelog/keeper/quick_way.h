@@ -40,6 +40,7 @@ struct way_start {
     const char *keep_one, *keep_block; /* the statements of a batch and of one block, as they were prepared; `keep` has their values */
     const char *flushed;        /* the statement that tells how far this server and a synchronous standby have flushed; NULL: none is required */
     uint64_t reached;           /* the archived position */
+    uint64_t *noted;            /* where it is noted before anybody is told, as long as the way is there; NULL: nowhere */
     uint64_t shift;             /* a position less its LSN */
     uint8_t chain[WAY_DIGEST];  /* the digest of all up to there */
     size_t chain_len;           /* WAY_DIGEST; 0 where nothing is archived */

@@ -50,6 +50,7 @@ class _Start(ctypes.Structure):
         ("name", ctypes.c_char_p), ("generation", ctypes.c_uint64), ("of", ctypes.c_char_p), ("takes_unnamed", ctypes.c_int),
         ("log", ctypes.c_char_p), ("run", ctypes.c_char_p),
         ("keep_one", ctypes.c_char_p), ("keep_block", ctypes.c_char_p), ("flushed", ctypes.c_char_p), ("reached", ctypes.c_uint64),
+        ("noted", ctypes.c_void_p),
         ("shift", ctypes.c_uint64), ("chain", ctypes.c_uint8 * _DIGEST),
         ("chain_len", ctypes.c_size_t), ("pull", ctypes.c_char_p), ("pull_len", ctypes.c_size_t), ("service", ctypes.c_int),
         ("referee", ctypes.c_void_p), ("service_ms", ctypes.c_int), ("referee_ms", ctypes.c_int), ("idle_ms", ctypes.c_int),
@@ -253,6 +254,7 @@ class QuickWay:
         self._ways, self._library, self._told = ways, library, told
         self._service, pull = line
         self._name, self._generation, self._of = row.name, served.generation, Of(row.identity, served.run)
+        self._noted = served.told  # as long as the thread may write there
         try:
             self._news, self._to_news = os.pipe2(os.O_NONBLOCK | os.O_CLOEXEC)
         except OSError:
@@ -264,7 +266,7 @@ class QuickWay:
         """How far it came, once it has ended."""
         start = _Start(
             row.name.encode(), served.generation, f"of={self._of}".encode(), served.is_told_by_number, str(row.id).encode(),
-            served.run.encode(), *ways.names, served.reached, served.shift,
+            served.run.encode(), *ways.names, served.reached, None if self._noted is None else self._noted.address, served.shift,
             (ctypes.c_uint8 * _DIGEST)(*served.chain), len(served.chain), pull, len(pull), self._service,
             ways.statements[0].connection, *(round(1000 * each) for each in (served.timeout, ways.deadline, ways.idle)), self._to_news,
         )  # fmt: skip

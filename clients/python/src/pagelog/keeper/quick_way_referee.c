@@ -144,6 +144,9 @@ static void enter(struct way *way) {
     memcpy(way->chain, way->batch.chain, way->batch.chain_len);
     pthread_mutex_unlock(&way->lock);
     way->phase = READY;
+    if (way->start.noted != NULL && *way->start.noted < way->reached) {
+        *way->start.noted = way->reached;
+    }
     tell_all(way);
 }
 

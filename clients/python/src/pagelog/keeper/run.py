@@ -15,6 +15,7 @@ from typing import Any, Iterator, Mapping
 
 from pagelog.errors import PagelogError
 from pagelog.keeper.table import KEEPER
+from pagelog.keeper.told import Told, new_memory, told_of
 
 WORKERS = 4
 """Threads of a service."""
@@ -89,12 +90,23 @@ def new_run() -> str:
 class Run:
     """A running service, that this keeper started or adopted. It outlives its keeper."""
 
-    def __init__(self, folder: Path, facts: Facts, descriptor: int, child: subprocess.Popen[bytes] | None = None) -> None:
+    def __init__(
+        self, folder: Path, facts: Facts, descriptor: int, child: subprocess.Popen[bytes] | None = None, told: Told | None = None
+    ) -> None:
         self.folder = folder
         self.facts = facts
         self.descriptor = descriptor
         """A pidfd, which can be read once the process has ended."""
         self._child = child
+        self._told = told
+
+    @property
+    def told(self) -> Told | None:
+        """Up to where anybody was told that it is archived; None of a process that an older keeper has started."""
+        if self._told is None and self.descriptor >= 0:
+            told = told_of(self.facts.pid)
+            self._told = told if self.is_alive else None  # else its number may be another process's by now
+        return self._told
 
     @property
     def name(self) -> str:
@@ -120,11 +132,9 @@ class Run:
         child = None
         descriptor = None
         try:
-            with said.open("wb") as errors:
-                child = subprocess.Popen(words, stdin=subprocess.PIPE, stdout=subprocess.PIPE, stderr=errors, start_new_session=True,
-                                         env=_environment())  # fmt: skip
+            child, told = _started(words, said)
             descriptor = os.pidfd_open(child.pid)
-            made = cls(program.folder, _facts_of(name, run, child.pid), descriptor, child)
+            made = cls(program.folder, _facts_of(name, run, child.pid), descriptor, child, told)
             made._note()
             _give(child, table)
             made._note(address=_address(child, program.patience))
@@ -174,8 +184,9 @@ class Run:
 
     @property
     def seen(self) -> Seen:
-        """What was noted so last; nothing where that cannot be read."""
-        return seen_of(self.folder, self.facts)
+        """What was noted so last, and exactly up to where somebody was told that it is archived; nothing where neither can be read."""
+        seen, told = seen_of(self.folder, self.facts), self.told
+        return seen if told is None else replace(seen, archived=max(seen.archived, told.position))
 
     def _note(self, **facts: Any) -> None:
         self.facts = replace(self.facts, **facts)
@@ -223,6 +234,18 @@ class Run:
                 self._child.stdout.close()
             self._child.returncode = self._child.returncode or 0
         os.close(self.descriptor)
+
+
+def _started(words: list[str], said: Path) -> tuple[subprocess.Popen[bytes], Told]:
+    """The process, which has the number open that says up to where somebody was told that it is archived."""
+    memory = new_memory()
+    try:
+        told = Told(memory)
+        with said.open("wb") as errors:
+            return subprocess.Popen(words, stdin=subprocess.PIPE, stdout=subprocess.PIPE, stderr=errors, start_new_session=True,
+                                    env=_environment(), pass_fds=(memory,)), told  # fmt: skip
+    finally:
+        os.close(memory)
 
 
 def _environment() -> dict[str, str]:

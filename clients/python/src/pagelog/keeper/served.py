@@ -21,6 +21,7 @@ from pagelog.keeper.referee import BrokenArchive, Referee, digest
 from pagelog.keeper.rows import TableOf, Where
 from pagelog.keeper.run import Program, Run
 from pagelog.keeper.table import KEEPER, Form, keeper_of, quorum_of, table_of_run
+from pagelog.keeper.told import Told
 from pagelog.operator import Operator
 from pagelog.reader import Reader
 from pagelog.reply import Entries, State, expect
@@ -44,7 +45,9 @@ class Served:
         self.run = run
         self.kind = Kind.HOLDER
         self.generation = 0
-        self.reached = 0
+        self.told: Told | None = None
+        """Where it is noted how far somebody was told that it is archived."""
+        self._reached = 0
         self.chain = b""
         self.shift = 0
         self.images = 0
@@ -117,6 +120,17 @@ class Served:
         """Whether it has answered no look for as long as it may."""
         return self.silent >= self.timeout
 
+    @property
+    def reached(self) -> int:
+        """Up to where it was filled, or is archived."""
+        return self._reached
+
+    @reached.setter
+    def reached(self, position: int) -> None:
+        self._reached = position
+        if self.told is not None:
+            self.told.note(position)  # before anybody is told
+
     # Its beginning and its end.
 
     def start(self, program: Program) -> None:
@@ -131,6 +145,7 @@ class Served:
         self._quick_looker = Looker(process.address, credentials, self.timeout)
         self._reader = Reader(self._connection(process), credentials)
         self._puller = Puller(process.address, credentials, self.timeout)
+        self.told = process.told
         self.process = process  # last: from now on the event loop asks it
 
     def end(self) -> None:

@@ -1,0 +1,290 @@
+"""docs/POSTGRESQL.md: each of its commands as it is printed, against a PostgreSQL and keepers of the test's own, and what it says of them."""
+
+from __future__ import annotations
+
+import json
+import os
+import pty
+import re
+import signal
+import subprocess
+import sys
+import threading
+import unittest
+from pathlib import Path
+from typing import Any
+
+import psycopg
+from keepers import Keeping, eventually, new_database
+from pagelog import NamedPrimary, Put
+from pagelog.keeper.bases import make_base
+from pagelog.keeper.referee import Referee, plain_url
+from pagelog.place import UnknownName
+from postgres import Postgres, programs
+from service import PATIENCE, TOP
+from small_disk import SmallDisks
+
+TTL = 1.0
+PAGE = (TOP / "docs" / "POSTGRESQL.md").read_text()
+
+
+def commands() -> dict[str, list[str]]:
+    """The blocks of commands of each section, in the order of the page."""
+    sections = dict(zip(*[iter(re.split(r"^## (.*)$", PAGE, flags=re.M)[1:])] * 2))
+    return {heading: re.findall(r"^```sh\n(.*?)^```", text, flags=re.M | re.S) for heading, text in sections.items()}
+
+
+class Paged(unittest.TestCase):
+    """A server, keepers a and b, and a database; commands are run in a folder that has their keeper.toml."""
+
+    def setUp(self) -> None:
+        self.server = self.made()
+        self.url = self.of_keepers(self.server)
+        self.keeping = self.enterContext(Keeping(ttl=TTL, url=self.url, more='metrics = "127.0.0.1:0"\n'))
+        self.keeping.referee.prepare()
+        self.row = new_database(self.keeping.referee, "shop")
+        self.keeping.file.rename(self.folder / "keeper.toml")
+        self.keeping.file = self.folder / "keeper.toml"
+        self.environment = {**os.environ, "PATH": f"{self.folder}:{programs()}:{os.environ['PATH']}", "URL": self.url,
+                            "PYTHONPATH": self.keeping.environment.get("PYTHONPATH", "")}  # fmt: skip
+        self.program("pagelogctl", f'exec {sys.executable} -B -m pagelog "$@"')
+
+    def made(self) -> Postgres:
+        server = Postgres()
+        self.addCleanup(server.stop)
+        return server
+
+    def of_keepers(self, server: Postgres) -> str:
+        """The URL of a new database, as of a role that owns it and may nothing else."""
+        url = plain_url(server.url("pagelog"))
+        with psycopg.connect(url) as session:
+            session.execute("CREATE ROLE keeper LOGIN; CREATE ROLE stranger LOGIN; ALTER DATABASE pagelog OWNER TO keeper")
+        return url.replace("//pagelog@", "//keeper@")
+
+    @property
+    def folder(self) -> Path:
+        return self.keeping.folder
+
+    def program(self, name: str, script: str) -> None:
+        """What the commands find under this name."""
+        file = self.folder / name
+        file.write_text(f"#!/bin/sh\n{script}\n")
+        file.chmod(0o755)
+
+    def run_printed(self, block: str, answer: str = "", **variables: object) -> str:
+        """Runs a block at a terminal where this is typed, and returns what it says. Ends the test where it fails."""
+        terminal, side = pty.openpty()
+        environment = {**self.environment, **{name: str(value) for name, value in variables.items()}, "COLUMNS": "250"}
+        try:
+            os.write(terminal, f"{answer}\n".encode())
+            done = subprocess.run(["sh", "-ec", block], cwd=self.folder, env=environment, stdin=side, stdout=subprocess.PIPE,
+                                  stderr=subprocess.STDOUT, text=True, timeout=PATIENCE)  # fmt: skip
+        finally:
+            os.close(terminal)
+            os.close(side)
+        self.assertEqual(done.returncode, 0, f"{block}\n{done.stdout}\n{self.keeping.said()}")
+        return done.stdout
+
+    def write(self, *pages: int) -> None:
+        """A durable commit for each, which changes that page."""
+        with self.keeping.primary() as primary:
+            for page in pages:
+                primary.append(Put(page, 0, b"%d" % page))
+                primary.commit(durable=True)
+
+    def pages(self, name: str = "shop") -> set[int]:
+        """Those of the first ten that were changed."""
+        with self.keeping.reader(name) as reader:
+            return {page for page in range(1, 11) if reader.page(page).data.startswith(b"%d" % page)}
+
+    def is_known(self, name: str) -> bool:
+        try:
+            self.keeping.place(name)
+        except UnknownName:
+            return False
+        return True
+
+    def asides(self) -> list[dict[str, Any]]:
+        lines = map(json.loads, self.keeping.word("kept", "--json").splitlines())
+        return [each for line in lines if line["name"] == "shop" for each in line["set_aside"]]
+
+
+class Backups(Paged):
+    def setUp(self) -> None:
+        super().setUp()
+        self.keeping.start("a", "b")
+        eventually(lambda: len(self.keeping.standbys()) == 1, "a standby")
+
+    def restore(self, block: str) -> None:
+        self.keeping.referee.close()
+        self.run_printed(block)
+
+    def test_a_dump_that_is_restored_beside_the_keepers_loses_nothing(self) -> None:
+        dump, _ = self.backed_up()
+        self.write(1, 2, 3)
+        self.run_printed(dump)
+        self.write(4, 5)
+        self.restore(commands()["Restore it"][0])
+        self.write(6)
+        self.assertEqual(self.pages(), {1, 2, 3, 4, 5, 6})
+
+    def test_what_dead_services_had_is_lost_and_only_that(self) -> None:
+        dump, _ = self.backed_up()
+        self.write(1, 2, 3)
+        self.run_printed(dump)
+        self.write(4, 5)
+        for name in "ab":
+            self.keeping.kill(name)
+        self.end_services()
+        self.restore(commands()["Restore it"][0])
+        self.keeping.start("a", "b")
+        eventually(self.is_served, "the database")
+        self.assertEqual(self.pages(), {1, 2, 3})
+
+    def test_a_run_that_is_set_aside_is_seen_saved_and_ended(self) -> None:
+        dump, _ = self.backed_up()
+        self.write(1, 2, 3)
+        self.run_printed(dump)
+        self.write(4, 5)
+        holder, place = str(self.keeping.row().holder), self.keeping.place()
+        other = {"a": "b", "b": "a"}[holder]
+        for name in "ab":
+            self.keeping.kill(name)
+        [(pid, _)] = self.services(other)
+        os.kill(pid, signal.SIGKILL)  # what the standby has would be archived again
+        self.restore(commands()["Restore it"][0])
+        self.keeping.start(other)
+        self.keeping.place(least=place.generation + 1)
+        self.write(6)
+        self.keeping.start(holder)
+        eventually(lambda: [each["run"] for each in self.asides()] == [place.run], "what is set aside")
+        self.assertEqual(self.pages(), {1, 2, 3, 6})
+        eventually(lambda: self.keeping.metrics(holder)["pagelog_keeper_set_aside", ""] == 1, "the metric")
+        see, save, end = commands()["It was restored"][0].splitlines()
+        self.assertIn(f"run {place.run} of keeper {holder}", said := self.run_printed(see))
+        self.assertIn("ends at position 5, which is LSN 5: PostgreSQL has it up to 3, and lacks 2 blocks of it", said)
+        self.assertIn("saved positions up to 5 as database shop-saved, and compared them", self.run_printed(save))
+        eventually(lambda: self.is_known("shop-saved"), "what was saved")
+        self.assertEqual(self.pages("shop-saved"), {1, 2, 3, 4, 5})
+        said = self.run_printed(end, "y", RUN=place.run, FOLDER=self.folder / holder)
+        self.assertIn("end it [y/N]", said)
+        self.assertIn("saved positions up to 5 as database shop-saved2, and compared them\nended process", said)
+        eventually(lambda: not self.asides() and self.keeping.metrics(holder)["pagelog_keeper_set_aside", ""] == 0, "the end of it")
+
+    def backed_up(self) -> list[str]:
+        return commands()["Back it up"][0].splitlines()
+
+    def services(self, keeper: str) -> list[tuple[int, str]]:
+        found = [json.loads(file.read_text()) for file in (self.folder / keeper).glob("shop.*.json")]
+        return [(each["pid"], each["run"]) for each in found]
+
+    def end_services(self) -> None:
+        for keeper in "ab":
+            for pid, _ in self.services(keeper):
+                os.kill(pid, signal.SIGKILL)
+
+    def is_served(self) -> bool:
+        return self.is_known("shop")
+
+    def test_a_folder_that_is_restored_beside_the_keepers_loses_nothing(self) -> None:
+        _, backup = self.backed_up()
+        copy = self.server.folder / "backup"
+        self.write(1, 2, 3)
+        self.as_postgres(backup, BACKUP=copy)
+        self.write(4, 5)
+        self.keeping.referee.close()
+        with (copy / "postgresql.conf").open("a") as file:  # what the test's server is told at its start
+            file.write(f"unix_socket_directories = '{self.server.folder}'\nlisten_addresses = ''\nfsync = off\n")
+        self.as_postgres(commands()["Restore it"][1], BACKUP=copy, PGDATA=self.server.data)
+        self.write(6)
+        self.assertEqual(self.pages(), {1, 2, 3, 4, 5, 6})
+
+    def as_postgres(self, block: str, **variables: object) -> None:
+        """Runs a block as PostgreSQL's user, in its folder."""
+        environment = {**self.environment, "PGHOST": str(self.server.folder), "PGUSER": "pagelog",
+                       **{name: str(value) for name, value in variables.items()}}  # fmt: skip
+        with (self.server.folder / "said").open("a+") as said:
+            done = self.server.call(["sh", "-ec", block], cwd=self.server.folder, env=environment, stdout=said, stderr=said)
+            said.seek(0)
+            self.assertEqual(done.returncode, 0, said.read())
+
+
+class Moves(Paged):
+    def setUp(self) -> None:
+        self.other = self.made()  # first: it ends last
+        super().setUp()
+        self.new = self.of_keepers(self.other)
+        self.keeping.start("a", "b")
+        self.program("systemctl", 'echo "$1 $2" > control && read answer < answer')
+        for name in ("control", "answer"):
+            os.mkfifo(self.folder / name)
+        threading.Thread(target=self.obey, daemon=True).start()
+
+    def obey(self) -> None:
+        """The keepers of all machines end and begin as systemctl is told."""
+        for _ in range(2):
+            word, unit = (self.folder / "control").read_text().split()
+            self.assertEqual(unit, "pagelog-keeper")
+            if word == "start":
+                self.keeping.start("a", "b")
+            else:
+                for name in "ab":
+                    self.keeping.kill(name, signal.SIGTERM)
+            (self.folder / "answer").write_text("done\n")
+
+    def test_all_of_it_goes_on_at_the_new_one_and_nothing_at_the_old_one(self) -> None:
+        [block] = commands()["Move to another PostgreSQL"]
+        with self.keeping.primary() as primary, self.keeping.reader() as reader:
+            primary.append(Put(1, 0, b"1"))
+            self.assertEqual(primary.commit(), 1)  # nobody waits for it
+            self.keeping.referee.close()
+            self.run_printed(block, NEW=self.new)
+            self.keeping.url, self.keeping.referee = self.new, Referee(self.new)
+            primary.append(Put(2, 0, b"2"))
+            self.assertEqual(primary.commit(durable=True), 2)
+            eventually(lambda: reader.end() == 2, "the end at a reader")
+        self.assertEqual(self.pages(), {1, 2})
+        row = self.keeping.row()
+        self.assertEqual((row.identity, row.archived), (self.row.identity, 2))
+        for url in (self.url, self.new.replace("//keeper@", "//stranger@")):
+            with self.assertRaisesRegex(psycopg.OperationalError, "permission denied for database"):
+                psycopg.connect(url)
+
+
+class Disks(Paged):
+    def made(self) -> Postgres:
+        self.disks = SmallDisks()
+        self.addCleanup(self.disks.stop)
+        return self.disks
+
+    def test_history_that_is_deleted_has_room_for_what_waits(self) -> None:
+        self.keeping.start("a")
+        with self.keeping.primary() as primary:
+            for _ in range(300):
+                self.fill_page(primary)
+            primary.commit(durable=True)
+            row = self.keeping.row()
+            make_base(self.keeping.referee, row.id, row.archived, row.chain)
+            with psycopg.connect(self.url.replace("//keeper@", "//pagelog@"), autocommit=True) as session:
+                for table in ("pagelog_block", "pagelog_image"):
+                    session.execute(f"ALTER TABLE {table} SET TABLESPACE small")
+                    session.execute(f"VACUUM {table}")  # as PostgreSQL does by itself
+            self.disks.fill("tables")
+            for _ in range(50):
+                self.fill_page(primary)
+            last = primary.commit()
+            eventually(lambda: "No space left on device" in self.keeping.said(), "the refusal")
+            self.assertEqual(primary.durable_end, row.archived)
+            kept, prune, vacuum = commands()["Its disk is full"][0].splitlines()
+            self.assertRegex(self.run_printed(kept), "entries left")
+            self.assertIn(f"positions from {row.archived} on are kept", self.run_printed(prune, "y", KEEP=1))
+            self.run_printed(vacuum)
+            primary.durable(last)
+        self.assertEqual(self.keeping.row().archived, last)
+
+    def fill_page(self, primary: NamedPrimary) -> None:
+        primary.append(Put(1, 0, os.urandom(8192)))
+
+
+if __name__ == "__main__":
+    unittest.main()
