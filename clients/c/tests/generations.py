@@ -261,6 +261,14 @@ def test_an_answer_is_of_the_run_that_was_asked_for():
             same(told, expected, (outcome, fate.loss if outcome == DONE else 0))
 
 
+def test_keys_that_it_does_not_know_are_passed_over():
+    at, known = "at shop 7 run7 127.0.0.1:11 5 127.0.0.1:2 3 4 2", f"of={DATABASE}/run7"
+    for told in (f"{at} {known}", f"{at} color=red {known} taste=a=b ancestor=older later=", f"{at} after=run6 {known}"):
+        with saying({"hello": "hello 3", "where": told}) as address, Keepers(address) as keepers:
+            outcome, place = keepers.where()
+            same(told, (DONE, 7, b"run7", 5, 3, DATABASE.encode()), (outcome, place.generation, place.run, place.archived, place.base, place.database))
+
+
 def test_a_host_with_an_address_that_is_silent():
     with StubKeeper() as keeper, Service() as service, contextlib.ExitStack() as stack:
         full = stack.enter_context(socket.socket())

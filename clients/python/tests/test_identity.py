@@ -344,7 +344,14 @@ class NumbersComeAgain(Going):
             eventually(lambda: self.has_gone_on(first, place, continues), "who goes on")
         finally:
             os.kill(pid, signal.SIGCONT)
+        self.all_tell(str(self.keeping.row().run))
         return place
+
+    def all_tell(self, run: str) -> None:
+        """Until each keeper tells of this run: one that has not looked since PostgreSQL went back tells of what that has lost."""
+        for address in self.keeping.addresses:
+            with closing(Keepers("shop", [address], PATIENCE)) as keeper:
+                eventually(lambda: keeper.place().run == run, "a word of the other run")  # noqa: B023
 
     def has_gone_on(self, first: str | None, place: Place, continues: bool) -> bool:
         """Whether the run that PostgreSQL had lost has a later number there, or one serves that is neither this one nor the first, perhaps
@@ -412,12 +419,11 @@ class NumbersComeAgain(Going):
             self.set_back()
             self.keeping.start(before)
             self.keeping.word("succeed", "shop")
-            eventually(lambda: self.keeping.row().generation == place.generation, "another run of the number")
+            eventually(lambda: self.keeping.row().generation == place.generation and self.keeping.row().address is not None, "another run of the number")
         finally:
             os.kill(pid, signal.SIGCONT)
-        for address in self.keeping.addresses:
-            with closing(Keepers("shop", [address], PATIENCE)) as keeper:
-                eventually(lambda: keeper.place().run != place.run, "a word of the other run")  # noqa: B023
+        self.assertNotEqual(self.keeping.row().run, place.run)
+        self.all_tell(str(self.keeping.row().run))
         return place
 
     def test_a_writer_is_told_nothing_of_another_run_whose_number_is_its_own(self) -> None:

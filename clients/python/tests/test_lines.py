@@ -5,8 +5,10 @@ from __future__ import annotations
 import ast
 import re
 import unittest
+from dataclasses import replace
 from pathlib import Path
 
+from pagelog import place
 from pagelog.keeper import lines
 from service import SOURCE
 
@@ -85,6 +87,16 @@ class Words(unittest.TestCase):
         self.assertEqual(set(re.findall(r'^    [A-Z]+ = "([a-z]+)"$', reasons, re.M)), REASONS)
         self.assertEqual(set(re.findall(r'"lost", _, _, "([a-z]+)"', python)) | {"superseded"}, REASONS)
         self.assertEqual(set(re.findall(r'strcmp\(words\[3\], "([a-z]+)"\)', c)) | {"superseded"}, REASONS)
+
+    def test_keys_that_a_client_does_not_know_are_passed_over(self) -> None:
+        """So `at` grows. What has its place does not, and lines of version 1 have no keys."""
+        at, of = "at shop 7 run7 127.0.0.1:11 5 127.0.0.1:2 3 4 2", f"of={'0' * 8}/run7"
+        known = place._place(f"{at} {of}".split())
+        for told in (f"{at} color=red {of} taste=a=b later=", f"{at} {of} color=red"):
+            self.assertEqual(place._place(told.split()), known, told)
+        assert known is not None
+        self.assertEqual((known.generation, known.run, known.database), (7, "run7", "0" * 8))
+        self.assertEqual(place._place(at.split()), replace(known, database=""))
 
     def test_both_clients_and_keepers_are_of_the_version_of_the_page(self) -> None:
         [page] = set(re.findall(r"`hello (\d+)`", PAGE))

@@ -210,6 +210,8 @@ class Cases(unittest.TestCase):
         self.check(Action.SET_ASIDE, of_b, lost, rival=Rival.LIVES)
         self.check(Action.NOTHING, of_b, lost)
         self.check(Action.SET_ASIDE, of_b, replace(lost, back_for=PATIENCE * TTL))
+        self.check(Action.NOTHING, of_b, replace(lost, back_for=PATIENCE * TTL), rival=Rival.SILENT)
+        self.check(Action.SET_ASIDE, of_b, replace(lost, back_for=4 * PATIENCE * TTL), rival=Rival.SILENT)
         # Once another generation has its number, or a later one, its clients may have been told that it is over.
         for row in (ROW, RELEASED, replace(RELEASED, generation=4)):
             self.check(Action.SET_ASIDE, row, lost)

@@ -202,9 +202,9 @@ class Database:
         if row.holder == settings.name:
             return Rival.LIVES if is_there(settings.program.folder, row.name, row.run) else Rival.GONE
         # What a PostgreSQL that went back has of a report is of before: who lives says so anew.
-        since = float("inf") if self.served is None or self.served.back_since is None else self.served.back_since
-        is_said = self._reports.get(row.holder or "", {}).get("run") == row.run
-        return Rival.LIVES if is_said and self._rose > since else Rival.NOT_KNOWN
+        if self.served is None or self.served.back_since is None or self._rose <= self.served.back_since:
+            return Rival.SILENT
+        return Rival.LIVES if self._reports.get(row.holder or "", {}).get("run") == row.run else Rival.NOT_KNOWN
 
     def _further(self) -> str | None:
         """A keeper that has more of what PostgreSQL has lost than this one; of two that have as much it is the one whose name is first."""

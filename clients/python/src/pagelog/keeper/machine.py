@@ -20,7 +20,9 @@ ANEW_AT = 0.5
 NEAR = 1024
 """How many blocks a standby may lack when a switchover closes the table."""
 PATIENCE = 1.5
-"""For how many ttl a run of which PostgreSQL went back waits to see whether the run that PostgreSQL names is alive."""
+"""For how many ttl a run of which PostgreSQL went back waits to see whether the run that PostgreSQL names is alive, whose keeper is."""
+_SILENT = 4
+"""So many times as long where that keeper is not heard: it is known to stand still after a ttl of looks that are never late."""
 _FULL = "its list or its memory is {} full"
 _CHANGED = "the table was changed"
 
@@ -110,6 +112,8 @@ class Rival(Enum):
     LIVES = "lives"
     GONE = "gone"
     NOT_KNOWN = "not known"
+    SILENT = "silent"
+    """Its keeper has not been heard since PostgreSQL went back."""
 
 
 @dataclass(frozen=True)
@@ -312,7 +316,8 @@ def _of_what_went_back(facts: Facts, row: Row, own: Own) -> Decision:
 def _of_a_rival(facts: Facts, row: Row, own: Own, back: str) -> Decision:
     if own.kind is Kind.STANDBY and row.holder != facts.me:
         return Decision(Action.NOTHING, f"{back}; {row.holder} has it, and may archive again what is missing")
-    if facts.rival is Rival.LIVES or own.back_for >= PATIENCE * facts.ttl:
+    patience = PATIENCE * facts.ttl * (_SILENT if facts.rival is Rival.SILENT else 1)
+    if facts.rival is Rival.LIVES or own.back_for >= patience:
         why = f"{back}, and {row.holder} has another run: `pagelogctl rescue {row.name}` shows and saves what is here"
         return Decision(Action.SET_ASIDE, why)
     return Decision(Action.NOTHING, f"{back}, to a run of {row.holder}: whether that is alive is not known yet")
