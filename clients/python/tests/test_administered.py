@@ -106,6 +106,14 @@ class Administered(unittest.TestCase):
         self.note("w", "try", 9, number=2, links=[second, {**second, "name": "s2"}])
         self.assertEqual(self.violations(), [])
 
+    def test_half_of_a_transaction_that_made_a_life_is_changed_back(self) -> None:
+        first = self.commit(1, 10, what="failed")
+        self.look(11, first, "r")
+        self.look(12, {**first, "life": "", "seq": 0, "sum": GENESIS}, "r")
+        self.assert_one("went back")
+        self.note("w", "try", 9, number=1, links=[first, {**first, "name": "s2"}])
+        self.assertEqual(self.violations(), [])
+
     def test_another_connection_of_a_process_that_was_opened_before(self) -> None:
         first, second = self.commit(1, 5), self.commit(2, 10)
         self.look(9, first, "r-a")

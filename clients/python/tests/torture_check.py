@@ -253,16 +253,17 @@ class Check:
                         yield f"{note['who']} went back: {before} and then {note}"
 
     def _follows(self, before: Note, note: Note) -> bool:
-        if before["life"] != note["life"]:
-            return bool(before["life"] == "")
         if "bits" in note:
             old = int(before["bits"], 16)
-            return bool(note["end"] >= before["end"] and int(note["bits"], 16) & old == old)
-        chains, last = self.chains[note["name"], note["life"]], before
+            is_one_life = before["life"] in ("", note["life"])
+            return is_one_life and bool(note["end"] >= before["end"] and int(note["bits"], 16) & old == old)
+        chains, last = self.chains[note["name"], before["life"]], before
         while last["sum"] in self._halves and last["seq"] > 1:
             earlier = chains.before[last["sum"]]["before"]
             last = {"seq": last["seq"] - 1, "sum": earlier}
-        return not last["seq"] or last["sum"] in self._halves or chains.has(note, last)
+        if not last["seq"] or last["sum"] in self._halves:
+            return True  # not even the life was acknowledged
+        return before["life"] == note["life"] and chains.has(note, last)
 
     @functools.cached_property
     def _halves(self) -> set[str]:
