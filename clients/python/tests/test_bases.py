@@ -26,7 +26,7 @@ from pagelog.keeper.loading import Loader
 from pagelog.keeper.referee import BrokenArchive, Doubt, KeeperError, Referee, Refused, digest
 from pagelog.keeper.rows import Batch, Kept
 from pagelog.keeper.run import Program
-from pagelog.keeper.schema import script
+from pagelog.keeper.schema import VERSION, script
 from pagelog.keeper.served import Served
 from pagelog.keeper.switch import Switch, number, release, succeed
 from pagelog.trail import Trail
@@ -406,7 +406,7 @@ class Migration(Referees):
         self.addCleanup(limited.close)
         self.addCleanup(owner.close)
         for call in (limited.prepare, limited.everything):
-            self.assertRaisesRegex(Refused, "tables of version 1, and 4 is needed: run `pagelogctl create` or `keep`", call)
+            self.assertRaisesRegex(Refused, f"tables of version 1, and {VERSION} is needed: run `pagelogctl create` or `keep`", call)
         owner.prepare()
         with psycopg.connect(url, autocommit=True) as connection:
             connection.execute("INSERT INTO pagelog_schema (version) VALUES (99)")

@@ -17,6 +17,7 @@ from contextlib import closing, suppress
 from dataclasses import replace
 from pathlib import Path
 from tempfile import TemporaryDirectory
+from unittest.mock import Mock
 
 import psycopg
 from click.testing import CliRunner
@@ -25,7 +26,13 @@ from keepers import Gate, Kept, eventually
 from pagelog import Connection, Credentials, NamedPrimary, Primary, Reader
 from pagelog.desk.words import pagelogctl
 from pagelog.errors import PagelogError
+from pagelog.keeper.keeping import Keeper
+from pagelog.keeper.machine import State
+from pagelog.keeper.referee import Referee
 from pagelog.keeper.rows import TableOf, Where
+from pagelog.keeper.schema import NUMBERS
+from pagelog.keeper.served import Served
+from pagelog.keeper.settings import Settings
 from pagelog.keeper.switch import Switch, has_begun, number, succeed
 from pagelog.keeper.table import TableError, token_of
 from pagelog.place import WrongToken
@@ -561,6 +568,67 @@ class Deaths(Changing):
         thread.join()
         self.assertLessEqual(max(at for at, _ in told), returned)
         self.assertEqual((self.keeping.row().archived, max(position for _, position in told)), (archived, archived))
+
+
+class OneKeeper(Changing):
+    """A keeper that is none but by its statements, and has the database."""
+
+    keepers = ""
+
+    def setUp(self) -> None:
+        super().setUp()
+        self.referee = Referee(self.keeping.url, "z", "life of z")
+        self.addCleanup(self.referee.close)
+        self.referee.register("z:1")
+        self.assertIsNotNone(self.referee.take(self.keeping.row(), "r0"))
+
+    def test_a_run_whose_keeper_took_it_just_now_and_reports_nothing_is_named(self) -> None:
+        status, out, _ = self.renewed()
+        self.assertEqual((status, self.keeping.row().run), (3, None))
+        self.assertRegex(out, "run r0 of keeper z, generation [0-9]+: nothing of it becomes durable")
+
+    def test_it_is_waited_for_until_its_keeper_reports_that_it_has_ended(self) -> None:
+        """The keeper is alive, switches, and is a while about to end the service of before."""
+        after: list[bool] = []
+
+        def keep() -> None:
+            row = self.keeping.row()
+            report = json.dumps({NUMBERS: True, "shop": {"run": "r0", "table": 1}})
+            while (found := self.referee.look({}, report).row("shop")) is not None and found.table_number == 1:
+                time.sleep(0.01)
+            given = number(self.referee, row.id, "r0", row.generation)
+            assert given is not None
+            self.assertTrue(succeed(self.referee, Switch(row.id, "r0", row.generation, 0, (), b"", given, "r1", "z:2", 0, 0, table_number=2)))
+            for leaving in (["r0"],) * 30 + ([],):
+                time.sleep(0.05)
+                after.append(not leaving)
+                self.referee.look({}, json.dumps({NUMBERS: True, "shop": {"run": "r1", "table": 2, "leaving": leaving}}))
+            while not is_done.is_set():
+                time.sleep(0.05)
+                self.referee.look()
+
+        is_done, thread = threading.Event(), threading.Thread(target=keep)
+        self.referee.look({}, json.dumps({NUMBERS: True}))
+        thread.start()
+        try:
+            status = self.renewed()[0]
+            has_ended = list(after)
+        finally:
+            is_done.set()
+            thread.join()
+        self.assertEqual((status, has_ended[-1:]), (0, [True]))
+
+    def test_a_keeper_reports_what_it_is_about_to_end(self) -> None:
+        row = self.keeping.row()
+        keeper = Keeper(Settings.of("z", "", "", self.keeping.folder, "", self.keeping.url, {"standby": False}))
+        served = Served("shop", "r1", WIDE_TABLE, b"s" * 16, timeout=1.0, table_number=7)
+        served.process = Mock(memory=0)
+        for one, leaving, wanted in ((None, {"r0"}, ["r0"]), (None, set(), None), (served, {"r0"}, ["r0"]), (served, set(), None)):
+            keeper.databases[row.id] = Mock(row=replace(row, holder="b"), served=one, leaving=leaving, state=State.AWAY, decision=None, back=None)
+            report = json.loads(keeper._report())
+            self.assertIs(report[NUMBERS], True)
+            self.assertEqual(report.get("shop", {}).get("leaving"), wanted)
+            self.assertEqual(report.get("shop", {}).get("table"), None if one is None else 7)
 
 
 class Runbook(Changing):

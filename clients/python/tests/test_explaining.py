@@ -57,6 +57,14 @@ class Explaining(unittest.TestCase):
                     if denied:
                         self.assertEqual(decision.place, f"{reply.section.name}{reply.row}", question)  # type: ignore[union-attr]
 
+    def test_a_changed_token_is_shown_as_changed_and_no_token_is(self) -> None:
+        old = self.table(TABLE.read_text(), "old.toml")
+        self.table(TABLE.read_text().replace(token(2), "ab" * 16), "new.toml")
+        arguments = ["explain", "--diff", str(self.folder / "old.toml"), str(self.folder / "new.toml")]
+        self.assertEqual(ends(words(*arguments), 1), "principal 2\n  old.toml: a token\n  new.toml: another token\n")
+        self.table(old.text.decode().replace(token(2), token(2).upper()), "new.toml")
+        self.assertEqual(ends(words(*arguments)), "")
+
     def test_a_single_principal_and_many_rows(self) -> None:
         one = f'[[principal]]\nid = 0\ntoken = "{"0a" * 16}"\n'
         rows = "".join(f'[[row]]\nverdict = "allow"\nop = ["advance"]\nfrom = {at}\nto = {at}\n' for at in range(60))

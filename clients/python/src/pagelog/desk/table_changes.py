@@ -139,10 +139,10 @@ class Change:
                 if row is None:
                     fail(f"{self._row.name} was dropped")
                 is_late = time.monotonic() >= self._ends
-                if row.run is not None and row.run_table < row.table_number and (is_late or not self._beats.may_be_alive(row.holder)):
+                older = self._older(look, row)
+                if row.run is not None and row.run in self._held and (is_late or not self._beats.may_be_alive(row.holder)):
                     self._end(row, row.run)
                     continue
-                older = self._older(look, row)
             except (Away, Doubt) as error:
                 if time.monotonic() >= self._ends:
                     raise
