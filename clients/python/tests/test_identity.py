@@ -69,6 +69,14 @@ class Numbers(unittest.TestCase):
         self.assertEqual((self.numbers.least(again), self.numbers.doubted(again)), (11, 9))
         self.assertEqual(self.numbers.see([dropped, replace(again, next_generation=11)]), [])
 
+    def test_a_name_goes_on_above_a_database_that_postgresql_has_lost(self) -> None:
+        self.numbers.see([self.row(9, identity="lost")])
+        self.numbers.see([])
+        again = self.row(2)
+        self.assertEqual(self.numbers.see([again]), [again])
+        self.assertEqual((self.numbers.least(again), self.numbers.doubted(again)), (11, 9))
+        self.assertEqual(self.numbers.see([replace(again, next_generation=11, doubted=9)]), [])
+
 
 class Going(Kept):
     """Two keepers of one name."""
@@ -457,12 +465,13 @@ class NumbersComeAgain(Going):
         for _ in range(5):
             self.commit(primary, "lost", durable=True)
         eventually(lambda: len(self.keeping.standbys("again")) == 1, "a standby")
-        id, run, name = self.keeping.row("again").id, self.keeping.row("again").run, self.name()
+        id, place, name = self.keeping.row("again").id, self.keeping.place("again"), self.name()
         with closing(Referee(self.url.replace(f"/{name}", f"/{name}_before"))) as before:
             self.assertTrue(before.create("again", self.keeping.table.read_text(), b"s" * 16))
         self.set_back()
         self.assertEqual(self.keeping.row("again").id, id)
-        self.wait_for_another_than(run, "again")
+        self.wait_for_another_than(place.run, "again")
+        self.assertGreater(self.keeping.place("again").generation, place.generation)
         with self.keeping.primary("again", id=5) as other:
             for _ in range(10):
                 self.commit(other, "new", durable=True)

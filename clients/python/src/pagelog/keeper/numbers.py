@@ -30,7 +30,9 @@ class Numbers:
         self._first: set[tuple[str, int]] = set()
         """Databases and generations whose runs the last look was the first to show."""
         self._of_dropped: dict[str, int] = {}
-        """Of the dropped databases of a name: one that is created anew goes on above them."""
+        """Of the databases that a name had before, dropped or lost by PostgreSQL: one that is created anew goes on above them."""
+        self._named: dict[str, str] = {}
+        """The identity of the last database of each name."""
         self.is_changed = False
         """Whether there are some that are not noted."""
 
@@ -55,8 +57,16 @@ class Numbers:
         for row in seen:
             self.note(row.identity, max(row.next_generation - 1, row.generation))
             if row.dropped:
-                self._of_dropped[row.plain_name] = max(self._of_dropped.get(row.plain_name, 0), self._highest.get(row.identity, 0))
+                self._note_gone(row.plain_name, row.identity)
+        for row in seen:
+            if not row.dropped and (before := self._named.get(row.name, row.identity)) != row.identity:
+                self._note_gone(row.name, before)
+        self._named.update({row.name: row.identity for row in seen if not row.dropped})
         return [row for row in seen if not row.dropped and (row.next_generation <= self.highest(row) or row in twice)]
+
+    def _note_gone(self, name: str, database: str) -> None:
+        """This one has the name no more."""
+        self._of_dropped[name] = max(self._of_dropped.get(name, 0), self._highest.get(database, 0))
 
     def _is_of_another(self, row: Row) -> bool:
         """Whether the number of its generation was another run's, and this is not known yet."""
@@ -77,11 +87,11 @@ class Numbers:
         return 0 if is_known and self.dropped(row) < row.generation else self.highest(row)
 
     def highest(self, row: Row) -> int:
-        """The highest number that a generation of this database, or of a dropped one of its name, was given."""
+        """The highest number that a generation of this database, or of one that had its name before, was given."""
         return max(self._highest.get(row.identity, 0), self.dropped(row))
 
     def dropped(self, row: Row) -> int:
-        """The highest number that a dropped database of this name was given."""
+        """The highest number that a database which had this name before was given."""
         return self._of_dropped.get(row.plain_name, 0)
 
     def least(self, row: Row) -> int:
