@@ -223,6 +223,7 @@ PLANTS = {
                                "list_of_an_older"),
     "saved, of another name": Plant("rescuing", "(SELECT COALESCE(ancestor, name) FROM pagelog_log WHERE id = %(log)s)", "NULL", "lives", "opens_under"),
     "rival of before": Plant("database", " and self._rose > since", "", "identity", "a_writer_whose_run_continues"),
+    "unknown, not told": Plant("../place", "if is_unknown and (self._own is None or is_told):", "if is_unknown:", "named", "who_had_a_database"),
     "another run's writer": Plant("../named", "self.place is not None and place.run != self.place.run or self.keepers", "self.keepers", "identity",
                                   "test_a_writer_is_told_nothing_of_another_run_whose"),
     "phantom": Plant("machine", "if own is None and facts.is_noted:", "if False:", "lives", "taken_back"),

@@ -87,20 +87,20 @@ class Going(Kept):
 
     def fresh(self) -> None:
         """Another database of the name."""
-        before = self.keeping.row().run
+        before = self.keeping.row().identity
         self.keeping.word("drop", "shop", "--force")
         self.assertTrue(self.keeping.referee.create("shop", self.keeping.table.read_text(), b"s" * 16))
         self.wait_for_another_than(before)
 
-    def wait_for_another_than(self, run: str | None, name: str = "shop") -> None:
-        """Until a keeper tells the place of another run."""
+    def wait_for_another_than(self, database: str | None, name: str = "shop") -> None:
+        """Until a keeper tells the place of another database of the name."""
 
         def is_told() -> bool:
             try:
                 place = self.keeping.keepers(name).where()
             except UnknownName:
                 return False
-            return place is not None and place.run != run
+            return place is not None and place.database != database
 
         eventually(is_told, "the place of another database of the name")
 
@@ -246,7 +246,7 @@ class NamesAreUsedAgain(Going):
         referee._ask("WITH made AS (INSERT INTO pagelog_log (name, format, archived, epoch) VALUES ('shop', 3, 0, 1) RETURNING id) "
                      "INSERT INTO pagelog_table (log, text, secret) SELECT id, %s, %s FROM made RETURNING log",
                      (self.keeping.table.read_text(), b"s" * 16))  # fmt: skip
-        self.wait_for_another_than(second.run)
+        self.wait_for_another_than(second.database)
         self.assertGreater(self.keeping.place().generation, second.generation)
 
     def test_an_older_client_is_told_no_keys(self) -> None:
@@ -470,7 +470,7 @@ class NumbersComeAgain(Going):
             self.assertTrue(before.create("again", self.keeping.table.read_text(), b"s" * 16))
         self.set_back()
         self.assertEqual(self.keeping.row("again").id, id)
-        self.wait_for_another_than(place.run, "again")
+        self.wait_for_another_than(place.database, "again")
         self.assertGreater(self.keeping.place("again").generation, place.generation)
         with self.keeping.primary("again", id=5) as other:
             for _ in range(10):

@@ -21,7 +21,7 @@ from pagelog.keeper.referee import digest
 from pagelog.keeper.run import Program
 from pagelog.keeper.served import Served
 from pagelog.keeper.table import KEEPER, Form, table_of_run, token_of
-from pagelog.place import Dropped, Fate, Keepers, OlderKeepers, Place, _Line
+from pagelog.place import Dropped, Fate, Keepers, OlderKeepers, Place, UnknownName, _Line
 from service import PATIENCE, PROGRAM, WIDE_TABLE, Service, accept_each, interrupted, put, token
 
 DATABASE = "11111111-2222-4333-8444-555555555555"
@@ -524,6 +524,21 @@ class Words(Saying):
         self.assertEqual(self.keepers.fate(of_generation(1), 5), Fate(0, True, True, "PostgreSQL went back, and has gone on with generation 7 without this run"))
         self.said = lambda _: b"lost shop 1 another by=0\n"
         self.assertRaisesRegex(Dropped, "another database", self.keepers.fate, of_generation(1), 5)
+
+    def test_who_had_a_database_that_nobody_knows_is_told_once_a_keeper_says_what_became_of_it(self) -> None:
+        """PostgreSQL has to say that, and may take long: till then its place is waited for."""
+        answers = {"where": b"unknown shop\n", "durable": b""}
+        self.said = lambda words: answers[words[0]]
+        keepers = Keepers("shop", [self.keeper()], PATIENCE)
+        self.addCleanup(keepers.close)
+        self.assertRaises(UnknownName, keepers.where)
+        keepers.is_of(of_generation(1))
+        with patch("pagelog.place._SILENCE", 0.1):
+            self.assertIsNone(keepers.where())
+        answers["durable"] = b"elsewhere shop 1\n"
+        self.assertRaises(UnknownName, keepers.where)
+        answers["durable"] = b"lost shop 1 dropped\n"
+        self.assertRaisesRegex(Dropped, "was dropped", keepers.where)
 
     def test_an_answer_that_comes_byte_by_byte(self) -> None:
         """The time for a whole answer is over, though a byte came each time within the time-out for silence."""

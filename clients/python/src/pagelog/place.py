@@ -253,9 +253,8 @@ class Keepers:
         if own := [place for place in told if place.database and self._is_own(place)]:
             return max(own, key=lambda place: (place.generation, place.archived))
         is_unknown = any(answers) and all(words[:1] == ["unknown"] for words in answers if words)
-        if is_unknown or any(place.database for place in told):
-            self._check_own()
-        if is_unknown:
+        is_told = (is_unknown or any(place.database for place in told)) and self._check_own()
+        if is_unknown and (self._own is None or is_told):
             raise UnknownName(f"the keepers know of no database {self.name}")
         if len(told) == len(self._addresses) and not any(place.database for place in told):
             raise OlderKeepers(f"all keepers of {self.name} are of version 1: they are upgraded before their clients")
@@ -265,14 +264,16 @@ class Keepers:
         """Whether it is of the database that was opened."""
         return self._own is None or place.database == self._own.database
 
-    def _check_own(self) -> None:
+    def _check_own(self) -> bool:
         """Some keepers have another database of the name, or none. Raises `Dropped` where one says that this is so for good: a keeper that
-        is cut off may only know less."""
-        own = self._own
+        is cut off may only know less. Returns whether one has answered, which has to ask PostgreSQL before."""
+        own, has_answered = self._own, False
         for address in self._asks() if own is not None else []:
             assert own is not None
-            words = self._ask(address, ("durable", self.name, own.generation, 0), _ANSWER, own.of)
+            words = self._ask(address, ("durable", self.name, own.generation, 0), _SILENCE, own.of)
             self._fate(words, own, 0)
+            has_answered |= bool(words)
+        return has_answered
 
     def place(self, least: int = 0) -> Place:
         """The place, of generation `least` or a later one, once there is one. Raises `TimedOut`, and `NoKeeper` for who opens the database."""
