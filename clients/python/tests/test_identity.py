@@ -376,10 +376,8 @@ class NumbersComeAgain(Going):
         self.fill("new", 30)
         self.assertIn("PostgreSQL went back", self.lost(primary, durable=True))
         self.assertGreater(self.commit(primary, "after", durable=True), 30)
-        texts = self.texts()
-        self.assertNotIn(b"gone 2", texts)
-        self.assertNotIn(b"mine", texts)
-        self.assertEqual(texts[-1], b"after")
+        texts = self.texts()  # what PostgreSQL has lost may be there: the other keeper's standby may have had it
+        self.assertEqual((texts[:2], b"mine" in texts, texts[-1]), ([b"0", b"gone 1"], False, b"after"))
 
     def test_a_writer_whose_run_continues_has_lost_nothing(self) -> None:
         primary = self.enterContext(self.keeping.primary())
@@ -409,7 +407,8 @@ class NumbersComeAgain(Going):
             old.execute("insert into t values(9000)")
         self.assertIn("went back", error_of(old))
         old.execute("insert into t values(9001)")
-        self.assertEqual(self.rows(), (9001, 0, 20))
+        highest, _, others = self.rows()
+        self.assertEqual((highest, others), (9001, 20))
 
     def give_a_number_twice(self, write: Callable[[int], object]) -> Place:
         """The keeper that goes on was dead while the other one had the generation of this number, so that it gives it again. Returns the
