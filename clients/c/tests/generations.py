@@ -266,7 +266,8 @@ def test_keys_that_it_does_not_know_are_passed_over():
     for told in (f"{at} {known}", f"{at} color=red {known} taste=a=b ancestor=older later=", f"{at} after=run6 {known}"):
         with saying({"hello": "hello 3", "where": told}) as address, Keepers(address) as keepers:
             outcome, place = keepers.where()
-            same(told, (DONE, 7, b"run7", 5, 3, DATABASE.encode()), (outcome, place.generation, place.run, place.archived, place.base, place.database))
+            same(told, (DONE, DATABASE.encode(), 7, b"run7"), (outcome, place.database, place.generation, place.run))
+            same(told, (5, 3, 4), (place.archived, place.base, place.shift))
 
 
 def test_a_host_with_an_address_that_is_silent():

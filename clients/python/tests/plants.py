@@ -37,6 +37,7 @@ PLANTS = {
     "answers of another run": Plant("../place", "        if keys.get(\"of\") != place.of:\n            return None\n", "", "named",
                                     "became_of_another_run"),
     "names begin again": Plant("referee", "SELECT max(d.next_generation) + 1 FROM", "SELECT 1 FROM", "referee", "numbers_of_a_dropped"),
+    "standby of an earlier run": Plant("database", " and not is_other", "", "identity", "standby_of_an_earlier_run"),
     "a lost name begins again": Plant("numbers", "                self._note_gone(row.name, before)\n", "                pass\n", "identity",
                                       "above_a_database_that"),
     "numbers are forgotten": Plant("numbers", "        return max(self._highest.get(row.identity, 0), self.dropped(row))\n", "        return 0\n", "identity",

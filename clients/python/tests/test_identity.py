@@ -235,6 +235,20 @@ class NamesAreUsedAgain(Going):
         with self.assertRaises(sqlite3.OperationalError):
             connected(self.keeping.addresses, id=3, name="third", file="other", mode="ro")
 
+    def test_a_standby_of_an_earlier_run_is_not_taken_for_the_one_that_is_here(self) -> None:
+        """PostgreSQL went back to it."""
+        self.holder()
+        eventually(lambda: len(self.keeping.standbys()) == 1, "a standby")
+        id = self.keeping.row().id
+
+        def noted() -> tuple[str, str]:
+            [found] = self.keeping.referee.everything().standbys_of(id)
+            return found.run, found.address
+
+        before = noted()
+        self.keeping.referee._ask("UPDATE pagelog_standby SET run = 'earlier', address = '127.0.0.1:1' WHERE log = %s RETURNING log", (id,))
+        eventually(lambda: noted() == before, "the one that is here")
+
     def test_the_numbers_of_a_name_go_on(self) -> None:
         first = self.keeping.place()
         self.fresh()
@@ -426,7 +440,7 @@ class NumbersComeAgain(Going):
             self.set_back()
             self.keeping.start(before)
             self.keeping.word("succeed", "shop")
-            eventually(lambda: self.keeping.row().generation == place.generation and self.keeping.row().address is not None, "another run of the number")
+            eventually(lambda: (now := self.keeping.row()).generation == place.generation and now.address is not None, "another run of the number")
         finally:
             os.kill(pid, signal.SIGCONT)
         self.assertNotEqual(self.keeping.row().run, place.run)

@@ -65,6 +65,7 @@ def values_of_lines(found: Sequence[tuple[int, Lines | None]]) -> Mapping[str, A
     sizes = [len(piece["data"]) for piece in pieces]
     return {
         "line_logs": array_of(log for log, _ in lines), **{f"line_{name}s": array_of(piece[name] for piece in pieces) for name in ("list", "first", "count", "seen")},
-        "line_days": [piece["day"] for piece in pieces], "line_ofs": [each.one.of for _, each in lines], "line_starts": array_of(accumulate(sizes[:-1], initial=1) if sizes else ()),
-        "line_lengths": array_of(sizes), **{f"line_{name}": b"".join(piece[name] for piece in pieces) for name in ("before", "digest", "data")},
+        "line_days": [piece["day"] for piece in pieces], "line_ofs": [each.one.of for _, each in lines],
+        "line_starts": array_of(accumulate(sizes[:-1], initial=1) if sizes else ()), "line_lengths": array_of(sizes),
+        **{f"line_{name}": b"".join(piece[name] for piece in pieces) for name in ("before", "digest", "data")},
     }  # fmt: skip

@@ -245,10 +245,11 @@ class Database:
         """How far a standby of this keeper is, of what a statement that wrote has shown to be archived; None where it has none."""
         return None if self.served is None or self.holds else min(self.served.reached, self._confirmed)
 
-    def may_have_noted(self, standby: StandbyRow) -> bool:
-        """Whether a standby that is noted of this keeper is the one that is here, if there is one: PostgreSQL may have gone back to
+    def has_noted(self, standby: StandbyRow) -> bool:
+        """Whether this standby is noted of this keeper, and is the one that is here, if there is one: PostgreSQL may have gone back to
         another."""
-        return self.served is None or self.served.kind is not Kind.STANDBY or self.served.run == standby.run
+        is_other = self.served is not None and self.served.kind is Kind.STANDBY and self.served.run != standby.run
+        return standby.keeper == self.shared.settings.name and not is_other
 
     @property
     def should_stand_by(self) -> bool:

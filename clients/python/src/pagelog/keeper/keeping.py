@@ -369,7 +369,7 @@ class Keeper:
             if (database := self.databases.get(row.identity)) is None:
                 continue
             holder = self.look.keeper(row.holder)
-            is_noted = any(standby.keeper == self.settings.name and database.may_have_noted(standby) for standby in self.look.standbys_of(row.id))
+            is_noted = any(map(database.has_noted, self.look.standbys_of(row.id)))
             database.see(row, None if holder is None else holder.beat, self._others(row.id), is_noted=is_noted, began=began,
                          reports=self._reports_of(row.name), rose=self._rose.get(row.holder or "", float("-inf")))  # fmt: skip
             self._changed(row.name)

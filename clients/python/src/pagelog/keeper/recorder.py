@@ -28,8 +28,8 @@ FEW = 64
 _TTLS = 3
 _PATIENCE = 1 / 8
 """For so much of a ttl blocks wait for lines that a thread has to see to."""
-_IS_OF_THE_NAME = sql.text("SELECT 1 FROM pagelog_generation g JOIN pagelog_log l ON l.id = g.log "
-                           "WHERE l.name = :name AND l.identity = CAST(:database AS uuid) AND g.generation = :generation AND g.run = :run")  # fmt: skip
+_IS_OF_THE_NAME = sql.text("SELECT 1 FROM pagelog_generation g JOIN pagelog_log l ON l.id = g.log WHERE l.name = :name "
+                           "AND l.identity = CAST(:database AS uuid) AND g.generation = :generation AND g.run = :run")  # fmt: skip
 _STEPS = 4
 """How many questions one database asks before another has its turn."""
 
