@@ -24,12 +24,13 @@ from click.testing import CliRunner
 
 from keepers import Gate, Kept, eventually
 from pagelog import Connection, Credentials, NamedPrimary, Primary, Reader
+from pagelog.desk.table_changes import Change
 from pagelog.desk.words import pagelogctl
 from pagelog.errors import PagelogError
 from pagelog.keeper.keeping import Keeper
 from pagelog.keeper.machine import State
 from pagelog.keeper.referee import Referee
-from pagelog.keeper.rows import TableOf, Where
+from pagelog.keeper.rows import Look, TableOf, Where
 from pagelog.keeper.schema import NUMBERS
 from pagelog.keeper.served import Served
 from pagelog.keeper.settings import Settings
@@ -104,6 +105,15 @@ class Statements(Referees):
         self.assertTrue(succeed(self.referee, newest))
         self.assertIs(has_begun(self.referee, newest), True)
         self.assertEqual((self.seen().run, self.seen().run_table), ("r2", 2))
+
+    def test_a_holder_that_stands_still_amid_a_statement_holds_up_no_change(self) -> None:
+        self.taken()
+        with closing(psycopg.connect(self.url, application_name="pagelog keeper one")) as still:
+            still.execute("UPDATE pagelog_log SET archived = archived WHERE name = 'shop'")
+            self.assertEqual(self.new("two").set_table(replace(self.row, holder="one"), "two", 1), 2)
+        with closing(psycopg.connect(self.url, application_name="pagelog keeper one")) as still:
+            still.execute("UPDATE pagelog_log SET archived = archived WHERE name = 'shop'")
+            self.assertEqual(self.new("three").end_run(replace(self.row, holder="one", run="r1")), 0)
 
     def test_a_generation_of_an_older_keeper_has_the_first_table(self) -> None:
         self.change()
@@ -523,7 +533,7 @@ class Deaths(Changing):
             status, _, error = self.renewed("--within", 1)
             self.assertIn(status, (0, 3))
             self.is_fenced(run)
-            self.assertRegex(error, r"generation [0-9]+ of keeper [ab] was ended at position")
+            self.assertRegex(error, r"generation [0-9]+ of keeper [ab], which has an older table, was ended at position 0\n")
         finally:
             gate.open()
         eventually(self.is_in_force, "the newest table alone")
@@ -617,6 +627,30 @@ class OneKeeper(Changing):
             is_done.set()
             thread.join()
         self.assertEqual((status, has_ended[-1:]), (0, [True]))
+
+    def test_what_an_old_leader_shows_alone_is_not_believed(self) -> None:
+        """Its row is of before a change that only a write finds."""
+        row = replace(self.keeping.row(), table_number=1, run=None)
+        looks = iter((Look((row,)), Look((replace(row, table_number=2),))))
+        referee = Mock(everything=lambda: next(looks), newest_table=Mock(return_value=(2, None)))
+        self.assertEqual(Change(referee, row, 1.5, 10).carry_out(), [])
+        self.assertIsNone(next(looks, None))
+
+    def test_nothing_is_changed_while_an_older_keeper_lives(self) -> None:
+        def live() -> None:
+            while not is_done.is_set():
+                self.referee.look({}, "{}")
+                time.sleep(0.05)
+
+        is_done, thread = threading.Event(), threading.Thread(target=live)
+        thread.start()
+        try:
+            status, _, error = self.renewed()
+        finally:
+            is_done.set()
+            thread.join()
+        self.assertEqual((status, self.keeping.row().table_number), (1, 1))
+        self.assertIn("nothing was changed: keeper z is of a version that knows no numbers of tables", error)
 
     def test_a_keeper_reports_what_it_is_about_to_end(self) -> None:
         row = self.keeping.row()

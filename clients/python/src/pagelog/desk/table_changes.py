@@ -141,7 +141,7 @@ class Change:
                 is_late = time.monotonic() >= self._ends
                 older = self._older(look, row)
                 if row.run is not None and row.run in self._held and (is_late or not self._beats.may_be_alive(row.holder)):
-                    self._end(row, row.run)
+                    self._end(row)
                     continue
             except (Away, Doubt) as error:
                 if time.monotonic() >= self._ends:
@@ -152,15 +152,15 @@ class Change:
             left = [each for each in older if not each.is_aside and self._beats.may_be_alive(each.keeper)]
             if is_late and not has_ended:
                 has_ended, self._ends = True, time.monotonic() + 2 * self._ttl  # for what was ended just now
-            elif not left or is_late:
-                return older
+            elif (not left or is_late) and self._referee.newest_table(row.id) == (row.table_number, row.run):
+                return older  # by a statement that writes: an old leader of PostgreSQL has not heard of a change
             self._wait(waits)
 
-    def _end(self, row: Row, run: str) -> None:
+    def _end(self, row: Row) -> None:
         """Ends the run that holds the database, as it is archived: from now on nothing of it becomes durable."""
-        if self._referee.release(row.id, run) is not None:
-            click.echo(f"generation {row.generation} of keeper {row.holder} was ended at position {row.archived} or later: it has an older table",
-                       err=True)  # fmt: skip
+        if (position := self._referee.end_run(row)) is not None:
+            paused = "; it is paused: nobody takes it until `pagelogctl resume`" if row.paused else ""
+            click.echo(f"generation {row.generation} of keeper {row.holder}, which has an older table, was ended at position {position}{paused}", err=True)
 
     def _look(self) -> Look:
         self._referee._ask(f"SELECT pg_notify('{CHANNEL}', '')")  # all keepers look now

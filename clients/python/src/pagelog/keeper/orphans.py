@@ -84,7 +84,7 @@ def seen_to(referee: Referee, look: Look, process: Run, timeout: float, has_name
     if row is None or (origin is not None and (origin.dropped or origin.ended is not None)):
         return Orphan(process, *fate_of(found))
     text, secret, _ = referee.table(row.id)
-    served = Served(name, process.name, text, secret, timeout=timeout, is_read_only=row.read_only, table_number=0)
+    served = Served(name, process.name, text, secret, timeout=timeout, is_read_only=row.read_only)
     shift, images = process.facts.shift, process.facts.images
     chain = referee.chain_of_base(row.id, images) if images else b""
     served.kind, served.generation = Kind.HOLDER, seen.generation

@@ -380,9 +380,7 @@ class Referee:
 
     def release(self, log: int, run: str) -> int | None:
         """Ends the generation of this run: nothing more is archived of it. Returns the archived position, or None."""
-        found = self._ask(
-            "WITH ended AS (UPDATE pagelog_log SET run = NULL, holder = NULL, address = NULL WHERE id = %s AND run = %s "
-            f"RETURNING name, generation, archived, chain) SELECT archived, {statements.RELEASED} FROM ended", (log, run))  # fmt: skip
+        found = self._ask(statements.END_RUN, {"id": log, "run": run})
         return int(found[0][0]) if found else None
 
     # The archive.
@@ -500,8 +498,29 @@ class Referee:
 
     def set_table(self, row: Row, text: str, seen: int) -> int | None:
         """Gives a database another table, and returns its number; None where that of number `seen` is not the newest any more."""
-        found = self._ask(statements.SET_TABLE, {"id": row.id, "identity": row.identity, "text": text, "seen": seen})
+        found = self._ask_past(row.holder, statements.SET_TABLE, {"id": row.id, "identity": row.identity, "text": text, "seen": seen})
         return int(found[0][0]) if found else None
+
+    def end_run(self, row: Row) -> int | None:
+        """As `release`, for a person: also where the holder stands still amid a statement."""
+        found = self._ask_past(row.holder, statements.END_RUN, {"id": row.id, "run": row.run})
+        return int(found[0][0]) if found else None
+
+    def newest_table(self, log: int) -> tuple[int, str | None] | None:
+        """The number of the newest table, and the run that holds the database, by a statement that writes."""
+        found = self._ask("UPDATE pagelog_log SET table_number = table_number WHERE id = %s AND NOT dropped RETURNING table_number, run", (log,))
+        return (int(found[0][0]), found[0][1]) if found else None
+
+    def _ask_past(self, holder: str | None, statement: str, values: Mapping[str, Any]) -> list[Any]:
+        """The rows of a statement. Where a keeper stands still with the row locked, as between the two last messages of a statement, its
+        sessions are ended."""
+        try:
+            return self._ask(statement, values)
+        except Refused as error:
+            if not isinstance(error.__cause__, psycopg.errors.LockNotAvailable):
+                raise
+        self._end_sessions(holder)
+        return self._ask(statement, values)
 
     def put_table_back(self, log: int, identity: str, table: TableOf) -> bool:
         """PostgreSQL went back, and has an older table than this. Returns whether it had."""

@@ -86,7 +86,7 @@ class Served:
         self._quick_looker: Looker | None = None
         self._text, self._secret = text, secret
         self.table_number = table_number
-        """That of the table that it was started with. What is known of no run is older than all."""
+        """That of the table that it was started with; of a run of which nothing is known the first."""
         self.identity = ""
         """Of the database that it was made for."""
         self.timeout = timeout

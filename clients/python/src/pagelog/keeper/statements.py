@@ -212,6 +212,12 @@ SELECT archived, {RELEASED} FROM ended
 """
 RELEASE_WITH_LINES = with_lines(RELEASE, "ended")
 
+END_RUN = f"""
+WITH ended AS (
+  UPDATE pagelog_log SET run = NULL, holder = NULL, address = NULL WHERE id = %(id)s AND run = %(run)s RETURNING name, generation, archived, chain)
+SELECT archived, {RELEASED} FROM ended
+"""
+
 FATE = f"""
 WITH me AS (UPDATE pagelog_keeper SET beat = beat WHERE name = %(me)s RETURNING 1)
 SELECT COALESCE(

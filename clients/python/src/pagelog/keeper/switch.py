@@ -80,8 +80,8 @@ def has_begun(referee: Referee, switch: Switch) -> bool | None:
 
 def has_newest_table(referee: Referee, switch: Switch) -> bool:
     """Whether no newer table was set than that of the next run: such a run never begins."""
-    newest = referee._ask("UPDATE pagelog_log SET table_number = table_number WHERE id = %s RETURNING table_number", (switch.log,))
-    return bool(newest) and newest[0][0] <= switch.table_number
+    newest = referee.newest_table(switch.log)
+    return newest is not None and newest[0] <= switch.table_number
 
 
 def rehearse(referee: Referee) -> None:
