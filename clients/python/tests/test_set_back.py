@@ -124,9 +124,24 @@ class Case:
     standby: bool
     restarted: bool
 
+    @property
+    def has_name(self) -> bool:
+        """Whether PostgreSQL has a database of the name then."""
+        return self.action != "drop" or (self.statement, self.is_behind) in _WITH_FIRST or self.has_last
+
+    @property
+    def has_last(self) -> bool:
+        """Whether PostgreSQL has the database to which was written last."""
+        is_made = (self.statement, self.is_behind) == ("creation", True) or self.statement in ("take", "place")
+        return self.action != "drop" or is_made
+
     def __str__(self) -> str:
         where, others = "behind" if self.is_behind else "before", "a standby" if self.standby else "no standby"
         return f"{where} the {self.statement} of a {self.action}, {others}{', keepers killed' if self.restarted else ''}"
+
+
+_WITH_FIRST = {("batch", False): {1, 2, 3}, ("batch", True): {1, 2, 3, 4}, ("drop", False): {1, 2, 3, 4, 5}}
+"""Where the database that was dropped is there again, and the pages that it has."""
 
 
 def cover(cases: list[Case]) -> Iterator[Case]:
@@ -151,8 +166,6 @@ STATEMENTS = {
     "drop": ("batch", "drop", "deletion of a table", "deletion of blocks", "creation", "take", "place"),
 }
 """Those that each action makes, in their order. A batch is one before it."""
-UNKNOWN = ("deletion of a table", "deletion of blocks", "creation")
-"""Before them PostgreSQL has no database of the name."""
 
 
 def _cases() -> Iterator[Case]:
@@ -173,6 +186,8 @@ class Played:
         self.keeping, self.server, self.case = keeping, server, case
         self.acknowledged: set[int] = set()
         self.running = ["a", "b"]
+        self.run, self.pid = "", 0
+        """Of the last service."""
 
     def play(self) -> None:
         keeping, case = self.keeping, self.case
@@ -187,6 +202,7 @@ class Played:
         self.write(4, 5)
         self.act()
         self.write(6, 7)
+        self.run, self.pid = keeping.place().run, keeping.pid()
         noted = self.noted()[before:]
         transaction = next((transaction for transaction, what in noted if what == case.statement), None)
         assert transaction is not None, f"there is no {case.statement} in {[what for _, what in noted]}"
@@ -269,6 +285,11 @@ class Played:
         """What was acknowledged and is not in the database."""
         return self.acknowledged - self.pages("shop")
 
+    def is_kept(self) -> None:
+        """The service of a database that PostgreSQL does not have is not ended, and its keeper says of it."""
+        eventually(lambda: self.run in [each["run"] for each in self.asides()], "a word of what was set aside")
+        os.kill(self.pid, 0)
+
     def asides(self) -> list[dict[str, str]]:
         lines = map(json.loads, self.keeping.word("kept", "--json").splitlines())
         return [each for line in lines if line["name"] == "shop" for each in line["set_aside"]]
@@ -293,9 +314,12 @@ class Cases(unittest.TestCase):
             played = Played(keeping, server, case)
             try:
                 played.play()
-                played.goes_on()
-                lost = played.lost()
-                if lost and case.action != "drop":
+                if case.has_name:
+                    played.goes_on()
+                if not case.has_last:
+                    played.is_kept()
+                    played.acknowledged = _WITH_FIRST.get((case.statement, case.is_behind), set())
+                if case.has_name and (lost := played.lost()):
                     self.assertEqual(lost - played.rescued(), set(), "acknowledged, and neither there nor saved")
                 self.assertNotIn("fault of the keeper", keeping.said())
             except BaseException:
