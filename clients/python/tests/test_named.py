@@ -514,6 +514,15 @@ class Words(Saying):
         self.assertRaises(pagelog.TimedOut, self.keepers.fate, of_generation(2), 5)
         self.assertEqual(self.keepers.fate(of_generation(1), 7), Fate(5, True))
 
+    def test_how_far_its_holder_has_archived_all_that_it_has(self) -> None:
+        for told, archived in (("durable shop 1 9", 9), ("above shop 1 7", 7), ("above shop 1 4", 5), ("above shop 2 7", None), ("elsewhere shop 1", None),
+                               ("over shop 1 6", 6), ("lost shop 1 superseded by=7", None)):  # fmt: skip
+            asked: list[list[str]] = []
+            self.said = lambda words, told=told: (asked.append(words), f"{told}\n".encode())[1]  # type: ignore[misc]
+            place = replace(of_generation(1), lines=self.keepers._addresses[0])
+            self.assertEqual(self.keepers.archived_at_once(place, 5, PATIENCE), archived, told)
+            self.assertEqual(asked, [["durable", "shop", "1", "6"]])
+
     def test_what_became_of_another_run_is_no_answer(self) -> None:
         """Of the same number; by a keeper whose answers say of what they are, or which knows no better."""
         for told in (f"over shop 1 5 of={DATABASE}/another", f"durable shop 1 9 of={DATABASE}/another", "durable shop 1 9",

@@ -9,11 +9,13 @@ import time
 import unittest
 from dataclasses import replace
 from typing import Any
-from unittest.mock import patch
+from unittest.mock import Mock, patch
 
 import pagelog
 from keepers import Keeping, eventually, new_database
 from pagelog import NamedReader
+from pagelog.keeper.keeping import Keeper
+from pagelog.keeper.served import seconds
 from pagelog.place import Fate, Place
 from pagelog.polling import EACH
 from service import PATIENCE, put, token
@@ -99,7 +101,7 @@ class Durable(Named):
         self.keepers.standby.return_value = None
         self.archived = 0
         self.keepers.where.side_effect = lambda: replace(self.places[-1], archived=self.archived)
-        self.keepers.fate_at_once.return_value = None
+        self.keepers.fate_at_once.return_value = self.keepers.archived_at_once.return_value = None
 
     def reader(self) -> Any:
         return self.named(NamedReader, 3, durable_only=True)
@@ -164,10 +166,65 @@ class Durable(Named):
         self.assertEqual([reader.end() for _ in range(10)], [4] * 10)
         self.keepers.fate_at_once.assert_called_once()
 
+    def at_standby(self) -> Any:
+        """A reader at a standby that has 4 of 9 blocks, which are archived."""
+        self.begin()
+        self.commit(4)
+        standby = replace(self.places[-1], generation=0, archived=4)
+        self.begin()
+        self.commit(9)
+        self.archived, self.keepers.standby.return_value = 4, standby
+        return self.reader()
+
+    def test_a_standby_is_told_once_its_holder_has_archived(self) -> None:
+        """What is archived meanwhile."""
+        reader = self.at_standby()
+        self.keepers.archived_at_once.side_effect = lambda place, known, _: 4 if place.generation > 0 else None
+        self.assertEqual((reader.end(), reader.place.generation), (4, 0))
+        self.keepers.follow.assert_not_called()
+        self.keepers.archived_at_once.side_effect = lambda place, known, _: 5
+
+        def follow(place: Place) -> None:
+            with self.of_run_at(place) as primary:
+                primary.append(put(0, b"5"))
+                primary.commit()
+
+        self.keepers.follow.side_effect = follow
+        with patch("pagelog.named_reader._AT_ONCE", PATIENCE):
+            eventually(lambda: reader.end() == 5, "what is archived")
+        self.keepers.follow.assert_called_once()
+
+    def of_run_at(self, place: Place) -> Any:
+        return self.enterContext(pagelog.Primary(pagelog.Connection(place.address, timeout=PATIENCE), pagelog.Credentials(2, self.token(2, place.run))))
+
+    def test_a_standby_that_does_not_follow_is_not_waited_for_each_time(self) -> None:
+        for archived in (9, None):  # nor a holder that does not answer
+            with self.subTest(archived=archived), patch("pagelog.named_reader._LEAST_PAUSE", PATIENCE), patch(
+                    "pagelog.named_reader._LONGEST_PAUSE", PATIENCE):  # fmt: skip
+                reader = self.at_standby()
+                self.keepers.archived_at_once.reset_mock()
+                self.keepers.archived_at_once.return_value = archived
+                self.assertEqual([reader.end() for _ in range(10)], [4] * 10)
+                self.keepers.archived_at_once.assert_called_once()
+
     def commit(self, count: int) -> None:
         with self.of_run(pagelog.Primary, 2) as primary:
             for _ in primary.stream([put(0, b"1")] for _ in range(count)):
                 pass
+
+
+class Looks(unittest.TestCase):
+    def test_however_often_a_keeper_is_told_it_looks_a_while_after_the_last_look(self) -> None:
+        keeper, loop = Keeper.__new__(Keeper), Mock()
+        keeper._next_look, keeper._looked, keeper._session = None, seconds() + PATIENCE, Mock()
+        with patch("pagelog.keeper.keeping.asyncio.get_running_loop", lambda: loop):
+            for _ in range(100):
+                keeper._look_soon()
+            [call] = loop.call_later.mock_calls
+            self.assertGreater(call.args[0], 0)
+            keeper._see_next_look()
+            keeper._look_soon()
+        self.assertEqual(loop.call_later.call_count, 2)
 
 
 class Keepers(unittest.TestCase):
@@ -201,6 +258,29 @@ class Keepers(unittest.TestCase):
                 primary.append(put(0, b"%d" % number))
                 self.assertEqual(primary.commit(), number)
                 eventually(lambda: reader.end() == number, "the word that it is durable")
+
+    def test_so_it_is_at_a_standby(self) -> None:
+        """Where no keeper looks by itself as long as the test may take."""
+        keeping = self.enterContext(Keeping(ttl=100 * PATIENCE))
+        new_database(keeping.referee, "shop")
+        keeping.start("a")
+        keeping.place()
+        keeping.start("b")
+        with keeping.primary() as primary:
+            primary.append(put(0, b"0"))
+            self.assertEqual(primary.commit(durable=True), 1)
+            eventually(lambda: keeping.ring() is None and keeping.standbys() == {"b": 1}, "a standby")
+            with keeping.reader(durable_only=True) as reader:
+                eventually(lambda: keeping.ring() is None and reader._leave() is None and reader.end() == 1 and self.is_at_standby(reader), "the standby's place")
+                for number in range(2, 22):
+                    primary.append(put(0, b"%d" % number))
+                    self.assertEqual(primary.commit(), number)
+                    eventually(lambda: reader.end() == number, "the word that it is durable")
+                    self.assertTrue(self.is_at_standby(reader))
+
+    def is_at_standby(self, reader: NamedReader) -> bool:
+        assert reader.place is not None
+        return reader.place.generation == 0
 
 
 if __name__ == "__main__":

@@ -20,6 +20,8 @@ _AT_ONCE = 0.1
 """Seconds for which a reader of what is durable waits until what it sees in the log is."""
 _LEAST_PAUSE, _LONGEST_PAUSE = 0.1, 1.0
 """Seconds for which it asks for nothing more, once that was in vain: twice as long each time."""
+_BETWEEN = 0.02
+"""Seconds between two questions of who reads a standby, where there is nothing new: each of them is a pull of the holder's."""
 
 
 class NamedReader(Following):
@@ -45,6 +47,8 @@ class NamedReader(Following):
         self._addresses, self._known = keepers, 0.0
         self._poll: HolderPoll | None = None
         self._asks_from, self._pauses = 0.0, Backoff(_LEAST_PAUSE, _LONGEST_PAUSE)
+        self._holder: Place | None = None
+        """Of the standby that is read: who holds the database."""
 
     def _leave(self) -> None:
         if self._reader is not None:
@@ -60,10 +64,12 @@ class NamedReader(Following):
         `TimedOut` where the keepers name another run than the one that they led to, again and again, or one that lacks what was durable."""
         deadline, waits = time.monotonic() + self.keepers.patience, Backoff(QUICKEST, SLOWEST)
         while True:
-            hard = self._asked(lambda reader: reader.status().hard + self._shift)
+            hard = self._hard()
             if not self.durable_only:
                 return hard
             is_confirmed = self._is_confirmed(hard)
+            if is_confirmed and self._holder is not None:
+                hard, is_confirmed = self._followed(hard, self._holder)
             if is_confirmed and min(hard, self._durable) >= self._returned:
                 self._returned = min(hard, self._durable)
                 return self._returned
@@ -75,6 +81,10 @@ class NamedReader(Following):
                 raise TimedOut(f"no keeper has confirmed in {self.keepers.patience} s {lacks}")
             time.sleep(waits.next())
 
+    def _hard(self) -> int:
+        """The end of the log of the service that is read."""
+        return self._asked(lambda reader: reader.status().hard + self._shift)
+
     def _is_confirmed(self, hard: int) -> bool:
         """Whether the run that is read from, whose log ends at `hard`, is the holder's or a standby's still. How far its blocks are the
         archive's is known then: those of a run that is over may be others, and a standby becomes a holder when it takes over."""
@@ -82,9 +92,33 @@ class NamedReader(Following):
         told = [place for place in (self.keepers.where(), self.keepers.standby()) if place is not None]
         same = [place for place in told if place.run == self.place.run]
         self._durable = max(self._durable, *(place.archived for place in same), 0)
-        if any(place.generation > 0 for place in same):
+        is_at_holder = any(place.generation > 0 for place in same)
+        if is_at_holder:
             self._have_archived(hard)
+        self._holder = None if is_at_holder or not same else next((place for place in told if place.generation > 0), None)
         return bool(same) or not told
+
+    def _followed(self, hard: int, holder: Place) -> tuple[int, bool]:
+        """Has the holder's keeper archive what is in its log, and that of the standby, whose log ends at `hard`, follow. Returns where that
+        ends then, and whether it is the same standby still."""
+        if time.monotonic() < self._asks_from:
+            return hard, True
+        assert self.place is not None
+        standby, ends, known = self.place, time.monotonic() + _AT_ONCE, self._durable
+        archived = self.keepers.archived_at_once(holder, known, _AT_ONCE)
+        self._durable = max(known, archived or 0)
+        if archived is not None and hard < self._durable:
+            self.keepers.follow(standby)
+        waits = Backoff(QUICKEST, SLOWEST)
+        while hard < self._durable and time.monotonic() < ends and self._run == standby.run:
+            time.sleep(waits.next())
+            hard = self._hard()
+        if archived is None or hard < self._durable:
+            self._asks_from = time.monotonic() + self._pauses.next()
+        else:
+            self._pauses.reset()
+            self._asks_from = time.monotonic() + (_BETWEEN if archived == known else 0.0)
+        return hard, self._run == standby.run
 
     def _have_archived(self, hard: int) -> None:
         """Has the holder's keeper archive what is in the log, as a commit does that waits until it is durable."""

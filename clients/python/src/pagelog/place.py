@@ -446,6 +446,22 @@ class Keepers:
         answer = self._ask(place.lines, ("durable", self.name, place.generation, position), seconds, place.of)
         return self._fate(answer, place, position)
 
+    def archived_at_once(self, place: Place, known: int, seconds: float) -> int | None:
+        """How far its holder has archived all that is in its log when this is asked: `known` or further; None where that does not answer
+        within so many seconds. Raises `Dropped`."""
+        answer = self._ask(place.lines, ("durable", self.name, place.generation, known + 1), seconds, place.of)
+        fixed, keys = _parted(answer)
+        match fixed:
+            case ["above", _, generation, end] if generation == str(place.generation) and keys.get("of") == place.of and end.isdecimal():
+                return max(known, int(end))
+        fate = self._fate(answer, place, known + 1)
+        return None if fate is None or fate.is_lost else fate.end
+
+    def follow(self, standby: Place) -> None:
+        """Tells the keeper of a standby that more is archived than that has."""
+        if (line := self._asked(standby.lines, ("ring", self.name, 0), _ANSWER, standby.of)) is not None:
+            self._lines[standby.lines] = line
+
     def _fate(self, words: list[str], place: Place, position: int) -> Fate | None:
         """What an answer says of this very run. Raises `Dropped`."""
         fixed, keys = _parted(words)
@@ -488,10 +504,11 @@ def _place(words: list[str]) -> Place | None:
 
 
 def _standby(words: list[str], lines: str) -> Place | None:
+    """As told over these lines: an older keeper does not name those of the standby's."""
     fixed, keys = _parted(words)
     match fixed:
         case ["standby", _, address, run, reached, base, shift, *_]:
-            return _read("0", run, address, reached, lines, base, shift, "0", keys)
+            return _read("0", run, address, reached, keys.get("lines", lines), base, shift, "0", keys)
         case _:
             return None
 

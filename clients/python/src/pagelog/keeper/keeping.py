@@ -50,6 +50,8 @@ LOOKS = 4
 """How many looks there are in a ttl."""
 _SOON = 0.05
 """Seconds between two looks while a switchover waits for its standby: they alone tell how near it is, which a fast writer undoes."""
+_NEXT = 0.02
+"""Seconds after a look before one that a reader of a standby asks for."""
 _log = logging.getLogger("pagelog.keeper")
 
 
@@ -91,6 +93,9 @@ class Keeper:
         self.synchronous = Synchronous()
         self._looks = 0
         """How many PostgreSQL has confirmed."""
+        self._looked = 0.0
+        self._next_look: asyncio.TimerHandle | None = None
+        """When the last one ended, and the timer of one that comes before it is due."""
         self._said = ""
         self._stops = False
         self._may_have = False
@@ -344,8 +349,15 @@ class Keeper:
         usual = self.settings.ttl / LOOKS
         return min(usual, _SOON) if any(each.is_awaited for each in self.databases.values()) else usual
 
+    def _see_next_look(self) -> None:
+        """The next one has come."""
+        if self._next_look is not None:
+            self._next_look.cancel()
+        self._next_look = None
+
     async def _look(self) -> None:
         reached = {each.row.id: reached for each in self.databases.values() if each.is_known and (reached := each.follows) is not None}
+        self._see_next_look()
         began = seconds()
         try:
             self.look = await self._session.ask(self._session.referee.look, reached, self._report())
@@ -356,6 +368,8 @@ class Keeper:
             self._say_of_referee(str(error))
             await asyncio.sleep(self.settings.ttl / LOOKS / 4)
             return
+        finally:
+            self._looked = seconds()
         self.synchronous = self.look.synchronous
         self._looks += 1
         self._note_numbers()
@@ -505,7 +519,9 @@ class Keeper:
             return ("standby", name, "-", "-", "-", "-", "-")
         own, follows = database.served, database.follows
         reached = follows if own is not None and own.run == found.run and follows is not None else found.reached
-        return ("standby", name, found.address, found.run, reached, found.images, found.shift, *of_word(Of(database.row.identity, found.run)))
+        keeper = self.look.keeper(found.keeper)
+        keys = of_word(Of(database.row.identity, found.run)) + (() if keeper is None else (Key(f"lines={keeper.lines}"),))
+        return ("standby", name, found.address, found.run, reached, found.images, found.shift, *keys)
 
     def durable(self, line: Line, name: str, generation: int, position: int, of: Of | None = None) -> None:
         """Answers now or later. Of a database that has the name no more PostgreSQL knows what became."""
@@ -518,10 +534,20 @@ class Keeper:
             line.say("unknown", name)
 
     def ring(self, name: str, generation: int, of: Of | None = None) -> None:
-        """Looks for new blocks, if it is held here."""
+        """Looks for new blocks, if it is held here; of a standby here it looks at the archive, which that follows."""
         database = self._named(name)
-        if database is not None and generation == self._held(name) and self._is_of(database, of):
+        if database is None or not self._is_of(database, of):
+            return
+        if generation == self._held(name):
             database.work.ring()
+        elif of is not None and database.follows is not None:
+            self._look_soon()
+
+    def _look_soon(self) -> None:
+        """Looks before it is due, and a while after the last look at the soonest, however often it is asked."""
+        if self._next_look is None:
+            left = max(0.0, self._looked + _NEXT - seconds())
+            self._next_look = asyncio.get_running_loop().call_later(left, self._session.woken.set)
 
     def _is_of(self, database: Database, of: Of | None) -> bool:
         """Whether this run of it is held here; an older client says none."""
