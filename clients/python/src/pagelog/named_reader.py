@@ -8,7 +8,7 @@ from typing import Callable, Iterator, Sequence, TypeVar
 from pagelog.block import Block
 from pagelog.errors import TimedOut
 from pagelog.following import GONE, Following
-from pagelog.place import QUICKEST, SLOWEST, BelowBase
+from pagelog.place import QUICKEST, SLOWEST, BelowBase, Place
 from pagelog.polling import HolderPoll, poll_of
 from pagelog.reader import Reader, Span
 from pagelog.repeating import Backoff
