@@ -304,7 +304,7 @@ PLANTS = {
     "looks, each time": Plant("keeping", "        if self._next_look is None:\n", "        if True:\n", "readers", "however_often_a_keeper"),
     "a standby, in vain": Plant("../named_reader", "            self._asks_from = time.monotonic() + self._pauses.next()\n        else:\n            self._pauses.reset()\n            self._asks_from",
                                 "            pass\n        else:\n            self._pauses.reset()\n            self._asks_from", "readers", "does_not_follow"),
-    "durable, in vain": Plant("../named_reader", "            self._asks_from = time.monotonic() + self._pauses.next()\n", "            pass\n",
+    "durable, in vain": Plant("../named_reader", "        else:\n            self._asks_from = time.monotonic() + self._pauses.next()\n", "",
                               "readers", "not_asked_each_time"),
     "left, asked": Plant("../named", " or self.keepers.has_left(place):", ":", "named", "is_being_ended_is_not_asked"),
     "not open, not asked": Plant("../named", "place if place.generation > newest else None", "None", "named", "lets_nobody_in_yet"),
