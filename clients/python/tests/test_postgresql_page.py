@@ -7,15 +7,17 @@ import os
 import pty
 import re
 import signal
+import sqlite3
 import subprocess
 import sys
 import threading
 import unittest
+from contextlib import closing
 from pathlib import Path
-from typing import Any
+from typing import Any, Callable
 
 import psycopg
-from keepers import Keeping, eventually, new_database
+from keepers import Keeping, eventually
 from pagelog import NamedPrimary, Put
 from pagelog.keeper.bases import make_base
 from pagelog.keeper.referee import Referee, plain_url
@@ -23,6 +25,7 @@ from pagelog.place import UnknownName
 from postgres import Postgres, programs
 from service import PATIENCE, TOP
 from small_disk import SmallDisks
+from sqlite_named import connected
 
 TTL = 1.0
 PAGE = (TOP / "docs" / "POSTGRESQL.md").read_text()
@@ -42,7 +45,8 @@ class Paged(unittest.TestCase):
         self.url = self.of_keepers(self.server)
         self.keeping = self.enterContext(Keeping(ttl=TTL, url=self.url, more='metrics = "127.0.0.1:0"\n'))
         self.keeping.referee.prepare()
-        self.row = new_database(self.keeping.referee, "shop")
+        self.assertTrue(self.keeping.referee.create("shop", self.keeping.table.read_text(), b"s" * 16))
+        self.row = self.keeping.row()
         self.keeping.file.rename(self.folder / "keeper.toml")
         self.keeping.file = self.folder / "keeper.toml"
         self.environment = {**os.environ, "PATH": f"{self.folder}:{programs()}:{os.environ['PATH']}", "URL": self.url,
@@ -146,18 +150,8 @@ class Backups(Paged):
         self.write(1, 2, 3)
         self.run_printed(dump)
         self.write(4, 5)
-        holder, place = str(self.keeping.row().holder), self.keeping.place()
-        other = {"a": "b", "b": "a"}[holder]
-        for name in "ab":
-            self.keeping.kill(name)
-        [(pid, _)] = self.services(other)
-        os.kill(pid, signal.SIGKILL)  # what the standby has would be archived again
-        self.restore(commands()["Restore it"][0])
-        self.keeping.start(other)
-        self.keeping.place(least=place.generation + 1)
-        self.write(6)
-        self.keeping.start(holder)
-        eventually(lambda: [each["run"] for each in self.asides()] == [place.run], "what is set aside")
+        place = self.keeping.place()
+        holder = self.set_aside(lambda: self.write(6))
         self.assertEqual(self.pages(), {1, 2, 3, 6})
         eventually(lambda: self.keeping.metrics(holder)["pagelog_keeper_set_aside", ""] == 1, "the metric")
         see, save, end = commands()["It was restored"][0].splitlines()
@@ -170,6 +164,55 @@ class Backups(Paged):
         self.assertIn("end it [y/N]", said)
         self.assertIn("saved positions up to 5 as database shop-saved2, and compared them\nended process", said)
         eventually(lambda: not self.asides() and self.keeping.metrics(holder)["pagelog_keeper_set_aside", ""] == 0, "the end of it")
+
+    def test_sqlite_opens_what_was_saved_of_a_run_that_began_with_images(self) -> None:
+        dump, _ = self.backed_up()
+        with closing(connected(self.keeping.addresses)) as writer:
+            writer.execute("CREATE TABLE t (n INTEGER PRIMARY KEY)")
+            self.insert(writer, 1, 2, 3)
+            generation = self.keeping.place().generation
+            self.keeping.word("succeed", "shop")
+            self.keeping.place(least=generation + 1)
+            self.insert(writer, 4)
+            self.run_printed(dump)
+            self.insert(writer, 5, 6)
+        self.assertGreater(self.keeping.place().shift, 0)
+
+        def write() -> None:
+            with closing(connected(self.keeping.addresses)) as other:
+                self.insert(other, 7)
+
+        self.set_aside(write)
+        end = int(re.findall(r"ends at position (\d+)", self.keeping.word("rescue", "shop"))[0])
+        self.run_printed(commands()["It was restored"][0].splitlines()[1])
+        eventually(lambda: self.is_known("shop-saved"), "what was saved")
+        with closing(connected(self.keeping.addresses, name="shop-saved", file="shop", id=3, mode="ro")) as saved:
+            self.assertEqual(saved.execute("SELECT n FROM t").fetchall(), [(n,) for n in (1, 2, 3, 4, 5, 6)])
+        with self.keeping.reader("shop-saved") as reader:
+            self.assertEqual(reader.end(), end)
+        with closing(connected(self.keeping.addresses, id=3, mode="ro")) as shop:
+            self.assertEqual(shop.execute("SELECT n FROM t").fetchall(), [(n,) for n in (1, 2, 3, 4, 7)])
+
+    def insert(self, writer: sqlite3.Connection, *numbers: int) -> None:
+        for number in numbers:
+            writer.execute("INSERT INTO t VALUES (?)", (number,))
+
+    def set_aside(self, write: Callable[[], None]) -> str:
+        """The holder is killed, and its service is not; PostgreSQL is restored, and another keeper takes over, to which is written. Returns
+        the keeper that has a service set aside, once it is back."""
+        holder, place = str(self.keeping.row().holder), self.keeping.place()
+        other = {"a": "b", "b": "a"}[holder]
+        for name in "ab":
+            self.keeping.kill(name)
+        for pid, _ in self.services(other):
+            os.kill(pid, signal.SIGKILL)  # what a standby has would be archived again
+        self.restore(commands()["Restore it"][0])
+        self.keeping.start(other)
+        self.keeping.place(least=place.generation + 1)
+        write()
+        self.keeping.start(holder)
+        eventually(lambda: [each["run"] for each in self.asides()] == [place.run], "what is set aside")
+        return holder
 
     def backed_up(self) -> list[str]:
         return commands()["Back it up"][0].splitlines()

@@ -111,6 +111,14 @@ class SetBack(Postgres):
                        "recovery_target_action = promote\nrecovery_target_timeline = current\n")  # fmt: skip
         self.call(["touch", str(self.data / "recovery.signal")], check=True)
         self.start()
+        eventually(self._lets_in, "the end of the recovery")
+
+    def _lets_in(self) -> bool:
+        try:
+            psycopg.connect(self.tables).close()
+        except psycopg.OperationalError:
+            return False
+        return True
 
 
 @dataclass(frozen=True)
