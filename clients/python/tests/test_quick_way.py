@@ -257,7 +257,7 @@ class Tells(Hot):
         self.assertEqual(self.ends, [])
         self.assert_whole()
 
-    async def test_how_far_it_has_told_is_known_to_the_next_life_of_the_keeper(self) -> None:
+    async def test_how_far_it_has_acknowledged_is_known_to_the_next_life_of_the_keeper(self) -> None:
         client = await self.hot()
         for _ in range(3):
             position = await self.commit_quickly(client)

@@ -261,21 +261,21 @@ class Runs(unittest.TestCase):
         self.assertIsNone(Run.adopt(self.folder, "shop", run.name))
         self.assertEqual(list(self.folder.iterdir()), [])
 
-    def test_how_far_it_was_told_to_be_archived_is_known_to_a_later_keeper(self) -> None:
+    def test_how_far_it_was_acknowledged_is_known_to_a_later_keeper(self) -> None:
         run = self.start()
-        assert run.told is not None
+        assert run.acknowledged is not None
         for position in (7, 5):
-            run.told.note(position)
+            run.acknowledged.note(position)
         adopted = Run.adopt(self.folder, "shop", run.name)
         assert adopted is not None
         self.assertEqual(adopted.seen, Seen(0, 7))
         adopted.note_seen(Seen(3, 6))
         self.assertEqual(adopted.seen, Seen(3, 7))
-        self.assertIsNone(Run(self.folder, run.facts, -1).told)  # of a process that is not known to be this one
+        self.assertIsNone(Run(self.folder, run.facts, -1).acknowledged)  # of a process that is not known to be this one
         os.kill(run.facts.pid, signal.SIGKILL)
         adopted.end()
         run.leave()
-        self.assertEqual(run.told.position, 7)
+        self.assertEqual(run.acknowledged.position, 7)
 
     def test_an_adoption_reads_its_own_note_alone_and_opens_no_other_process(self) -> None:
         run = self.start()

@@ -254,7 +254,7 @@ class QuickWay:
         self._ways, self._library, self._told = ways, library, told
         self._service, pull = line
         self._name, self._generation, self._of = row.name, served.generation, Of(row.identity, served.run)
-        self._noted = served.told  # as long as the thread may write there
+        self._noted = served.acknowledged  # as long as the thread may write there
         try:
             self._news, self._to_news = os.pipe2(os.O_NONBLOCK | os.O_CLOEXEC)
         except OSError:

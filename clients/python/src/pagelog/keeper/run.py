@@ -14,8 +14,8 @@ from pathlib import Path
 from typing import Any, Iterator, Mapping
 
 from pagelog.errors import PagelogError
+from pagelog.keeper.acknowledged import Acknowledged, acknowledged_of, new_memory
 from pagelog.keeper.table import KEEPER
-from pagelog.keeper.told import Told, new_memory, told_of
 
 WORKERS = 4
 """Threads of a service."""
@@ -91,22 +91,22 @@ class Run:
     """A running service, that this keeper started or adopted. It outlives its keeper."""
 
     def __init__(
-        self, folder: Path, facts: Facts, descriptor: int, child: subprocess.Popen[bytes] | None = None, told: Told | None = None
+        self, folder: Path, facts: Facts, descriptor: int, child: subprocess.Popen[bytes] | None = None, acknowledged: Acknowledged | None = None
     ) -> None:
         self.folder = folder
         self.facts = facts
         self.descriptor = descriptor
         """A pidfd, which can be read once the process has ended."""
         self._child = child
-        self._told = told
+        self._acknowledged = acknowledged
 
     @property
-    def told(self) -> Told | None:
-        """Up to where anybody was told that it is archived; None of a process that an older keeper has started."""
-        if self._told is None and self.descriptor >= 0:
-            told = told_of(self.facts.pid)
-            self._told = told if self.is_alive else None  # else its number may be another process's by now
-        return self._told
+    def acknowledged(self) -> Acknowledged | None:
+        """Up to where it was acknowledged as archived; None of a process that an older keeper has started."""
+        if self._acknowledged is None and self.descriptor >= 0:
+            acknowledged = acknowledged_of(self.facts.pid)
+            self._acknowledged = acknowledged if self.is_alive else None  # else its number may be another process's by now
+        return self._acknowledged
 
     @property
     def name(self) -> str:
@@ -132,9 +132,9 @@ class Run:
         child = None
         descriptor = None
         try:
-            child, told = _started(words, said)
+            child, acknowledged = _started(words, said)
             descriptor = os.pidfd_open(child.pid)
-            made = cls(program.folder, _facts_of(name, run, child.pid), descriptor, child, told)
+            made = cls(program.folder, _facts_of(name, run, child.pid), descriptor, child, acknowledged)
             made._note()
             _give(child, table)
             made._note(address=_address(child, program.patience))
@@ -184,9 +184,9 @@ class Run:
 
     @property
     def seen(self) -> Seen:
-        """What was noted so last, and exactly up to where somebody was told that it is archived; nothing where neither can be read."""
-        seen, told = seen_of(self.folder, self.facts), self.told
-        return seen if told is None else replace(seen, archived=max(seen.archived, told.position))
+        """What was noted so last, and exactly up to where it was acknowledged; nothing where neither can be read."""
+        seen, acknowledged = seen_of(self.folder, self.facts), self.acknowledged
+        return seen if acknowledged is None else replace(seen, archived=max(seen.archived, acknowledged.position))
 
     def _note(self, **facts: Any) -> None:
         self.facts = replace(self.facts, **facts)
@@ -236,14 +236,14 @@ class Run:
         os.close(self.descriptor)
 
 
-def _started(words: list[str], said: Path) -> tuple[subprocess.Popen[bytes], Told]:
-    """The process, which has the number open that says up to where somebody was told that it is archived."""
+def _started(words: list[str], said: Path) -> tuple[subprocess.Popen[bytes], Acknowledged]:
+    """The process, which has the number open that says up to where it was acknowledged."""
     memory = new_memory()
     try:
-        told = Told(memory)
+        acknowledged = Acknowledged(memory)
         with said.open("wb") as errors:
             return subprocess.Popen(words, stdin=subprocess.PIPE, stdout=subprocess.PIPE, stderr=errors, start_new_session=True,
-                                    env=_environment(), pass_fds=(memory,)), told  # fmt: skip
+                                    env=_environment(), pass_fds=(memory,)), acknowledged  # fmt: skip
     finally:
         os.close(memory)
 

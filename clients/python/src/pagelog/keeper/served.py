@@ -10,6 +10,7 @@ from typing import Iterable, Iterator, Sequence
 
 from pagelog.block import Block
 from pagelog.connection import Address, Connection
+from pagelog.keeper.acknowledged import Acknowledged
 from pagelog.keeper.ahead import ahead, pieces_of
 from pagelog.keeper.bases import NOTHING, Bases, snapshot
 from pagelog.keeper.images import blocks_of, labelled
@@ -21,7 +22,6 @@ from pagelog.keeper.referee import BrokenArchive, Referee, digest
 from pagelog.keeper.rows import TableOf, Where
 from pagelog.keeper.run import Program, Run
 from pagelog.keeper.table import KEEPER, Form, keeper_of, quorum_of, table_of_run
-from pagelog.keeper.told import Told
 from pagelog.operator import Operator
 from pagelog.reader import Reader
 from pagelog.reply import Entries, State, expect
@@ -45,8 +45,8 @@ class Served:
         self.run = run
         self.kind = Kind.HOLDER
         self.generation = 0
-        self.told: Told | None = None
-        """Where it is noted how far somebody was told that it is archived."""
+        self.acknowledged: Acknowledged | None = None
+        """Where it is noted how far it was acknowledged."""
         self._reached = 0
         self.chain = b""
         self.shift = 0
@@ -128,8 +128,8 @@ class Served:
     @reached.setter
     def reached(self, position: int) -> None:
         self._reached = position
-        if self.told is not None:
-            self.told.note(position)  # before anybody is told
+        if self.acknowledged is not None:
+            self.acknowledged.note(position)  # before it is acknowledged
 
     # Its beginning and its end.
 
@@ -145,7 +145,7 @@ class Served:
         self._quick_looker = Looker(process.address, credentials, self.timeout)
         self._reader = Reader(self._connection(process), credentials)
         self._puller = Puller(process.address, credentials, self.timeout)
-        self.told = process.told
+        self.acknowledged = process.acknowledged
         self.process = process  # last: from now on the event loop asks it
 
     def end(self) -> None:

@@ -1,4 +1,4 @@
-"""Up to which position anybody was told that a run is archived: a number in memory that the process of its service has open, without
+"""Up to which position a run was acknowledged as archived: a number in memory that the process of its service has open, without
 knowing of it. So it lives as long as what it is about, and needs no disk; a later life of the keeper finds it at the process, also where
 PostgreSQL went back meanwhile, and knows whether the service has what was acknowledged and PostgreSQL lacks."""
 
@@ -10,7 +10,7 @@ import os
 import weakref
 from pathlib import Path
 
-_NAME = "pagelog-told"
+_NAME = "pagelog-acknowledged"
 _SIZE = mmap.PAGESIZE
 _FAILED = ctypes.c_void_p(-1).value
 _libc = ctypes.CDLL(None, use_errno=True)
@@ -19,7 +19,7 @@ _libc.mmap.argtypes = [ctypes.c_void_p, ctypes.c_size_t, ctypes.c_int, ctypes.c_
 _libc.munmap.argtypes = [ctypes.c_void_p, ctypes.c_size_t]
 
 
-class Told:
+class Acknowledged:
     """The number of one service. It keeps no descriptor of its keeper's, as an `mmap` of Python's would."""
 
     def __init__(self, descriptor: int) -> None:
@@ -29,7 +29,7 @@ class Told:
             raise OSError(ctypes.get_errno(), "the memory of a service could not be mapped")
         weakref.finalize(self, _libc.munmap, place, _SIZE)
         self.address = int(place)
-        """Where it is: a thread that tells writes it there, as long as this object is."""
+        """Where it is: a thread that acknowledges writes it there, as long as this object is."""
         self._number = ctypes.c_uint64.from_address(self.address)
 
     @property
@@ -38,7 +38,7 @@ class Told:
         return int(self._number.value)
 
     def note(self, position: int) -> None:
-        """So far it may be told from now on."""
+        """So far it may be acknowledged from now on."""
         if position > self._number.value:
             self._number.value = position
 
@@ -50,7 +50,7 @@ def new_memory() -> int:
     return descriptor
 
 
-def told_of(pid: int) -> Told | None:
+def acknowledged_of(pid: int) -> Acknowledged | None:
     """The number of a process that runs; None where it has none, as one that an older keeper has started."""
     folder = Path(f"/proc/{pid}/fd")
     try:
@@ -62,9 +62,9 @@ def told_of(pid: int) -> Told | None:
     return None
 
 
-def _opened(file: Path) -> Told:
+def _opened(file: Path) -> Acknowledged:
     descriptor = os.open(file, os.O_RDWR | os.O_CLOEXEC)
     try:
-        return Told(descriptor)
+        return Acknowledged(descriptor)
     finally:
         os.close(descriptor)
