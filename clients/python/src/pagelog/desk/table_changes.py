@@ -150,10 +150,11 @@ class Change:
                 self._wait(waits)
                 continue
             left = [each for each in older if not each.is_aside and self._beats.may_be_alive(each.keeper)]
+            is_done = not left or (is_late and has_ended)
+            if is_done and self._referee.newest_table(row.id) == (row.table_number, row.run):
+                return older  # by a statement that writes: an old leader of PostgreSQL has not heard of a change
             if is_late and not has_ended:
                 has_ended, self._ends = True, time.monotonic() + 2 * self._ttl  # for what was ended just now
-            elif (not left or is_late) and self._referee.newest_table(row.id) == (row.table_number, row.run):
-                return older  # by a statement that writes: an old leader of PostgreSQL has not heard of a change
             self._wait(waits)
 
     def _end(self, row: Row) -> None:
