@@ -372,6 +372,8 @@ PLANTS = {
     "a table of another database": Plant("statements", "WHERE id = %(id)s AND identity = %(identity)s::uuid AND table_number = %(seen)s",
                                          "WHERE id = %(id)s AND table_number = %(seen)s", "changes", "knows_the_newest_one"),
     "changed, a stopped session": Plant("referee", "        self._end_sessions(holder)\n        return", "        return", "changes", "holds_up_no_change"),
+    "changed, away": Plant("../desk/table_changes", "            except (Away, Doubt) as error:\n", "            except ZeroDivisionError as error:\n", "changes",
+                           "away_meanwhile"),
     "changed, believed": Plant("../desk/table_changes", " and self._referee.newest_table(row.id) == (row.table_number, row.run):", ":", "changes",
                                "old_leader"),
     "changed, paused": Plant("machine", "    if row.paused and not has_old_table:", "    if row.paused:", "changes", "while_it_is_paused"),

@@ -29,7 +29,7 @@ from pagelog.desk.words import pagelogctl
 from pagelog.errors import PagelogError
 from pagelog.keeper.keeping import Keeper
 from pagelog.keeper.machine import State
-from pagelog.keeper.referee import Referee
+from pagelog.keeper.referee import Away, Doubt, Referee
 from pagelog.keeper.rows import Look, TableOf, Where
 from pagelog.keeper.schema import NUMBERS
 from pagelog.keeper.served import Served
@@ -635,6 +635,13 @@ class OneKeeper(Changing):
         referee = Mock(everything=lambda: next(looks), newest_table=Mock(return_value=(2, None)))
         self.assertEqual(Change(referee, row, 1.5, 10).carry_out(), [])
         self.assertIsNone(next(looks, None))
+
+    def test_a_postgresql_that_is_away_meanwhile_is_asked_again_until_it_is_late(self) -> None:
+        row = replace(self.keeping.row(), table_number=2, run=None)
+        for error in (Away("away"), Doubt("doubt")):
+            referee = Mock(everything=Mock(side_effect=[error, Look((row,))]), newest_table=Mock(return_value=(2, None)))
+            self.assertEqual(Change(referee, row, 1.5, PATIENCE).carry_out(), [])
+            self.assertRaises(type(error), Change(Mock(everything=Mock(side_effect=error)), row, 1.5, 0).carry_out)
 
     def test_nothing_is_changed_while_an_older_keeper_lives(self) -> None:
         def live() -> None:
