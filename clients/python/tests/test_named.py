@@ -378,6 +378,8 @@ class Words(Saying):
 
     def setUp(self) -> None:
         super().setUp()
+        answer = _Line.answer  # where the machine stands still for a second, it is no silence of a keeper
+        self.enterContext(patch.object(_Line, "answer", lambda line, timeout: answer(line, PATIENCE)))
         self.keepers = Keepers("shop", [self.keeper(), self.keeper()], 0.0)
         self.addCleanup(self.keepers.close)
 
