@@ -43,13 +43,14 @@ static void wait_sometimes(void) {
     errno = known;
 }
 
-#define DELAYED(type, name, parameters, arguments)                     \
+#define DELAYED_IF(condition, type, name, parameters, arguments)       \
     type name parameters {                                             \
         static type(*real) parameters;                                 \
         if (!real) real = (type(*) parameters)dlsym(RTLD_NEXT, #name); \
-        wait_sometimes();                                              \
+        if (condition) wait_sometimes();                               \
         return real arguments;                                         \
     }
+#define DELAYED(type, name, parameters, arguments) DELAYED_IF(1, type, name, parameters, arguments)
 
 DELAYED(ssize_t, read, (int file, void *to, size_t count), (file, to, count))
 DELAYED(ssize_t, write, (int file, const void *from, size_t count), (file, from, count))
@@ -59,8 +60,9 @@ DELAYED(ssize_t, sendmsg, (int file, const struct msghdr *message, int flags), (
 DELAYED(ssize_t, recvmsg, (int file, struct msghdr *message, int flags), (file, message, flags))
 DELAYED(int, connect, (int file, const struct sockaddr *to, socklen_t size), (file, to, size))
 DELAYED(int, accept4, (int file, struct sockaddr *from, socklen_t *size, int flags), (file, from, size, flags))
-DELAYED(int, poll, (struct pollfd * files, nfds_t count, int timeout), (files, count, timeout))
-DELAYED(int, epoll_wait, (int file, struct epoll_event *events, int count, int timeout), (file, events, count, timeout))
+// Who polls awake does not sleep, however slow the machine is.
+DELAYED_IF(timeout != 0, int, poll, (struct pollfd * files, nfds_t count, int timeout), (files, count, timeout))
+DELAYED_IF(timeout != 0, int, epoll_wait, (int file, struct epoll_event *events, int count, int timeout), (file, events, count, timeout))
 DELAYED(int, fsync, (int file), (file))
 DELAYED(int, fdatasync, (int file), (file))
 DELAYED(int, shutdown, (int file, int how), (file, how))
