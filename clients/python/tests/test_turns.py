@@ -299,7 +299,8 @@ class Rules(unittest.TestCase):
 
 class Lines(Kept):
     keepers = "a"
-    options: dict[str, object] = {"standby": False}
+    options: dict[str, object] = {"standby": False, "ttl": 60.0}
+    """So long that no turn ends because the machine stands still."""
 
     def test_turns_of_a_keeper(self) -> None:
         """Two connections; the end of the first one is the turn of the second."""
@@ -317,12 +318,22 @@ class Lines(Kept):
                     self.assertEqual(first.readline().strip(), told)
             self.assertEqual(second.readline().strip(), "turn shop other")
 
+
+class Generations(Kept):
+    keepers = "a"
+    options: dict[str, object] = {"standby": False}
+
+    def told(self, generation: int) -> str:
+        """What is told who asks for the turn at once, in this generation, or in the first later one that does not end before."""
+        generation = self.keeping.place(least=generation).generation
+        with self.keeping.line() as line:
+            line.write("turn shop now\n")
+            line.flush()
+            said = str(line.readline().strip())
+        return self.told(generation + 1) if said == "elsewhere shop" else said
+
     def test_the_first_one_of_a_generation_who_is_alone_has_the_turn(self) -> None:
         """Who asks for it at once, as SQLite without a busy timeout, and in each generation anew."""
         for generation in range(2, 5):
             self.keeping.word("succeed", "shop")
-            self.keeping.place(least=generation)
-            with self.keeping.line() as line:
-                line.write("turn shop now\n")
-                line.flush()
-                self.assertEqual(line.readline().strip(), "turn shop other")
+            self.assertEqual(self.told(generation), "turn shop other")
