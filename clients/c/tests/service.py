@@ -35,6 +35,10 @@ def plain_environment(**more):
     return {**kept, **more}
 
 
+# What a service is to load, as the delays of scripts/slow.
+PRELOADED = {"LD_PRELOAD": text} if (text := os.environ.get("PAGELOG_TEST_PRELOAD")) else {}
+
+
 class Service:
     """Ends with the block that it is used in."""
 
@@ -51,7 +55,7 @@ class Service:
                 file.write(text), file.flush()
                 table = file.name
             words = list(prefix) + [PROGRAM] + [str(word) for word in [*words, "--table", table]]
-            self.process = subprocess.Popen(words, stdout=subprocess.PIPE, text=True, env=plain_environment(),
+            self.process = subprocess.Popen(words, stdout=subprocess.PIPE, text=True, env=plain_environment(**PRELOADED),
                                             stderr=subprocess.DEVNULL if quiet else None)
             line = self.process.stdout.readline().split()
         if len(line) != 2 or line[0] != "listening":
