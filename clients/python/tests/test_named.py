@@ -3,6 +3,7 @@
 from __future__ import annotations
 
 import itertools
+import select
 import socket
 import tempfile
 import threading
@@ -10,7 +11,7 @@ import time
 import unittest
 from dataclasses import replace
 from pathlib import Path
-from typing import Any, Callable
+from typing import Any, Callable, Sequence
 from unittest.mock import Mock, patch
 
 import pagelog
@@ -550,6 +551,19 @@ class Words(Saying):
         self.assertRaises(UnknownName, keepers.where)
         answers["durable"] = b"lost shop 1 dropped\n"
         self.assertRaisesRegex(Dropped, "was dropped", keepers.where)
+
+    def test_an_answer_that_came_while_this_process_stood_still(self) -> None:
+        """It is there, though the time for it is over."""
+        self.said = lambda _: b"at shop 1 r 127.0.0.1:1 5 127.0.0.1:2 0 0 0\n"
+        self.assertIsNotNone(self.keepers.where())
+        send = _Line.send
+
+        def sent(line: _Line, words: Sequence[object], timeout: float) -> None:
+            send(line, words, timeout)
+            select.select([line], [], [], PATIENCE)
+
+        with patch.object(_Line, "send", sent), patch("pagelog.place.time.monotonic", itertools.count(step=2 * PATIENCE).__next__):
+            self.assertIsNotNone(self.keepers.where())
 
     def test_an_answer_that_comes_byte_by_byte(self) -> None:
         """The time for a whole answer is over, though a byte came each time within the time-out for silence."""

@@ -16,7 +16,7 @@ from keepers import Keeping, eventually, new_database
 from pagelog import NamedReader
 from pagelog.keeper.keeping import Keeper
 from pagelog.keeper.served import seconds
-from pagelog.place import Fate, Place
+from pagelog.place import Fate, Place, _Line
 from pagelog.polling import EACH
 from service import PATIENCE, put, token
 from test_named import Named, Saying
@@ -41,6 +41,14 @@ class Superseded(Named):
             return self.told(words)
 
         self.addresses = [saying.keeper(holder), saying.keeper(self.told)]
+        answer = _Line.answer
+
+        def answered(line: _Line, timeout: float) -> list[str]:
+            """Of the one that does not stand still, however slow this machine is."""
+            is_still = self.addresses[0].endswith(f":{line._socket.getpeername()[1]}")
+            return answer(line, timeout if is_still else PATIENCE)
+
+        self.enterContext(patch.object(_Line, "answer", answered))
 
     def told(self, words: list[str]) -> bytes:
         place = self.places[-1]
@@ -80,6 +88,37 @@ class Superseded(Named):
         self.superseded()
         with patch("pagelog.polling._ANSWER", PATIENCE):
             self.assertEqual(reader.end(), 7)
+
+    def test_nor_does_one_of_a_process_that_stood_still_trust_what_was_said_before(self) -> None:
+        """Its poll stood still with it, and its thread is there."""
+        self.begin()
+        self.commit(2)
+        reader = self.reader()
+        late = [0.0]
+        with patch("pagelog.polling.time.monotonic", lambda now=time.monotonic: now() + late[0]), patch("pagelog.polling.EACH", PATIENCE):
+            self.assertEqual((reader.end(), reader.end()), (2, 2))
+            eventually(lambda: reader._poll is not None and reader._poll._asked > 0, "the first round")
+            self.superseded()
+            late[0] = 60.0
+            with patch("pagelog.polling._ANSWER", PATIENCE):
+                self.assertEqual(reader.end(), 7)
+
+    def test_a_poll_that_comes_late_to_its_first_round_asks(self) -> None:
+        self.begin()
+        self.commit(2)
+        reader = self.reader()
+        self.assertEqual((reader.end(), reader.end()), (2, 2))
+        eventually(lambda: reader._poll is not None and reader._poll._thread is None, "the end of the poll of an idle reader")
+        self.superseded()
+        start, late = threading.Thread.start, [0.0]
+
+        def started(thread: threading.Thread) -> None:
+            late[0] += 60.0 if thread.name == "pagelog-holder" else 0.0
+            start(thread)
+
+        with patch("pagelog.polling.time.monotonic", lambda now=time.monotonic: now() + late[0]), patch.object(threading.Thread, "start", started):
+            with patch("pagelog.polling._ANSWER", 10.0):
+                self.assertEqual(reader.end(), 7)
 
     def test_keepers_are_asked_for_all_readers_of_a_process_together(self) -> None:
         self.begin()

@@ -137,12 +137,15 @@ class _Line:
         self._socket.close()
 
     def answer(self, timeout: float) -> list[str]:
-        """The words of the answer, however slowly they come. Raises `OSError`."""
-        deadline = time.monotonic() + timeout
-        while True:
+        """The words of the answer, however slowly they come. What has come once the time is over is taken too: this process may have stood
+        still meanwhile. Raises `OSError`."""
+        deadline, is_over = time.monotonic() + timeout, False
+        while not is_over:
+            is_over = time.monotonic() >= deadline
             self._wait(select.POLLIN, deadline)
             if (answer := self.take()) is not None:
                 return answer
+        raise TimeoutError("no whole answer came")
 
     def send(self, words: Sequence[object], timeout: float) -> None:
         """Sends a question. Raises `OSError`."""
@@ -156,8 +159,7 @@ class _Line:
 
     def _wait(self, event: int, deadline: float) -> None:
         self._poll.register(self._socket, event)
-        left = deadline - time.monotonic()
-        if left <= 0 or not self._poll.poll(1000 * left):  # one that is never silent is not waited for any longer either
+        if not self._poll.poll(1000 * max(0.0, deadline - time.monotonic())):
             raise TimeoutError("the keeper does not answer")
 
     def take(self) -> list[str] | None:

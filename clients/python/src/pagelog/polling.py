@@ -36,29 +36,32 @@ class HolderPoll:
         self._dropped: Dropped | None = None
         self._read = 0.0
         """When somebody read last."""
-        self._has_asked = False
-        """Whether a round has ended since the thread began."""
+        self._since = self._asked = 0.0
+        """When somebody read first after nobody had for a while; and when the last round that has ended began."""
         self._thread: threading.Thread | None = None
 
     def superseding(self, place: Place, known: float) -> Place | None:
         """The place of a later generation than this one, which keepers named at the time `known`; None where there is none, as far as
         they said last. It waits for them only where nobody has read for a while. Raises `Dropped`."""
         with self._told:
-            now = self._read = time.monotonic()
+            now = time.monotonic()
+            if now - self._read >= _IDLE:  # also where this process stood still, and its thread with it
+                self._since = now
+                self._told.notify_all()
+            self._read = now
             if self._thread is None:
-                self._has_asked = False
                 self._thread = threading.Thread(target=self._poll, name="pagelog-holder", daemon=True)
                 self._thread.start()
             if known < now - _IDLE:
-                self._told.wait_for(lambda: self._has_asked, _ANSWER)
+                self._told.wait_for(lambda: self._asked >= self._since, _ANSWER)
             if self._dropped is not None:
                 raise self._dropped
             return self._newest if self._newest.generation > place.generation else None
 
     def _poll(self) -> None:
-        silence = Backoff(2 * EACH, SLOWEST)
-        while self._is_wanted():
-            found, dropped = None, None
+        silence, is_wanted = Backoff(2 * EACH, SLOWEST), True  # who has begun it waits for a round, however late this comes to it
+        while is_wanted:
+            began, found, dropped = time.monotonic(), None, None
             try:
                 found = self._keepers.where()
             except Dropped as error:
@@ -66,15 +69,17 @@ class HolderPoll:
             except PagelogError:
                 pass  # those that answer may know less than others
             with self._told:
-                self._has_asked = True
+                self._asked = began
                 self._newest, self._dropped = found or self._newest, dropped or self._dropped
                 self._told.notify_all()
             if found is not None:
                 silence.reset()
-            time.sleep(EACH if found is not None else silence.next())
+            is_wanted = self._is_wanted(began, EACH if found is not None else silence.next())
 
-    def _is_wanted(self) -> bool:
+    def _is_wanted(self, began: float, pause: float) -> bool:
+        """After a pause since the round that began then, or once somebody waits for the next one."""
         with self._told:
+            self._told.wait_for(lambda: self._since > began, pause)
             if time.monotonic() - self._read < _IDLE:
                 return True
             self._keepers.close()
