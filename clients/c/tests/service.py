@@ -39,6 +39,28 @@ def plain_environment(**more):
 PRELOADED = {"LD_PRELOAD": text} if (text := os.environ.get("PAGELOG_TEST_PRELOAD")) else {}
 
 
+def others_sleep():
+    """Whether no other thread of this process runs."""
+    own = threading.get_native_id()
+    tasks = [task for task in pathlib.Path("/proc/self/task").iterdir() if int(task.name) != own]
+    try:
+        return all((task / "stat").read_text().rpartition(")")[2].split()[0] == "S" for task in tasks)
+    except OSError:
+        return False  # one has just ended
+
+
+def let_others_sleep():
+    """The sanitizers' allocator of gcc 12 knows no fork: where another thread is in it, as one that ends, a child would wait for that thread
+    for ever. So a fork waits until all others sleep, as they do in the end: but for one that looks for its reply awake."""
+    deadline = time.monotonic() + 5
+    while not others_sleep() and time.monotonic() < deadline:
+        time.sleep(0.0002)
+
+
+if "asan" in os.environ.get("LD_PRELOAD", ""):
+    os.register_at_fork(before=let_others_sleep)
+
+
 class Service:
     """Ends with the block that it is used in."""
 
