@@ -294,14 +294,14 @@ def _time(seen: int) -> datetime:
 
 def _words(found: Seen | TrailList) -> str:
     if isinstance(found, TrailList):
-        of = f" of generation {found.generation}{_run_of(found)}" if found.generation else ""
-        return (f"{_clock(found.ended_seen or found.seen)} list {found.run}{of} ends behind line {found.kept}, seen at {_clock(found.seen)}: "
+        of = f" of generation {found.generation}" if found.generation else ""
+        return (f"{_clock(found.ended_seen or found.seen)} list {found.run}{of} ends behind line {found.kept}{_run_of(found)}, seen at {_clock(found.seen)}: "
                 f"{found.ended}")  # fmt: skip
     return f"{_clock(found.seen)} list {found.run}: {entry_line(found.entry)}"
 
 
 def _run_of(one: TrailList) -> str:
-    return "" if one.of is None else f", run {one.of.partition('/')[2]},"
+    return "" if one.of is None else f" of run {one.of.partition('/')[2]}"
 
 
 def _clock(seen: int) -> str:
