@@ -188,7 +188,7 @@ class Adopts(Meanwhile):
         (folder / facts.file_name).write_text(json.dumps(vars(facts)))
 
     async def test_what_postgresql_does_not_answer_leaves_no_descriptor_open(self) -> None:
-        answers = {self.session.referee.table: ("", b""), self.session.referee.kept: Kept(5, b"c" * 16, 3)}
+        answers = {self.session.referee.table: ("", b"", 1), self.session.referee.kept: Kept(5, b"c" * 16, 3)}
 
         async def ask(call: object, *_: object) -> object:
             if call is away:
@@ -208,7 +208,7 @@ class Adopts(Meanwhile):
     async def test_one_that_was_taken_over_meanwhile_is_ended_once_a_look_shows_it(self) -> None:
         for left in (replace(ROW, run="other", generation=4, holder="b", address="b:1"), replace(ROW, run=None, holder=None, address=None)):
             self.setUp()
-            answers = {self.session.referee.table: ("", b""), self.session.referee.knows: True}
+            answers = {self.session.referee.table: ("", b"", 1), self.session.referee.knows: True}
             self.session.ask = AsyncMock(side_effect=lambda call, *_, answers=answers: answers.get(call))
             self.see()
             await self.done(lambda: self.database._acting.done())  # type: ignore[union-attr]

@@ -49,7 +49,7 @@ def service(**facts: Any) -> Mock:
     known = {"database": "shop", "run": "mine", "kind": Kind.HOLDER, "generation": 3, "reached": 5, "chain": b"c" * 16, "hard": 5, "shift": 0,
              "images": 0, "answers": 0, "entries": 0, "silent": 0.0, "is_alive": True, "is_broken": False, "is_open": True, "was_closed": False,
              "hangs": False, "went_back": False, "is_noted": False, "is_after_release": False, "is_full": False, "back_since": None,
-             "is_apart": False, **facts}  # fmt: skip
+             "is_apart": False, "table_number": 1, "identity": "", **facts}  # fmt: skip
     made = Mock(**known)
     made.share.return_value = 0.0
     made.pulled_at_once, made.looked_at_once = AsyncMock(return_value=[]), AsyncMock(return_value=True)
