@@ -356,6 +356,7 @@ PLANTS = {
     "broken series": Plant("machine", " or now - self._last > self.ttl / 2", "", "machine", "broken"),
     "asks": Plant("../desk/deleting", "    if yes:\n        return\n", "    return\n", "words", "prune_says_what_goes"),
     "asks before a drop": Plant("../desk/deleting", "    if yes:\n        return\n", "    return\n", "words", "drop_says_what_goes"),
+    "saved, not compared": Plant("rescuing", "    _compare(referee, log, base, end, chain)\n", "", "lives", "set_aside_is_shown"),
     "ended, not asked": Plant("../desk/rescue_words", "        agree(_ends(referee, row, chosen, saved, into), yes,",
                               "        agree(_ends(referee, row, chosen, saved, into), True,", "lives", "shown_saved_and_ended"),
     "keep left out": Plant("../desk/history_words", "accounts.archive_keep if keep is None", "accounts.archive_keep or 1 if keep is None", "words",

@@ -409,6 +409,10 @@ class WentBack(Kept):
                 f"1 to 3, which are saved as log {place.run} before\nPostgreSQL has positions 0 to 2, from ")  # fmt: skip
         with self.assertRaisesRegex(AssertionError, f"(?s){re.escape(goes)}.*: nothing was done: there is no terminal to ask at"):
             self.keeping.word(*ending, "--into", url, "--end", folder)
+        other = Trigger(self.keeping.url, "pagelog_block", "INSERT ON pagelog_block FOR EACH ROW",
+                        "NEW.data := set_byte(NEW.data, length(NEW.data) - 1, 0)")  # fmt: skip
+        self.assertIn("BrokenArchive", self.refused(*ending, "--as", "old", "--end", folder, "--yes"))
+        other.close()
         os.kill(pid, 0)
         self.assertIn("saved positions up to 3 as database old, and compared them", self.keeping.word("rescue", "shop", "--as", "old"))
         eventually(lambda: self.keeping.row("old").address is not None, "a place of it")
