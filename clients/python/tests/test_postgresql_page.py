@@ -37,6 +37,12 @@ def commands() -> dict[str, list[str]]:
     return {heading: re.findall(r"^```sh\n(.*?)^```", text, flags=re.M | re.S) for heading, text in sections.items()}
 
 
+class Page(unittest.TestCase):
+    def test_each_block_of_it_is_run_below(self) -> None:
+        run = {"Back it up": 1, "Restore it": 2, "It was restored": 1, "Move to another PostgreSQL": 1, "Its disk is full": 1}
+        self.assertEqual({heading: len(found) for heading, found in commands().items() if found}, run)
+
+
 class Paged(unittest.TestCase):
     """A server, keepers a and b, and a database; commands are run in a folder that has their keeper.toml."""
 
@@ -323,6 +329,8 @@ class Disks(Paged):
             self.assertIn(f"positions from {row.archived} on are kept", self.run_printed(prune, "y", KEEP=1))
             self.run_printed(vacuum)
             primary.durable(last)
+        [size] = re.findall(r"`(SELECT pg_size_pretty.*?)`", PAGE)
+        self.assertRegex(self.keeping.referee._ask(size)[0][0], r"^\d+ (kB|MB)$")
         self.assertEqual(self.keeping.row().archived, last)
 
     def fill_page(self, primary: NamedPrimary) -> None:
