@@ -297,13 +297,15 @@ static struct told ask_where(struct pagelog_keepers *keepers, char line[WHERE_BY
     return (struct told){.until = pagelog_after(ANSWER_MS)};
 }
 
-/* Takes an answer to it: for others it is not waited for long, once one has said something. */
+/* Takes an answer to it: for others it is not waited for long, once one has said something. For who opens,
+ * that one knows of no such database is nothing: another may. Else what became of it is asked then. */
 static void take_where(const struct pagelog_keepers *keepers, char *answer, uint64_t least, struct told *told,
                        struct pagelog_place *place) {
     size_t unknown = told->unknown;
     bool is_here = take_answer(keepers, answer, least, told, place);
     uint64_t soon = pagelog_after(is_here ? LATER_MS : SOON_MS);
-    if (told->unknown == unknown && soon < told->until) told->until = soon;
+    bool says_something = told->unknown == unknown || keepers->has_own;
+    if (says_something && soon < told->until) told->until = soon;
 }
 
 /* Whether none of those that were asked may still answer. */
@@ -459,13 +461,31 @@ void pagelog_keepers_tell_full(struct pagelog_keepers *keepers, const struct pag
     if (count > 0 && strcmp(words[0], "what") == 0) pagelog_line_leave(keeper); /* it answers both */
 }
 
+/* Why the run that this is a client of is lost, as soon as one of the keepers says that. They are asked side
+ * by side: one that is silent holds up nobody. */
+static enum pagelog_loss ask_loss(struct pagelog_keepers *keepers) {
+    const struct pagelog_place *own = &keepers->own;
+    char line[LINE_BYTES], of[PAGELOG_IDENTITY_BYTES + PAGELOG_RUN_BYTES], answer[PAGELOG_LINE_BYTES];
+    char *words[MOST_WORDS];
+    struct pagelog_fate fate = {0};
+    uint64_t until = pagelog_after(ANSWER_MS);
+    snprintf(of, sizeof of, "%s/%s", own->database, own->run);
+    snprintf(line, sizeof line, "durable %s %llu 0 of=%s\n", keepers->name,
+             (unsigned long long)own->generation, of);
+    for (size_t i = 0; i < keepers->count; i++)
+        if (keepers->keepers[i].version != 1) pagelog_line_ask(&keepers->keepers[i]);
+    while (!fate.loss && next_answer(keepers, line, until, answer))
+        if (!read_fate(words, split(answer, words), 0, of, &fate)) fate.loss = PAGELOG_NOT_LOST;
+    stop_asking(keepers, line, false);
+    return fate.loss;
+}
+
 /* Keepers have another database of the name, or none. DENIED: one says that this is so for good; a keeper
  * that is cut off may only know less. */
 static enum pagelog_outcome ask_own(struct pagelog_keepers *keepers) {
-    struct pagelog_fate fate = {0};
-    if (pagelog_fate_of(keepers, NULL, &keepers->own, 0, &fate) != PAGELOG_DONE) return PAGELOG_LOST;
-    if (fate.loss == PAGELOG_DROPPED) keepers->reason = "the database was dropped";
-    if (fate.loss == PAGELOG_ANOTHER) keepers->reason = "the keepers have another database of this name";
+    enum pagelog_loss loss = ask_loss(keepers);
+    if (loss == PAGELOG_DROPPED) keepers->reason = "the database was dropped";
+    if (loss == PAGELOG_ANOTHER) keepers->reason = "the keepers have another database of this name";
     return keepers->reason ? PAGELOG_DENIED : PAGELOG_LOST;
 }
 

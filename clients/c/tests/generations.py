@@ -270,6 +270,56 @@ def test_keys_that_it_does_not_know_are_passed_over():
             same(told, (5, 3, 4), (place.archived, place.base, place.shift))
 
 
+@contextlib.contextmanager
+def silent():
+    """A keeper that answers nothing but the greeting; and its connections."""
+    lines = []
+
+    def serve(line):
+        lines.append(line)
+        with contextlib.suppress(OSError):
+            for text in line.makefile("rb"):
+                if text.startswith(b"hello"):
+                    line.sendall(b"hello 2\n")
+
+    def accept():
+        with contextlib.suppress(OSError):
+            while True:
+                threading.Thread(target=serve, args=(listener.accept()[0],), daemon=True).start()
+
+    with socket.create_server(("127.0.0.1", 0)) as listener:
+        threading.Thread(target=accept, daemon=True).start()
+        yield "%s:%d" % listener.getsockname(), lines
+
+
+def is_left(line):
+    """Whether the other end has closed it."""
+    with contextlib.suppress(BlockingIOError):
+        return line.recv(1, socket.MSG_PEEK | socket.MSG_DONTWAIT) == b""
+    return False
+
+
+def test_a_keeper_that_is_silent_holds_up_no_word_of_another():
+    """That the database was dropped: while the silent one, which comes first, is asked still, the other is."""
+    with silent() as (address, lines), StubKeeper() as keeper:
+        named(keeper).execute("create table t(a)")
+        connection = sqlite_of(f"{address},{keeper.address}", "shop", 3, mode="ro")
+        same("it reads", [], rows(connection))
+        answer, left = keeper.answer, []
+
+        def dropped(words):
+            if words[0] == "durable":
+                left.append(any(map(is_left, lines)))
+                return "lost", "shop", words[2], "dropped", words[4]
+            return ("unknown", "shop") if words[0] == "where" else answer(words)
+
+        keeper.answer = dropped
+        keeper.now.end()
+        same("dropped", "SQLITE_PERM", code_of(lambda: rows(connection)))
+        same("why", "denied: the database was dropped", one(connection, "pragma pagelog_error"))
+        same("asked side by side", [False], left)
+
+
 def test_a_host_with_an_address_that_is_silent():
     with StubKeeper() as keeper, Service() as service, contextlib.ExitStack() as stack:
         full = stack.enter_context(socket.socket())

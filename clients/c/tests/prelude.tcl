@@ -2,8 +2,8 @@
 #
 #   testfixture prelude.tcl EXTENSION ADDRESS SCRIPT
 #
-# Databases named test.db, test2.db and so on are the databases 0, 1 .. of the service at ADDRESS; every other file stays where
-# it was. A database that a script deletes is made empty instead, since the service keeps what it has. Tests that look at
+# Databases named test.db, test2.db and so on are the databases 0, 1 .. of the service at ADDRESS, or where that is `where=KEEPERS`
+# the databases t0, t1 .. of these keepers; every other file stays where it was. A database that a script deletes is made empty instead, since the service keeps what it has. Tests that look at
 # the files themselves cannot pass: their names and sizes, the journal beside them, a second process, WAL.
 
 set extension [lindex $argv 0]
@@ -32,7 +32,9 @@ proc database_of {name} {
 proc uri_of {number} {
     set two [string repeat 22 16]
     set one [string repeat 11 16]
-    return "file:test$number?vfs=pagelog&to=$::address&db=$number&id=2&token=$two&op=1&optoken=$one&check=1000"
+    set account "id=2&token=$two&op=1&optoken=$one"
+    if {[string match where=* $::address]} {return "file:t$number?vfs=pagelog&$::address&name=t$number&$account"}
+    return "file:test$number?vfs=pagelog&to=$::address&db=$number&$account&check=1000"
 }
 
 proc sqlite3 {args} {
@@ -43,12 +45,18 @@ proc sqlite3 {args} {
             lappend args -uri 1
         }
     }
-    uplevel 1 [list sqlite3_plain {*}$args]
+    set made [uplevel 1 [list sqlite3_plain {*}$args]]
+    if {[string match where=* $::address] && [llength $args] >= 2 && $number >= 0} {
+        # Where its keeper was killed a process that had no turn before is busy for three seconds.
+        uplevel 1 [list [lindex $args 0] timeout 5000]
+    }
+    return $made
 }
 
 # Makes a database empty, in place of deleting its file.
 proc make_empty {number} {
     sqlite3_plain emptied [uri_of $number] -uri 1
+    emptied timeout 60000
     sqlite3_db_config emptied RESET_DB 1
     emptied eval VACUUM
     sqlite3_db_config emptied RESET_DB 0
