@@ -262,7 +262,7 @@ def play(name: str, sources: Path, logs: Path, only: Sequence[str]) -> list[str]
     folders = {kind: logs / f"{name}-{kind}" for kind in ("plain", "named")}
     for folder in folders.values():
         folder.mkdir(parents=True, exist_ok=True)
-        for file in folder.glob("*.suite*"):
+        for file in folder.glob("*.database*"):
             file.unlink()
     if name in SUITES:
         plain = SUITES[name].run(sources, folders["plain"], f"file:{folders['plain']}/NAME.database", only)
