@@ -293,6 +293,7 @@ PLANTS = {
     "superseded, stood still": Plant("../polling", "now - self._read >= _IDLE:  #", "self._thread is None:  #", "readers", "stood_still"),
     "superseded, late": Plant("../polling", "is_wanted = Backoff(2 * EACH, SLOWEST), True", "is_wanted = Backoff(2 * EACH, SLOWEST), self._is_wanted(-1.0, 0.0)",
                               "readers", "late_to_its_first"),
+    "answers, slow": Plant("../place", "min(2 * seconds, _SLOWEST_ANSWER)", "seconds", "named", "always_takes_longer"),
     "answers, late": Plant("../place", "if not self._poll.poll(", "if time.monotonic() > deadline or not self._poll.poll(", "named", "while_this_process"),
     "superseded, each": Plant("../polling", "return _polls.get(key) or _polls.setdefault(key, HolderPoll(name, addresses, place))",
                               "return HolderPoll(name, addresses, place)", "readers", "all_readers_of_a_process"),

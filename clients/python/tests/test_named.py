@@ -379,7 +379,7 @@ class Words(Saying):
 
     def setUp(self) -> None:
         super().setUp()
-        answer = _Line.answer  # where the machine stands still for a second, it is no silence of a keeper
+        self.answered = answer = _Line.answer  # where the machine stands still for a second, it is no silence of a keeper
         self.enterContext(patch.object(_Line, "answer", lambda line, timeout: answer(line, PATIENCE)))
         self.keepers = Keepers("shop", [self.keeper(), self.keeper()], 0.0)
         self.addCleanup(self.keepers.close)
@@ -482,6 +482,18 @@ class Words(Saying):
             self.assertEqual(len(tries), 3)
             self.keepers._left_out = dict.fromkeys(self.keepers._addresses, 20.0)
             self.assertIsNotNone(self.keepers.where())
+
+    def test_a_keeper_that_always_takes_longer_is_heard(self) -> None:
+        """Its machine is busy, and there is no other."""
+
+        def said(_: list[str]) -> bytes:
+            time.sleep(0.15)
+            return b"at shop 1 r 127.0.0.1:1 5 127.0.0.1:2 0 0 0\n"
+
+        keepers = Keepers("shop", [self.keeper(said)], 5.0)
+        self.addCleanup(keepers.close)
+        with patch.object(_Line, "answer", self.answered), patch("pagelog.place._ANSWER", 0.1):
+            self.assertEqual(keepers.place().generation, 1)
 
     def test_a_keeper_that_stands_still_is_asked_now_and_then(self) -> None:
         """Each question to it takes a second. What becomes durable later is no silence."""

@@ -16,7 +16,8 @@ from pagelog.repeating import Backoff
 
 QUICKEST, SLOWEST = 0.005, 0.2
 """Seconds between two rounds of questions, the first and the longest."""
-_ANSWER = 1.0
+_ANSWER, _SLOWEST_ANSWER = 1.0, 4.0
+"""Seconds for which an answer is waited for. Who needs a place waits for twice as long each time that nobody answers, up to the second."""
 _HELD = 0.25
 """Seconds for which an answer that keepers hold back is waited for; then it is tried again where the database was."""
 _SILENCE = 3.0
@@ -206,6 +207,8 @@ class Keepers:
         """Whether who asks opens the database: then keepers that refuse connections are not waited for, as the addresses may be wrong."""
         self._refused: set[str] = set()
         """Those that have refused a connection since the last question for the place began."""
+        self._is_heard = False
+        """Whether any has answered that."""
         self._own: Place | None = None
         """The last place of the database that was opened: of another one nothing is taken."""
         self._process = os.getpid()
@@ -243,14 +246,15 @@ class Keepers:
             if address not in self._lines:
                 line.close()
 
-    def where(self) -> Place | None:
+    def where(self, seconds: float = _ANSWER) -> Place | None:
         """The place of the highest generation that a keeper knows of, as who knows most of its archive says; None where nobody serves
         it now. One that has not looked for a while knows less of both.
 
         Raises `UnknownName` where all that answer say so.
         """
         self._refused.clear()
-        answers = [self._ask(address, ("where", self.name)) for address in self._asks()]
+        answers = [self._ask(address, ("where", self.name), seconds) for address in self._asks()]
+        self._is_heard = any(answers)
         told = [place for place in map(_place, answers) if place is not None]
         if own := [place for place in told if place.database and self._is_own(place)]:
             return max(own, key=lambda place: (place.generation, place.archived))
@@ -280,8 +284,10 @@ class Keepers:
     def place(self, least: int = 0) -> Place:
         """The place, of generation `least` or a later one, once there is one. Raises `TimedOut`, and `NoKeeper` for who opens the database."""
         deadline, waits, gone = time.monotonic() + self.patience, Backoff(QUICKEST, SLOWEST), float("inf")
+        seconds = _ANSWER
         while True:
-            found = self.where()
+            found = self.where(seconds)
+            seconds = _ANSWER if self._is_heard else min(2 * seconds, _SLOWEST_ANSWER)
             if found is not None and found.generation >= least:
                 return found
             gone = min(gone, time.monotonic()) if self._refused.issuperset(self._addresses) else float("inf")
