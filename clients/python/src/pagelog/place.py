@@ -318,11 +318,13 @@ class Keepers:
             while waiting and (left := deadline - time.monotonic()) > 0:
                 for descriptor, _ in poll.poll(1000 * left):
                     address, line = waiting[descriptor]
-                    words = self._taken(address, line)
+                    words = _taken(line)
                     if words is None:
                         continue
                     poll.unregister(descriptor)
-                    del waiting[descriptor]
+                    del waiting[descriptor]  # first: what is interrupted while it waits is closed
+                    if words:
+                        self._lines[address] = line
                     place = _place(words)
                     if place is not None and place.generation >= wanted[address] and self._is_own(place):
                         return
@@ -361,16 +363,6 @@ class Keepers:
         """Those to ask: of a machine that is gone each question would take a second."""
         now = time.monotonic()
         return [address for address in self._addresses if self._left_out.get(address, 0.0) <= now] or self._addresses
-
-    def _taken(self, address: str, line: _Line) -> list[str] | None:
-        """The words that have come from it; none where its line has ended."""
-        try:
-            if (words := line.take()) is not None:
-                self._lines[address] = line
-            return words
-        except OSError:
-            line.close()
-            return []
 
     def _forget_parent(self) -> None:
         """A child that a fork made would read answers to its parent."""
@@ -494,6 +486,15 @@ class Keepers:
             return None
         now = _place(self._ask(address, ("where", self.name)))
         return found if now is not None and (now.generation, now.run) == (place.generation, place.run) else None
+
+
+def _taken(line: _Line) -> list[str] | None:
+    """The words that have come from it; none where its line has ended."""
+    try:
+        return line.take()
+    except OSError:
+        line.close()
+        return []
 
 
 def _parted(words: list[str]) -> tuple[list[str], dict[str, str]]:
