@@ -557,7 +557,7 @@ class Words(Saying):
         self.addCleanup(keepers.close)
         self.assertRaises(UnknownName, keepers.where)
         keepers.is_of(of_generation(1))
-        with patch("pagelog.place._SILENCE", 0.1):
+        with patch("pagelog.place._SILENCE", 0.1), patch.object(_Line, "answer", self.answered):
             self.assertIsNone(keepers.where())
         answers["durable"] = b"elsewhere shop 1\n"
         self.assertRaises(UnknownName, keepers.where)
