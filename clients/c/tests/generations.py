@@ -234,8 +234,12 @@ def saying(answers):
                 while True:
                     threading.Thread(target=serve, args=(listener.accept()[0],), daemon=True).start()
 
-        threading.Thread(target=accept, daemon=True).start()
+        thread = threading.Thread(target=accept, daemon=True)
+        thread.start()
         yield "%s:%d" % listener.getsockname()
+        # A close does not end an `accept`, and a stop of the process begins it again, at whatever has the descriptor then.
+        listener.shutdown(socket.SHUT_RDWR)
+        thread.join()
 
 
 def test_keepers_of_version_1():

@@ -94,6 +94,7 @@ class Line:
         self.left.update(to=to, back=back)
 
     def close(self) -> None:
+        self.listener.shutdown(socket.SHUT_RDWR)  # a close does not end an `accept`
         for each in (self.listener, *self.open):
             each.close()
         (self.folder / ".s.PGSQL.5432").unlink(missing_ok=True)

@@ -215,12 +215,21 @@ def all_that_is_drawn(main: int) -> str:
 
 
 def accept_each(listener: socket.socket, serve: Callable[[socket.socket], None]) -> None:
-    """Serves each connection in a thread of its own, until the listener is closed."""
+    """Serves each connection in a thread of its own, until the listener is closed.
+
+    It does not wait in `accept`: a close does not end that, and a stop of the process begins it again, at whatever has the descriptor then.
+    """
+    listener.setblocking(False)
+    poll = select.poll()
+    poll.register(listener, select.POLLIN)
 
     def accept() -> None:
         while True:
+            poll.poll(50)
             try:
                 client, _ = listener.accept()
+            except BlockingIOError:
+                continue
             except OSError:
                 return
             threading.Thread(target=serve, args=(client,), daemon=True).start()
