@@ -230,7 +230,7 @@ class Durable(Named):
 
         self.keepers.follow.side_effect = follow
         with patch("pagelog.named_reader._AT_ONCE", PATIENCE):
-            eventually(lambda: reader.end() == 5, "what is archived")
+            eventually(lambda: bool(reader.end() == 5), "what is archived")
         self.keepers.follow.assert_called_once()
 
     def of_run_at(self, place: Place) -> Any:
@@ -308,14 +308,23 @@ class Keepers(unittest.TestCase):
         with keeping.primary() as primary:
             primary.append(put(0, b"0"))
             self.assertEqual(primary.commit(durable=True), 1)
-            eventually(lambda: keeping.ring() is None and keeping.standbys() == {"b": 1}, "a standby")
+            eventually(lambda: self.has_standby(keeping), "a standby")
             with keeping.reader(durable_only=True) as reader:
-                eventually(lambda: keeping.ring() is None and reader._leave() is None and reader.end() == 1 and self.is_at_standby(reader), "the standby's place")
+                eventually(lambda: self.finds_standby(keeping, reader), "the standby's place")
                 for number in range(2, 22):
                     primary.append(put(0, b"%d" % number))
                     self.assertEqual(primary.commit(), number)
                     eventually(lambda: reader.end() == number, "the word that it is durable")
                     self.assertTrue(self.is_at_standby(reader))
+
+    def has_standby(self, keeping: Keeping) -> bool:
+        keeping.ring()
+        return keeping.standbys() == {"b": 1}
+
+    def finds_standby(self, keeping: Keeping, reader: NamedReader) -> bool:
+        keeping.ring()
+        reader._leave()
+        return reader.end() == 1 and self.is_at_standby(reader)
 
     def is_at_standby(self, reader: NamedReader) -> bool:
         assert reader.place is not None
