@@ -255,6 +255,8 @@ PLANTS = {
                                      "since_the_last_look"),
     "acknowledged by the thread": Plant("quick_way_referee.c", "        *way->start.noted = way->reached;\n", "", "quick_way", "acknowledged_is_known"),
     "acknowledged, not asked": Plant("run", "return seen if acknowledged is None else", "return seen if True else", "runs", "was_acknowledged_is_known"),
+    "dropped, and made again": Plant("orphans", "found.was_dropped and found.seen.generation == 0 and", "found.was_dropped and", "machine",
+                                    "had_a_generation"),
     "set aside, not said": Plant("keeping", "            self._shared.asides.begin()\n", "", "lives", "set_aside_is_shown"),
     "ended, not saved": Plant("../desk/rescue_words", "        if chosen.lacks and into is None and saved is None:\n", "        if False:\n", "lives",
                               "set_aside_is_shown"),

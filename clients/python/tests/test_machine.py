@@ -12,8 +12,10 @@ from unittest.mock import Mock
 
 from pagelog.keeper.database import Database
 from pagelog.keeper.machine import PATIENCE, Action, Facts, Kind, Own, Rival, Stage, State, Stillness, decide, state_of
+from pagelog.keeper.orphans import Fate, Found, fate_of
 from pagelog.keeper.referee import Referee
 from pagelog.keeper.rows import Row, StandbyRow, TableOf
+from pagelog.keeper.run import Seen
 from pagelog.keeper.settings import Settings
 from pagelog.keeper.shared import Shared
 
@@ -319,3 +321,11 @@ class Taken(unittest.TestCase):
 
     def test_not_from_a_holder_whose_beat_came_meanwhile(self) -> None:
         self.assertEqual(self.taken(ROW, 7, ROW, 8), (ROW, 7))
+
+
+class Orphans(unittest.TestCase):
+    """What becomes of a service of an earlier life."""
+
+    def test_one_that_had_a_generation_is_not_ended_where_another_database_of_its_name_was_dropped(self) -> None:
+        self.assertIs(fate_of(Found(Seen(3, 2), was_dropped=True))[0], Fate.SET_ASIDE)
+        self.assertIs(fate_of(Found(Seen(0, 2), was_dropped=True))[0], Fate.END)  # a standby's

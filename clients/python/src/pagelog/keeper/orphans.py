@@ -53,7 +53,7 @@ def fate_of(found: Found) -> tuple[Fate, str]:
     if not found.answers:
         return Fate.SET_ASIDE, "it does not answer, and PostgreSQL does not know its run"
     if found.row is None:
-        if found.was_dropped and not found.was_written:
+        if found.was_dropped and found.seen.generation == 0 and not found.was_written:  # as a standby's
             return Fate.END, "it held nothing, and its database was dropped"
         return Fate.SET_ASIDE, "PostgreSQL has no such database"
     if found.is_behind and not found.was_written:
