@@ -380,6 +380,7 @@ PLANTS = {
     "a table of another database": Plant("statements", "WHERE id = %(id)s AND identity = %(identity)s::uuid AND table_number = %(seen)s",
                                          "WHERE id = %(id)s AND table_number = %(seen)s", "changes", "knows_the_newest_one"),
     "changed, a stopped session": Plant("referee", "        self._end_sessions(holder)\n        return", "        return", "changes", "holds_up_no_change"),
+    "changed, continued": Plant("beginning", "            if served.table_number < newest.number:\n", "            if False:\n", "beginnings", "older_table"),
     "changed, away": Plant("../desk/table_changes", "            except (Away, Doubt) as error:\n", "            except ZeroDivisionError as error:\n", "changes",
                            "away_meanwhile"),
     "changed, believed": Plant("../desk/table_changes", " and self._referee.newest_table(row.id) == (row.table_number, row.run):", ":", "changes",

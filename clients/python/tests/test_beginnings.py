@@ -21,7 +21,7 @@ from pagelog.keeper.database import Database
 from pagelog.keeper.ending import Ending
 from pagelog.keeper.machine import Kind
 from pagelog.keeper.referee import Away, Doubt
-from pagelog.keeper.rows import Kept
+from pagelog.keeper.rows import Kept, TableOf
 from pagelog.keeper.run import NotStarted, _facts_of
 from pagelog.keeper.settings import Settings
 from pagelog.keeper.shared import Shared
@@ -223,6 +223,20 @@ class Adopts(Meanwhile):
         self.see(replace(ROW, run="other", generation=2, archived=4, holder="b", address="b:1"))
         await self.done(lambda: self.database._acting.done())  # type: ignore[union-attr]
         self.assertIsNone(self.process.poll())
+
+
+class Continues(Meanwhile):
+    async def test_one_with_an_older_table_has_the_newest_before_it_holds_the_database_again(self) -> None:
+        for number, renewed in ((1, True), (2, False)):
+            self.setUp()
+            newest, order = TableOf("two", b"s", 2), list[object]()
+            self.database.served = served = service(table_number=number)
+            served.renew.side_effect = order.append
+            served.continues.return_value = ROW.archived, ROW.chain
+            self.session.ask = AsyncMock(side_effect=lambda call, *_, newest=newest, order=order: newest if call is self.session.referee.table
+                                         else order.append(call))  # fmt: skip
+            self.assertFalse(await self.database.beginning.continue_run())
+            self.assertEqual(order, [newest, self.session.referee.continue_run] if renewed else [self.session.referee.continue_run])
 
 
 class StandsBy(Meanwhile):
