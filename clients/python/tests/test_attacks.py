@@ -37,7 +37,7 @@ from pagelog.keeper.shared import Shared
 from pagelog.keeper.table import KEEPER, keeper_of
 from pagelog.place import Fate, Keepers, Place
 from pagelog.reply import State
-from service import PATIENCE, PROGRAM, SOURCE, stand_still
+from service import PATIENCE, PROGRAM, SOURCE, accept_each, stand_still
 from test_referee import Referees
 
 
@@ -205,17 +205,9 @@ class Interrupted(unittest.TestCase):
         self.addCleanup(self.listener.close)
         self.asked: list[str] = []
         self.late = threading.Event()
-        threading.Thread(target=self.accept, daemon=True).start()
+        accept_each(self.listener, self.answer)
         self.keepers = Keepers("shop", [f"127.0.0.1:{self.listener.getsockname()[1]}"], PATIENCE)
         self.addCleanup(self.keepers.close)
-
-    def accept(self) -> None:
-        while True:
-            try:
-                line, _ = self.listener.accept()
-            except OSError:
-                return
-            threading.Thread(target=self.answer, args=(line,), daemon=True).start()
 
     def answer(self, line: socket.socket) -> None:
         with line, line.makefile("r") as text:
