@@ -90,6 +90,20 @@ class Administered(unittest.TestCase):
         self.look(11, self.commit(1, 9, what="refused"))
         self.assert_one("refused, and yet there")
 
+    def test_refused_by_the_last_of_two_databases(self) -> None:
+        one = self.commit(1, 9, what="failed")
+        self.note("v", "try", 9, number=1, links=[{**one, "sum": "another"}, one])
+        self.note("v", "refused", 9.1, number=1)
+        self.look(11, one)
+        self.assert_one("refused, and yet there")
+
+    def test_refused_by_the_last_of_two_databases_and_not_changed_back(self) -> None:
+        one = self.commit(1, 9, what="failed")
+        self.note("v", "try", 9, number=1, links=[one, {**one, "name": "s2"}])
+        self.note("v", "refused", 9.1, number=1)
+        self.look(11, one)
+        self.assertEqual(self.violations(), [])
+
     def test_a_reader_that_goes_back(self) -> None:
         first, second = self.commit(1, 5), self.commit(2, 10)
         self.look(11, second, "r")

@@ -217,9 +217,10 @@ class Check:
     # What was refused for good, and is there.
 
     def _refused(self) -> Iterator[str]:
+        """Of a transaction to two databases the last one has refused it; the first is changed back, unless that is refused too."""
         refused = {(note["who"], note["number"]) for note in self.notes if note["what"] in ("refused", "lost")}
         for note, link in self._links("try"):
-            if (note["who"], note["number"]) in refused:
+            if (note["who"], note["number"]) in refused and link is note["links"][-1]:
                 for look in self._shown_of(note, link).looks[-1:]:
                     if look["kind"] == "durable" and self._has(look, note, link):
                         yield f"refused, and yet there: {self._named(note, link)}"
