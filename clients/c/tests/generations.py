@@ -275,7 +275,7 @@ def test_keys_that_it_does_not_know_are_passed_over():
 
 
 @contextlib.contextmanager
-def silent():
+def silent_after_the_greeting():
     """A keeper that answers nothing but the greeting; and its connections."""
     lines = []
 
@@ -305,7 +305,7 @@ def is_left(line):
 
 def test_a_keeper_that_is_silent_holds_up_no_word_of_another():
     """That the database was dropped: while the silent one, which comes first, is asked still, the other is."""
-    with silent() as (address, lines), StubKeeper() as keeper:
+    with silent_after_the_greeting() as (address, lines), StubKeeper() as keeper:
         named(keeper).execute("create table t(a)")
         connection = sqlite_of(f"{address},{keeper.address}", "shop", 3, mode="ro")
         same("it reads", [], rows(connection))
