@@ -230,6 +230,7 @@ inline tell_durable(b) { assert(archived >= place_of[b] && archive[place_of[b]] 
                     // if (named->told >= position) named->told = position - 1;
                     // pagelog_become_follower(file);
                     // give_up_transaction(file);
+                    // pagelog_begin_session(file);
                     // if (!was_told)
                     // ..
                     // named->own = position - 1;
@@ -840,6 +841,7 @@ end:
                     // ..
                     // if (place.generation > named->place.generation)
                     // return was_suspect && has_lost_run(file, &place) ? PAGELOG_DONE : pagelog_move_on(file);
+                    // if (strcmp(place.run, named->place.run) != 0) return PAGELOG_DONE;
                     // note_durable(file, place.archived);
                     // return file->options.durable_only && !file->options.at ? hurry(file) : PAGELOG_DONE;
 // pagelog_named.c: pagelog_limit_of

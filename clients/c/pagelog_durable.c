@@ -215,6 +215,7 @@ enum pagelog_outcome pagelog_glance(struct pagelog_file *file) {
     if (outcome != PAGELOG_DONE) return PAGELOG_DONE;
     if (place.generation > named->place.generation)
         return was_suspect && has_lost_run(file, &place) ? PAGELOG_DONE : pagelog_move_on(file);
+    if (strcmp(place.run, named->place.run) != 0) return PAGELOG_DONE; /* of that number, too */
     note_durable(file, place.archived);
     return file->options.durable_only && !file->options.at ? hurry(file) : PAGELOG_DONE;
 }

@@ -603,7 +603,7 @@ class OneKeeper(Changing):
 
         def keep() -> None:
             row = self.keeping.row()
-            report = json.dumps({NUMBERS: True, "shop": {"run": "r0", "table": 1}})
+            report = json.dumps({NUMBERS: {}, "shop": {"run": "r0", "table": 1}})
             while (found := self.referee.look({}, report).row("shop")) is not None and found.table_number == 1:
                 time.sleep(0.01)
             given = number(self.referee, row.id, "r0", row.generation)
@@ -612,13 +612,13 @@ class OneKeeper(Changing):
             for leaving in (["r0"],) * 30 + ([],):
                 time.sleep(0.05)
                 after.append(not leaving)
-                self.referee.look({}, json.dumps({NUMBERS: True, "shop": {"run": "r1", "table": 2, "leaving": leaving}}))
+                self.referee.look({}, json.dumps({NUMBERS: {}, "shop": {"run": "r1", "table": 2, "leaving": leaving}}))
             while not is_done.is_set():
                 time.sleep(0.05)
                 self.referee.look()
 
         is_done, thread = threading.Event(), threading.Thread(target=keep)
-        self.referee.look({}, json.dumps({NUMBERS: True}))
+        self.referee.look({}, json.dumps({NUMBERS: {}}))
         thread.start()
         try:
             status = self.renewed()[0]
@@ -667,7 +667,7 @@ class OneKeeper(Changing):
         for one, leaving, wanted in ((None, {"r0"}, ["r0"]), (None, set(), None), (served, {"r0"}, ["r0"]), (served, set(), None)):
             keeper.databases[row.id] = Mock(row=replace(row, holder="b"), served=one, leaving=leaving, state=State.AWAY, decision=None, back=None)
             report = json.loads(keeper._report())
-            self.assertIs(report[NUMBERS], True)
+            self.assertEqual(report[NUMBERS], {})
             self.assertEqual(report.get("shop", {}).get("leaving"), wanted)
             self.assertEqual(report.get("shop", {}).get("table"), None if one is None else 7)
 

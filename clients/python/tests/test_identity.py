@@ -391,7 +391,7 @@ class NumbersComeAgain(Going):
         self.assertIn("PostgreSQL went back", self.lost(primary, durable=True))
         self.assertGreater(self.commit(primary, "after", durable=True), 30)
         texts = self.texts()  # what PostgreSQL has lost may be there: the other keeper's standby may have had it
-        self.assertEqual((texts[:2], b"mine" in texts, texts[-1]), ([b"0", b"gone 1"], False, b"after"))
+        self.assertEqual((texts[0], b"mine" in texts, texts[-1]), (b"0", False, b"after"))
 
     def test_a_writer_whose_run_continues_has_lost_nothing(self) -> None:
         primary = self.enterContext(self.keeping.primary())
@@ -415,14 +415,18 @@ class NumbersComeAgain(Going):
             [found] = reader.execute("select max(n), sum(n = 102), sum(n < 20) from t")
             return found  # type: ignore[no-any-return]
 
-    def test_a_writer_of_sqlite_is_told_nothing_of_another_run_of_the_number(self) -> None:
-        old = self.sqlite_over(continues=False)
+    def assert_told_once(self, old: sqlite3.Connection) -> None:
+        """That PostgreSQL went back; then it goes on behind the other process."""
         with self.assertRaises(sqlite3.OperationalError):
             old.execute("insert into t values(9000)")
         self.assertIn("went back", error_of(old))
         old.execute("insert into t values(9001)")
         highest, _, others = self.rows()
         self.assertEqual((highest, others), (9001, 20))
+
+    def test_a_writer_of_sqlite_is_told_nothing_of_another_run_of_the_number(self) -> None:
+        old = self.sqlite_over(continues=False)
+        self.assert_told_once(old)
 
     def give_a_number_twice(self, write: Callable[[int], object]) -> Place:
         """The keeper that goes on was dead while the other one had the generation of this number, so that it gives it again. Returns the
@@ -461,12 +465,29 @@ class NumbersComeAgain(Going):
         old.execute("create table t(n integer primary key)")
         self.give_a_number_twice(lambda number: old.execute("insert into t values(?)", (100 + number,)))
         enter(self.keeping.addresses, 20)
+        self.assert_told_once(old)
+
+    def test_a_reader_of_sqlite_takes_no_commit_for_the_lost_one_at_its_position(self) -> None:
+        """Of the same writer, which goes on where PostgreSQL went back to."""
+        old = connected(self.keeping.addresses)
+        old.execute("create table t(n integer primary key)")
+        reader = connected(self.keeping.addresses, id=3, mode="ro")
+
+        def write(number: int) -> None:
+            old.execute("insert into t values(?)", (number,))
+            eventually(lambda: self.all_of(reader)[-1:] == [number], "what was written")
+
+        self.give_a_number_twice(write)
         with self.assertRaises(sqlite3.OperationalError):
             old.execute("insert into t values(9000)")
-        self.assertIn("went back", error_of(old))
-        old.execute("insert into t values(9001)")
-        highest, _, others = self.rows()
-        self.assertEqual((highest, others), (9001, 20))
+        old.execute("insert into t values(3)")
+        place = self.keeping.place()
+        self.keeping.word("succeed", "shop")
+        self.keeping.place(least=place.generation + 1)
+        eventually(lambda: self.all_of(reader) == [1, 3], "what came in its place")
+
+    def all_of(self, reader: sqlite3.Connection) -> list[int]:
+        return [number for (number,) in reader.execute("select n from t")]
 
     def test_a_database_is_no_other_whose_number_it_has(self) -> None:
         """PostgreSQL has lost it, and has given the number of its row, and its name too, to another one."""

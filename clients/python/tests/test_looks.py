@@ -16,6 +16,7 @@ from unittest.mock import AsyncMock, Mock, patch
 from pagelog import Address, Connection, Primary, Put
 from pagelog.errors import AuditListFull, TimedOut
 from pagelog.keeper.looker import Looker
+from pagelog.keeper.rows import Row
 from pagelog.keeper.run import Program, Run
 from pagelog.keeper.served import FEW, Served
 from pagelog.keeper.session import Session
@@ -73,7 +74,7 @@ class Looks(unittest.IsolatedAsyncioTestCase):
             return self.tasks[-1]
 
         shared = Mock(settings=Mock(ttl=PATIENCE), spawn=spawn, say=lambda _, sentence: self.said.append(sentence))
-        return Work(shared, "shop", Waits("shop"), Mock())
+        return Work(shared, Row(1, "shop", identity="one"), Waits("shop"), Mock())
 
     async def asyncSetUp(self) -> None:
         asyncio.get_running_loop().set_debug(False)

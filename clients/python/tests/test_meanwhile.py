@@ -21,6 +21,7 @@ from pagelog.keeper import served as served_module
 from pagelog.keeper.archiver import Archiver, turn_of
 from pagelog.keeper.committer import Committer, Fenced
 from pagelog.keeper.database import Database
+from pagelog.keeper.fate import Of
 from pagelog.keeper.fates import Questions, tell_block, tell_fate
 from pagelog.keeper.keeping import Keeper
 from pagelog.keeper.lines import Server
@@ -236,8 +237,8 @@ class Names(unittest.IsolatedAsyncioTestCase):
         folder = Path(self.enterContext(tempfile.TemporaryDirectory()))
         keeper = Keeper(Settings.of("a", "", "", folder, "", "", {"standby": False, "ttl": PATIENCE}))
         lines = KeeperRow("b", "life", "b:2", 1)
-        rows = tuple(replace(ROW, id=id, name=f"shop{id}", run="other", holder="b", address=f"b:{id}") for id in range(1, 9))
-        dropped, again = replace(rows[0], name="shop1!1", dropped=True), replace(rows[0], id=9, address="b:9")
+        rows = tuple(replace(ROW, id=id, identity=f"{id}", name=f"shop{id}", run="other", holder="b", address=f"b:{id}") for id in range(1, 9))
+        dropped, again = replace(rows[0], name="shop1!1", dropped=True), replace(rows[0], id=9, identity="9", address="b:9")
         for seen, told in ((rows, "b:1"), ((dropped, *rows[1:], again), "b:9"), (rows[1:], None)):
             with patch.object(keeper._session, "ask", AsyncMock(return_value=Look(seen, (lines,)))):
                 await keeper._look()
@@ -446,7 +447,7 @@ class Successions(Meanwhile):
 class Trails(Meanwhile):
     async def test_whatever_goes_wrong_with_lines_is_said_and_holds_up_no_block(self) -> None:
         trails = Mock(ttl=PATIENCE, while_few=PATIENCE, thread=ThreadPoolExecutor(1))
-        recorder = Recorder(trails, service(lines_at_once=AsyncMock(return_value=None)), self.shared.say)
+        recorder = Recorder(trails, service(lines_at_once=AsyncMock(return_value=None)), Of("one", "run"), self.shared.say)
         recorder._say = lambda _, sentence: self.said.append(sentence)
         keeper = recorder._keeper = Mock()
         keeper.list.kept, keeper.step.side_effect = 0, IndexError("list index out of range")

@@ -121,6 +121,15 @@ class Beside(unittest.TestCase):
     def texts(self) -> list[bytes]:
         return [Block.decode(block).records[-1].data.strip(b"<>") for block in self.keeping.archive()]  # type: ignore[union-attr]
 
+    def begin_again(self, is_old: bool) -> None:
+        """The next life of keeper a, of this version or of 0.1.0."""
+        self.keeping.kill("a")
+        if is_old:
+            with self.keeping.older():
+                self.keeping.start("a")
+        else:
+            self.keeping.start("a")
+
     def held(self) -> tuple[str | None, str | None]:
         """The holder and the run that is published, in tables of any version."""
         with psycopg.connect(self.keeping.url) as session:
@@ -181,12 +190,7 @@ class Mixed(Beside):
         for number, is_old in enumerate((False, True, False), 2):
             eventually(lambda: self.held()[0] == "a", "its place")
             before = self.held()
-            keeping.kill("a")
-            if is_old:
-                with keeping.older():
-                    keeping.start("a")
-            else:
-                keeping.start("a")
+            self.begin_again(is_old)
             with closing(OldWriter(keeping.addresses)) as writer:
                 self.assertEqual(writer.commit(str(number)), str(number))
             self.assertEqual(self.held(), before)
@@ -254,12 +258,7 @@ class Trailed(Beside):
             self.assertEqual(writer.commit("1"), "1")
             for number, (is_old, of) in enumerate(((False, run), (True, run), (False, run)), 2):
                 before = self.lists()
-                keeping.kill("a")
-                if is_old:
-                    with keeping.older():
-                        keeping.start("a")
-                else:
-                    keeping.start("a")
+                self.begin_again(is_old)
                 self.assertEqual(writer.commit(str(number)), str(number))
                 eventually(lambda: self.lists() == [(1, of, None)], f"the list of {before}")  # noqa: B023
         eventually(lambda: "4 blocks hardened, 4 of them archived, which fit" in keeping.word("replay", "shop"), "all of its lines")

@@ -79,12 +79,17 @@ class Superseded(Named):
         eventually(lambda: reader.end() == 7, "the end of the next generation")
         self.assertEqual(len(list(reader.blocks(1, follow=False))), 7)
 
-    def test_one_that_has_not_read_for_a_while_asks_before_it_reads(self) -> None:
+    def idle_reader(self) -> NamedReader:
+        """One whose poll has ended."""
         self.begin()
         self.commit(2)
         reader = self.reader()
         self.assertEqual((reader.end(), reader.end()), (2, 2))
         eventually(lambda: reader._poll is not None and reader._poll._thread is None, "the end of the poll of an idle reader")
+        return reader
+
+    def test_one_that_has_not_read_for_a_while_asks_before_it_reads(self) -> None:
+        reader = self.idle_reader()
         self.superseded()
         with patch("pagelog.polling._ANSWER", PATIENCE):
             self.assertEqual(reader.end(), 7)
@@ -104,11 +109,7 @@ class Superseded(Named):
                 self.assertEqual(reader.end(), 7)
 
     def test_a_poll_that_comes_late_to_its_first_round_asks(self) -> None:
-        self.begin()
-        self.commit(2)
-        reader = self.reader()
-        self.assertEqual((reader.end(), reader.end()), (2, 2))
-        eventually(lambda: reader._poll is not None and reader._poll._thread is None, "the end of the poll of an idle reader")
+        reader = self.idle_reader()
         self.superseded()
         start, late = threading.Thread.start, [0.0]
 

@@ -160,7 +160,7 @@ class Database:
         own, served, row, archiver = self._own(), self.served, self.row, self.work.archiver
         if own is None or served is None:
             return
-        if archiver is None or not archiver.is_stuck:
+        if not served.is_apart and (archiver is None or not archiver.is_stuck):
             if self.is_known and (row.run == own.run or (row.archived, row.chain) == (served.reached, served.chain)):
                 served.went_back = False
             elif went_back(row if self.is_known else None, own):

@@ -443,7 +443,7 @@ class Keeper:
         """What `kept` shows of the services of this keeper, measured for it and for what is decided until the next look; and what is
         decided of them, and of what nobody has."""
         audit, limit, report = self.settings.program.audit, self.settings.memory, dict[str, Any](self._shared.asides.report(self._lost()))
-        report[NUMBERS] = True
+        report[NUMBERS] = {}  # as of a database: an older tool goes through them
         for each in self.databases.values():
             if each.row.dropped or (each.served is None and not each.leaving and each.row.holder not in (None, self.settings.name)):
                 continue
