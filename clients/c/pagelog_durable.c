@@ -201,6 +201,19 @@ static bool has_lost_run(struct pagelog_file *file, const struct pagelog_place *
     return is_told && (fate.loss || (fate.is_over && fate.end < named->own));
 }
 
+/* Another run has the number of this one: PostgreSQL may have lost this one. Who has committed here is told
+ * that by its next commit. */
+static enum pagelog_outcome leave_if_lost(struct pagelog_file *file) {
+    struct named *named = &file->named;
+    struct pagelog_fate fate = {0};
+    bool has_own = named->own > 0 || !pagelog_tail_is_empty(&named->tail);
+    bool is_told = !has_own && pagelog_fate_of(named->keepers, NULL, &named->place, 0, &fate) == PAGELOG_DONE;
+    if (!is_told || fate.loss != PAGELOG_SUPERSEDED) return PAGELOG_DONE;
+    named->is_superseded = true;
+    named->durable = 0;
+    return pagelog_move_on(file);
+}
+
 enum pagelog_outcome pagelog_glance(struct pagelog_file *file) {
     struct named *named = &file->named;
     struct pagelog_place place;
@@ -215,7 +228,7 @@ enum pagelog_outcome pagelog_glance(struct pagelog_file *file) {
     if (outcome != PAGELOG_DONE) return PAGELOG_DONE;
     if (place.generation > named->place.generation)
         return was_suspect && has_lost_run(file, &place) ? PAGELOG_DONE : pagelog_move_on(file);
-    if (strcmp(place.run, named->place.run) != 0) return PAGELOG_DONE; /* of that number, too */
+    if (strcmp(place.run, named->place.run) != 0) return leave_if_lost(file);
     note_durable(file, place.archived);
     return file->options.durable_only && !file->options.at ? hurry(file) : PAGELOG_DONE;
 }

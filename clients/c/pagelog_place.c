@@ -351,6 +351,7 @@ bool pagelog_where_take(struct pagelog_keepers *keepers, uint64_t ms, struct pag
         .generation = told->is_found ? keepers->found.generation : 0,
         .is_doubtful = !told->is_found && (told->unknown > 0 || told->is_other),
     };
+    if (told->is_found) strcpy(said->run, keepers->found.run);
     if (ready >= 0 && pagelog_now() < told->until) return false;
     stop_asking(keepers, line, true);
     return true;

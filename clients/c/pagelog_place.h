@@ -93,10 +93,11 @@ bool pagelog_keepers_are_gone(const struct pagelog_keepers *keepers);
 enum pagelog_outcome pagelog_where(struct pagelog_keepers *keepers, uint64_t least,
                                    struct pagelog_place *place);
 
-/* What keepers have said of the holder's run so far: the highest generation, 0 where none has said one; and
- * whether some know of no such database, or of another of its name. */
+/* What keepers have said of the holder's run so far: the highest generation, 0 where none has said one, and
+ * whose it is; and whether some know of no such database, or of another of its name. */
 struct pagelog_told {
     uint64_t generation;
+    char run[PAGELOG_RUN_BYTES];
     bool is_doubtful;
 };
 

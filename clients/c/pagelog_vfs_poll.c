@@ -138,13 +138,19 @@ static void ask(struct holder_poll *poll) {
     poll->due = now_ms() + poll->pause_ms;
 }
 
+/* Whether the run is a later one than that of the file, or another one of its number. */
+static bool is_another(const struct pagelog_told *told, const struct pagelog_place *place) {
+    bool has_its_number = told->generation == place->generation;
+    return told->generation > place->generation || (has_its_number && strcmp(told->run, place->run) != 0);
+}
+
 void pagelog_poll_holder(struct database *database) {
     struct holder_poll *poll = database->follows_holder ? poll_of(database) : NULL;
     if (!poll) return;
     sqlite3_mutex_enter(poll->mutex);
     ask(poll);
-    bool is_later = poll->told.generation > pagelog_file_generation(database->file);
-    bool is_told = (is_later || poll->told.is_doubtful) && database->polled != poll->rounds;
+    bool is_left = is_another(&poll->told, pagelog_file_place(database->file)) || poll->told.is_doubtful;
+    bool is_told = is_left && database->polled != poll->rounds;
     if (is_told) database->polled = poll->rounds;
     sqlite3_mutex_leave(poll->mutex);
     if (is_told) pagelog_file_suspect(database->file);

@@ -471,20 +471,17 @@ class NumbersComeAgain(Going):
         """Of the same writer, which goes on where PostgreSQL went back to."""
         old = connected(self.keeping.addresses)
         old.execute("create table t(n integer primary key)")
-        reader = connected(self.keeping.addresses, id=3, mode="ro")
+        reader, durable = (connected(self.keeping.addresses, id=3, mode="ro", **more) for more in ({}, {"durable": 1}))
 
         def write(number: int) -> None:
             old.execute("insert into t values(?)", (number,))
-            eventually(lambda: self.all_of(reader)[-1:] == [number], "what was written")
+            eventually(lambda: self.all_of(reader)[-1:] == self.all_of(durable)[-1:] == [number], "what was written")
 
         self.give_a_number_twice(write)
         with self.assertRaises(sqlite3.OperationalError):
             old.execute("insert into t values(9000)")
         old.execute("insert into t values(3)")
-        place = self.keeping.place()
-        self.keeping.word("succeed", "shop")
-        self.keeping.place(least=place.generation + 1)
-        eventually(lambda: self.all_of(reader) == [1, 3], "what came in its place")
+        eventually(lambda: self.all_of(reader) == self.all_of(durable) == [1, 3], "what came in its place")
 
     def all_of(self, reader: sqlite3.Connection) -> list[int]:
         return [number for (number,) in reader.execute("select n from t")]
