@@ -226,7 +226,7 @@ static enum pagelog_outcome lose_to(struct pagelog_file *file, uint64_t position
     if (named->told >= position) named->told = position - 1;
     pagelog_become_follower(file);
     give_up_transaction(file);
-    pagelog_begin_session(file); /* its commits may have been read: those that come at their positions are others */
+    pagelog_begin_session(file); /* what comes at the positions of its commits is something else */
     if (!was_told) return pagelog_file_fail(file, outcome, why);
     named->own = position - 1;
     file->on_their_way = 0;
