@@ -16,8 +16,8 @@ from keepers import Keeping, eventually, new_database
 from pagelog import NamedReader
 from pagelog.keeper.keeping import Keeper
 from pagelog.keeper.served import seconds
-from pagelog.place import Fate, Place, _Line
-from pagelog.polling import EACH
+from pagelog.place import Dropped, Fate, Place, _Line
+from pagelog.polling import EACH, HolderPoll
 from service import PATIENCE, put, token
 from test_named import Named, Saying
 
@@ -107,6 +107,21 @@ class Superseded(Named):
             late[0] = 60.0
             with patch("pagelog.polling._ANSWER", PATIENCE):
                 self.assertEqual(reader.end(), 7)
+
+    def test_a_drop_that_postgresql_has_undone_is_told_no_more(self) -> None:
+        place = Place(1, "r", "127.0.0.1:1", 0, "127.0.0.1:2", 0, 0)
+        poll = HolderPoll("shop", ["127.0.0.1:2"], place)
+        poll._keepers = Mock(where=Mock(side_effect=[Dropped("shop", "the database was dropped"), *[place] * 1000]))
+
+        def is_told() -> bool:
+            try:
+                return poll.superseding(place, 0.0) is not None
+            except Dropped:
+                return True
+
+        with patch("pagelog.polling._ANSWER", PATIENCE):
+            self.assertTrue(is_told())
+            eventually(lambda: not is_told(), "a place after the drop")
 
     def test_a_poll_that_comes_late_to_its_first_round_asks(self) -> None:
         reader = self.idle_reader()

@@ -394,7 +394,7 @@ class NoMemory(Succeeding):
             self.assertIn("shop: prepare: its service had no memory for a writer\n", self.keeping.said())
 
     def test_a_writer_of_sqlite_is_told_where_nothing_follows(self) -> None:
-        with closing(sqlite_named.connected(self.keeping.addresses, move=500)) as writer:
+        with closing(sqlite_named.connected(self.keeping.addresses, move=5000)) as writer:
             writer.execute("create table t(v blob)")
             self.keeping.word("pause", "shop")
             eventually(lambda: "serves; paused" in self.keeping.said(), "the pause")

@@ -70,7 +70,8 @@ class HolderPoll:
                 pass  # those that answer may know less than others
             with self._told:
                 self._asked = began
-                self._newest, self._dropped = found or self._newest, dropped or self._dropped
+                self._newest = found or self._newest
+                self._dropped = dropped or (self._dropped if found is None else None)  # a PostgreSQL that went back undoes a drop
                 self._told.notify_all()
             if found is not None:
                 silence.reset()
