@@ -109,6 +109,7 @@ class Beside(unittest.TestCase):
     """Two keepers, older ones at first."""
 
     options: dict[str, str] = {}
+    keepers: tuple[str, ...] = ("a", "b")
 
     def setUp(self) -> None:
         url = plain_url(postgres().url(f"mixed{os.getpid()}_{self.id().rpartition('.')[2][:20]}"))
@@ -116,7 +117,7 @@ class Beside(unittest.TestCase):
         self.addCleanup(lambda: None if self._outcome.success else print(self.keeping.said()))  # type: ignore[attr-defined]
         self.keeping.old_word("create", "shop", "--table", self.keeping.table)
         with self.keeping.older():
-            self.keeping.start("a", "b")
+            self.keeping.start(*self.keepers)
 
     def texts(self) -> list[bytes]:
         return [Block.decode(block).records[-1].data.strip(b"<>") for block in self.keeping.archive()]  # type: ignore[union-attr]
@@ -243,6 +244,7 @@ class Mixed(Beside):
 
 class Trailed(Beside):
     options = {"more": "trail = 3\n"}
+    keepers = ("a",)
 
     def lists(self) -> list[tuple[int, str | None, str | None]]:
         """The generation of each list, the run that it says it is of, and why it ended."""
@@ -251,7 +253,6 @@ class Trailed(Beside):
 
     def test_a_list_is_gone_on_with_in_both_directions(self) -> None:
         keeping = self.keeping
-        keeping.kill("b")
         eventually(lambda: self.held()[0] == "a", "its place")
         run = self.held()[1]
         with closing(OldWriter(keeping.addresses)) as writer:
