@@ -158,6 +158,10 @@ enum pagelog_outcome pagelog_restore(struct pagelog *log, enum pagelog_outcome o
     return outcome;
 }
 
+const char *pagelog_tls_why(const struct pagelog *log) {
+    return log->why;
+}
+
 void pagelog_explain(const struct pagelog *log, char *text, size_t room) {
     const struct pagelog_reply *reply = &log->refused;
     const char *name = pagelog_outcome_name(log->last);
@@ -178,6 +182,8 @@ void pagelog_explain(const struct pagelog *log, char *text, size_t room) {
         snprintf(text, room, "%s: audit list full", name);
     else if (reply->kind == PAGELOG_REPLY_MALFORMED)
         snprintf(text, room, "%s: fault %u of the request", name, reply->code);
+    else if (log->last == PAGELOG_LOST && *log->why)
+        snprintf(text, room, "%s: %s", name, log->why);
     else
         snprintf(text, room, "%s", name);
 }

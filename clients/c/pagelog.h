@@ -29,6 +29,8 @@
 #include <stddef.h>
 #include <stdint.h>
 
+struct pagelog_tls;
+
 #ifdef __cplusplus
 extern "C" {
 #endif
@@ -268,6 +270,7 @@ struct pagelog_options {
     /* The landing zone that the table gave the epoch: 3 copies and quorum 2, or 6 and 4; 0 and 0: 3 and 2. No
      * reply reports it. A denial C5 or C6 shows that it is the other one: then the object goes by that. */
     unsigned copies, quorum;
+    struct pagelog_tls *tls; /* NULL: none. It outlives the object (pagelog_tls.h) */
 };
 
 /* The landing zone that an object goes by. */
@@ -407,6 +410,13 @@ const uint8_t *pagelog_next_block(const struct pagelog_reply *blocks, size_t *at
  * does so whatever the epoch is. No other object has the epoch that it begins, unless it joins that. */
 enum pagelog_outcome pagelog_take_over(struct pagelog *log, uint32_t operator_principal,
                                        const uint8_t operator_token[PAGELOG_TOKEN_BYTES], uint32_t expected);
+
+/* As pagelog_take_over with `expected`, in one round trip in which blocks are pulled too, from an LSN on, as
+ * pagelog_pull does, up to PAGELOG_PULL_BLOCKS of them. It is not asked again: after any outcome but DONE
+ * this object writes in no epoch, and the failover may have been done. */
+enum pagelog_outcome pagelog_hand_over(struct pagelog *log, uint32_t operator_principal,
+                                       const uint8_t operator_token[PAGELOG_TOKEN_BYTES], uint32_t expected,
+                                       uint64_t from, struct pagelog_reply *blocks);
 
 /* Becomes a writer of the current epoch, which has to be this principal's; FENCED (A4) otherwise. Two objects
  * may write in one epoch so, which spoils transactions of several blocks. Where all call pagelog_take_over,

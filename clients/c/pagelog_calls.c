@@ -162,16 +162,21 @@ enum pagelog_outcome pagelog_pull(struct pagelog *log, uint64_t from, unsigned m
 
 /* ---- Epochs of a writer ---- */
 
+/* What is known of an epoch that begins. */
+static void enter_epoch(struct pagelog *log, uint32_t epoch, bool owns) {
+    log->writing_epoch = epoch;
+    log->owns_epoch = owns;
+    log->zone.is_seen = false;
+    log->is_tidying_refused = false;
+    if (epoch > log->epoch) log->epoch = epoch;
+}
+
 /* Learns where the log ends, from the status that a writer of the epoch is given; then nothing of it is in
  * the window. */
 static enum pagelog_outcome begin_epoch(struct pagelog *log, uint32_t epoch, bool owns) {
     struct pagelog_reply status;
-    log->writing_epoch = epoch;
-    log->owns_epoch = owns;
-    log->zone.is_seen = false;
+    enter_epoch(log, epoch, owns);
     log->stuck = true;
-    log->is_tidying_refused = false;
-    if (epoch > log->epoch) log->epoch = epoch;
     enum pagelog_outcome outcome = pagelog_status(log, PAGELOG_PRIMARY, &status);
     if (outcome == PAGELOG_DONE) log->stuck = false;
     return outcome;
@@ -243,6 +248,73 @@ enum pagelog_outcome pagelog_take_over(struct pagelog *log, uint32_t operator_pr
     }
     log->lost_failovers = 0;
     return begin_epoch(log, epoch + 1, true);
+}
+
+/* Of a hand-over: the failover, the status of who is the primary then, and a pull in that epoch. */
+enum { HAND_OVER = 3 };
+
+static void write_hand_over(const struct pagelog *log, uint32_t operator_principal,
+                            const uint8_t *operator_token, uint32_t epoch, uint64_t from,
+                            struct pagelog_request requests[HAND_OVER]) {
+    const struct pagelog_options *own = &log->options;
+    requests[0] = (struct pagelog_request){.principal = operator_principal,
+                                           .role = PAGELOG_OPERATOR,
+                                           .epoch = epoch,
+                                           .operation = PAGELOG_FAILOVER,
+                                           .to = own->principal};
+    requests[1] = (struct pagelog_request){.principal = own->principal,
+                                           .role = PAGELOG_PRIMARY,
+                                           .epoch = epoch + 1,
+                                           .operation = PAGELOG_STATUS};
+    requests[2] = (struct pagelog_request){.principal = own->principal,
+                                           .role = PAGELOG_SECONDARY,
+                                           .epoch = epoch + 1,
+                                           .operation = PAGELOG_PULL,
+                                           .hi = UINT16_MAX,
+                                           .lsn = from,
+                                           .max = PAGELOG_PULL_BLOCKS};
+    for (size_t i = 0; i < HAND_OVER; i++) {
+        requests[i].database = own->database;
+        memcpy(requests[i].token, i == 0 ? operator_token : own->token, PAGELOG_TOKEN_BYTES);
+    }
+}
+
+/* The blocks of a pull that was answered, also where there was none to be had. */
+static enum pagelog_outcome take_pulled(struct pagelog *log, enum pagelog_outcome outcome, uint64_t from,
+                                        struct pagelog_reply *blocks) {
+    if (outcome == PAGELOG_DENIED && is_at_the_end(log, from)) {
+        *blocks = (struct pagelog_reply){.kind = PAGELOG_REPLY_BLOCKS, .next = from, .hard = from - 1};
+        return PAGELOG_DONE;
+    }
+    if (outcome == PAGELOG_DONE) note_pulled(log, blocks);
+    return outcome;
+}
+
+enum pagelog_outcome pagelog_hand_over(struct pagelog *log, uint32_t operator_principal,
+                                       const uint8_t operator_token[PAGELOG_TOKEN_BYTES], uint32_t expected,
+                                       uint64_t from, struct pagelog_reply *blocks) {
+    struct pagelog_request requests[HAND_OVER];
+    struct pagelog_reply status;
+    enum pagelog_outcome outcomes[HAND_OVER] = {PAGELOG_LOST, PAGELOG_LOST, PAGELOG_LOST};
+    uint64_t sent = log->counts.bytes_sent;
+    if (log->asked_count > 0) return pagelog_fail(log, PAGELOG_MALFORMED);
+    write_hand_over(log, operator_principal, operator_token, expected, from, requests);
+    for (size_t i = 0; i < HAND_OVER; i++) {
+        enum pagelog_outcome outcome = pagelog_send_as(log, &requests[i]);
+        if (outcome == PAGELOG_DONE) continue;
+        pagelog_disconnect(log); /* nothing has left this process */
+        return outcome;
+    }
+    for (size_t i = 0; i < HAND_OVER && log->asked_count > 0; i++)
+        outcomes[i] = pagelog_receive(log, i == HAND_OVER - 1 ? blocks : &status);
+    if (outcomes[0] == PAGELOG_LOST && log->counts.bytes_sent > sent) log->lost_failovers++;
+    if (outcomes[2] != PAGELOG_LOST) outcomes[2] = take_pulled(log, outcomes[2], from, blocks);
+    for (size_t i = 0; i < HAND_OVER; i++)
+        if (outcomes[i] != PAGELOG_DONE) return outcomes[i];
+    log->lost_failovers = 0;
+    enter_epoch(log, expected + 1, true);
+    log->stuck = false;
+    return PAGELOG_DONE;
 }
 
 enum pagelog_outcome pagelog_join(struct pagelog *log) {

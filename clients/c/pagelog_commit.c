@@ -107,6 +107,7 @@ static void keep(struct pagelog_file *file, const struct mark *mark, bool is_unw
     if (is_unwaited && file->on_their_way == 0) file->settled = file->mark;
     file->on_their_way = is_unwaited ? file->on_their_way + 1 : 0;
     file->mark = *mark;
+    file->told_session = mark->session;
     file->is_named = file->is_named || *file->name;
     file->least = file->size;
     file->next = mark->lsn + 1;
@@ -114,8 +115,7 @@ static void keep(struct pagelog_file *file, const struct mark *mark, bool is_unw
 }
 
 static struct mark next_mark(const struct pagelog_file *file) {
-    return (struct mark){
-        .size = file->size, .session = file->session, .transaction = file->mark.transaction + 1};
+    return (struct mark){.size = file->size, .transaction = file->mark.transaction + 1};
 }
 
 /* Whether nothing differs from what was committed, where the first `blocks_before` blocks are of commits on

@@ -18,6 +18,11 @@ void pagelog_abandon(struct pagelog *log) {
     int socket = log->socket;
     log->socket = -1; /* first: a fork() between the two must not leave the child a number that is free */
     if (socket >= 0) close(socket);
+    struct pagelog_secure *secure = log->secure;
+    log->secure = NULL;
+    if (secure && *pagelog_secure_why(secure))
+        snprintf(log->why, sizeof log->why, "%s", pagelog_secure_why(secure));
+    pagelog_secure_end(secure);
 }
 
 void pagelog_disconnect(struct pagelog *log) {
@@ -58,6 +63,10 @@ bool pagelog_goes_on(struct pagelog *log) {
 }
 
 bool pagelog_wait_for(struct pagelog *log, int socket, short events, uint64_t deadline, short *ready) {
+    if ((events & POLLIN) && log->secure && pagelog_secure_holds(log->secure)) {
+        *ready = POLLIN;
+        return true;
+    }
     for (;;) {
         uint64_t now = pagelog_now(), most = log->waiter.goes_on ? SLICE_MS : 1000000;
         struct pollfd fd = {.fd = socket, .events = events};
@@ -91,6 +100,21 @@ static bool may_wait(int fd, unsigned ms) {
     return setsockopt(fd, SOL_SOCKET, SO_RCVTIMEO, &most, sizeof most) == 0 && fcntl(fd, F_SETFL, 0) == 0;
 }
 
+/* The handshake over a connected socket. */
+static bool shake_hands(struct pagelog *log, int fd, uint64_t deadline) {
+    enum pagelog_shake shake = SHAKE_FAILED;
+    short ready;
+    log->secure = pagelog_secure_begin(log->options.tls, fd, log->host, log->port);
+    if (!log->secure) snprintf(log->why, sizeof log->why, "TLS with %s cannot be begun", log->host);
+    while (log->secure && (shake = pagelog_secure_shake(log->secure)) != SHAKE_DONE) {
+        short events = shake == SHAKE_READS ? POLLIN : POLLOUT;
+        if (shake == SHAKE_FAILED || !pagelog_wait_for(log, fd, events, deadline, &ready)) break;
+    }
+    if (shake == SHAKE_READS || shake == SHAKE_WRITES)
+        snprintf(log->why, sizeof log->why, "TLS with %s: its handshake did not come in time", log->host);
+    return shake == SHAKE_DONE;
+}
+
 /* A connected socket to one of the addresses, or -1. */
 static int connect_to(struct pagelog *log, const struct addrinfo *address, uint64_t deadline) {
     int one = 1;
@@ -98,9 +122,11 @@ static int connect_to(struct pagelog *log, const struct addrinfo *address, uint6
         socket(address->ai_family, address->ai_socktype | SOCK_NONBLOCK | SOCK_CLOEXEC, address->ai_protocol);
     if (fd < 0) return -1;
     setsockopt(fd, IPPROTO_TCP, TCP_NODELAY, &one, sizeof one);
-    if (connect(fd, address->ai_addr, address->ai_addrlen) == 0) return fd;
-    if (errno == EINPROGRESS && finish_connect(log, fd, deadline)) return fd;
+    bool is_open = connect(fd, address->ai_addr, address->ai_addrlen) == 0;
+    if (!is_open) is_open = errno == EINPROGRESS && finish_connect(log, fd, deadline);
+    if (is_open && (!log->options.tls || shake_hands(log, fd, deadline))) return fd;
     close(fd);
+    pagelog_abandon(log); /* of a handshake that has failed */
     return -1;
 }
 
@@ -127,11 +153,13 @@ enum pagelog_outcome pagelog_ensure_connected(struct pagelog *log) {
     if (log->waiter.is_given_up || !log->host) return pagelog_fail(log, PAGELOG_LOST);
     if (log->socket >= 0) return PAGELOG_DONE;
     uint64_t deadline = pagelog_after(log->options.connect_ms);
+    *log->why = 0;
     if (getaddrinfo(log->host, log->port, &hints, &found) != 0) return pagelog_fail(log, PAGELOG_LOST);
     log->socket = connect_to_any(log, found, deadline);
     freeaddrinfo(found);
     if (log->socket < 0 || !may_wait(log->socket, log->options.reply_ms))
         return pagelog_fail(log, PAGELOG_LOST);
+    *log->why = 0;
     log->counts.connects++;
     return log->witness.lsn > 0 ? pagelog_confirm(log) : PAGELOG_DONE;
 }

@@ -31,6 +31,9 @@ enum pagelog_outcome pagelog_ensure_connected(struct pagelog *log);
  * who waits has ended it. */
 bool pagelog_wait_for(struct pagelog *log, int socket, short events, uint64_t deadline, short *ready);
 
+/* As send(), with MSG_NOSIGNAL and MSG_DONTWAIT. */
+ssize_t pagelog_put(struct pagelog *log, const void *bytes, size_t length);
+
 /* Reads what is there; without MSG_DONTWAIT it waits for that first, for `reply_ms` at most. False where the
  * connection has ended. */
 bool pagelog_read_some(struct pagelog *log, int flags);

@@ -5,7 +5,6 @@
 #include <stdio.h>
 #include <stdlib.h>
 #include <string.h>
-#include <sys/random.h>
 
 enum { DEFAULT_CACHE = 4096 };
 
@@ -22,10 +21,6 @@ enum pagelog_outcome pagelog_file_fail(struct pagelog_file *file, enum pagelog_o
     file->failed = outcome;
     file->reason = reason;
     return outcome;
-}
-
-bool pagelog_begin_session(struct pagelog_file *file) {
-    return getrandom(&file->session, sizeof file->session, 0) == sizeof file->session;
 }
 
 enum pagelog_outcome pagelog_refuse_until_begin(struct pagelog_file *file) {

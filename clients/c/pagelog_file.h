@@ -174,6 +174,11 @@ enum pagelog_outcome pagelog_file_reserve(struct pagelog_file *file);
  * next reserve ask. */
 void pagelog_file_doubt(struct pagelog_file *file);
 
+/* Of a named database: this file has the turn to write, and the last epoch that was written in is this one of
+ * that generation, as somebody says. So the next begin makes it the writer of an epoch after that, and reads
+ * what was written, in one round trip. 0: it is not known. */
+void pagelog_file_hand_over(struct pagelog_file *file, uint32_t epoch, uint64_t generation);
+
 /* Of a named database: keepers may have gone on without the run that is read, so that the next begin asks. */
 void pagelog_file_suspect(struct pagelog_file *file);
 
@@ -183,6 +188,9 @@ enum pagelog_outcome pagelog_file_reach(struct pagelog_file *file, uint64_t posi
 
 /* Where a named database is, as far as is known; NULL before it was opened. */
 const struct pagelog_place *pagelog_file_place(const struct pagelog_file *file);
+
+/* Has keepers that others ask prove the token of this file, which is of a named database. */
+void pagelog_file_lend_token(const struct pagelog_file *file, struct pagelog_keepers *keepers);
 
 /* A position whose durability is waited for, and who knows of it. */
 struct pagelog_awaited {
@@ -224,6 +232,13 @@ const struct pagelog_reply *pagelog_file_refused(const struct pagelog_file *file
 
 /* Whether a commit is allowed, as far as is known: it is a writer's, and the one before came to its end. */
 bool pagelog_file_may_commit(const struct pagelog_file *file);
+
+/* Of a named database: for which database and run the transaction that is read was made, as DATABASE/RUN;
+ * empty where it does not say, as of an older client's, and of any other database. */
+enum pagelog_outcome pagelog_file_origin(struct pagelog_file *file, char *text, size_t room);
+
+/* What is to be said, once, of a transaction whose run does not explain why it is there. */
+bool pagelog_file_take_note(struct pagelog_file *file, char *text, size_t room);
 
 /* Whether it is a named database's. */
 bool pagelog_file_is_named(const struct pagelog_file *file);

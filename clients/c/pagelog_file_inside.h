@@ -12,6 +12,13 @@
 
 enum { MARK_PAGE = 0, MARK_BYTES = 40, NAME_PLACE = MARK_BYTES, GROUP = 64 };
 
+/* The origin of an end mark: the seed of its session, the length of a text in a byte, and the text. */
+enum {
+    ORIGIN_PLACE = NAME_PLACE + 1 + PAGELOG_NAME_BYTES,
+    SEED_BYTES = 16,
+    ORIGIN_BYTES = SEED_BYTES + 1 + PAGELOG_IDENTITY_BYTES + PAGELOG_RUN_BYTES,
+};
+
 /* Of a reason with two names. */
 enum { REASON_BYTES = 2 * PAGELOG_NAME_BYTES + 64 };
 
@@ -33,6 +40,8 @@ struct pending {
 
 /* Of a named database: where it is, and what it may lack there. Positions are of all generations, LSNs of
  * this one. */
+enum { WHY_BYTES = 320 };
+
 struct named {
     struct pagelog_keepers *keepers; /* NULL: the database has no name, and one address */
     struct pagelog_place place;
@@ -65,9 +74,14 @@ struct named {
     bool is_between;     /* it has come to this generation, and not looked yet what is there of it */
     bool is_sent_again;  /* blocks of the tail were sent in this move */
     bool is_doubted;     /* another process may have written since the last begin */
+    uint32_t handed;     /* the epoch that the next begin goes on from as the writer; 0: it does not */
     bool is_gone;      /* the transaction that was read is not to be had here: nothing but a begin goes on */
     uint64_t given_up; /* how often that was so */
     uint64_t moves, resent;
+    char noted[PAGELOG_RUN_BYTES]; /* the last run whose mark is not explained; whether that was not said yet
+                                    */
+    bool has_note;
+    char why[WHY_BYTES]; /* a sentence on what was waited for in vain */
 };
 
 struct pagelog_file {
@@ -84,13 +98,15 @@ struct pagelog_file {
     uint64_t tidied;       /* how many bytes had been sent when the service was asked to tidy up */
     bool is_over;          /* some of them were lost, and there was no begin since */
     uint64_t losses;       /* how often some were */
-    uint64_t session;      /* of the writer: a random number */
+    uint64_t session;      /* of the writer in this run, by a random seed: no other has it */
+    uint8_t seed[SEED_BYTES];
+    uint64_t told_session; /* whose origin page 0 has; 0: it is not known */
     uint64_t torn; /* from this LSN on its transactions are not whole, until they are undone; 0: all are */
     uint64_t
         doubted; /* the LSN of the end mark of a commit whose blocks are still to be looked for; 0: of none */
     bool is_open, is_fenced, is_broken, is_stale, is_foreign, is_misnamed;
     char name[PAGELOG_NAME_BYTES + 1]; /* of the options; empty: any */
-    bool is_named;        /* page 0 has a name after the mark: its length in a byte, and its bytes */
+    bool is_named;        /* page 0 has that after the mark: its length in a byte, and its bytes */
     uint64_t size, least; /* of the transaction: the size, and the least that it was since the last commit */
     uint64_t next;        /* of a follower: where the next pull begins */
     struct pending pending;
@@ -115,6 +131,23 @@ enum pagelog_outcome pagelog_file_fail(struct pagelog_file *file, enum pagelog_o
 /* A session that no end mark has yet, so that what has failed is never taken for what is made in its place.
  * False where the system has no random number. */
 bool pagelog_begin_session(struct pagelog_file *file);
+
+/* The same where the file goes to another run: its session there has the same seed. */
+void pagelog_renew_session(struct pagelog_file *file);
+
+/* Adds for which database and run the marks of this session are made. */
+enum pagelog_outcome pagelog_add_origin(struct pagelog_file *file);
+
+/* Whether page 0, 8,192 bytes, has the origin of this mark: an older client writes none. */
+bool pagelog_has_origin(const uint8_t *page, const struct mark *mark);
+
+/* Looks whether the mark of page 0 may be there: MALFORMED where it was made for another database. One of a
+ * run that does not explain it is noted. */
+enum pagelog_outcome pagelog_check_origin(struct pagelog_file *file, const uint8_t *page,
+                                          const struct mark *mark);
+
+/* The same of what was pulled up to a mark. */
+enum pagelog_outcome pagelog_check_pending(struct pagelog_file *file, const struct mark *mark);
 
 /* What every call but a begin returns once commits that nobody waited for were lost: CONFLICT. */
 enum pagelog_outcome pagelog_refuse_until_begin(struct pagelog_file *file);
@@ -217,5 +250,8 @@ enum pagelog_outcome pagelog_repair(struct pagelog_file *file);
 
 /* Pulls what was committed since, and applies it to the pages in memory. */
 enum pagelog_outcome pagelog_follow(struct pagelog_file *file);
+
+/* Takes the blocks that were pulled from `next` on. */
+enum pagelog_outcome pagelog_take_pulled(struct pagelog_file *file, const struct pagelog_reply *pulled);
 
 #endif

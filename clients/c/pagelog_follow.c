@@ -48,6 +48,7 @@ static void apply_pending(struct pagelog_file *file, const struct mark *mark) {
     }
     pending->length = 0;
     file->mark = *mark;
+    file->told_session = 0;
 }
 
 /* Takes a block that was pulled. */
@@ -61,6 +62,8 @@ static enum pagelog_outcome take_block(struct pagelog_file *file, const uint8_t 
         return pagelog_file_fail(file, PAGELOG_NO_MEMORY, "this process has no memory left");
     file->next = pagelog_read_number(block, 8) + 1;
     if (!pagelog_has_mark(file, block, &mark)) return PAGELOG_DONE;
+    enum pagelog_outcome outcome = pagelog_check_pending(file, &mark);
+    if (outcome != PAGELOG_DONE) return outcome;
     if (file->is_far) pagelog_cache_clear(file->cache);
     file->is_far = false;
     apply_pending(file, &mark);
@@ -78,6 +81,20 @@ static enum pagelog_outcome leap(struct pagelog_file *file, uint64_t *until) {
     return is_far ? pagelog_take_mark(file, end) : outcome;
 }
 
+enum pagelog_outcome pagelog_take_pulled(struct pagelog_file *file, const struct pagelog_reply *pulled) {
+    uint64_t limit = pagelog_limit_of(file);
+    size_t at = 0, length;
+    const uint8_t *block;
+    pagelog_hold_pulled(file, file->next, pulled);
+    while ((block = pagelog_next_block(pulled, &at, &length))) {
+        if (pagelog_read_number(block, 8) > limit) return PAGELOG_DONE;
+        enum pagelog_outcome outcome = take_block(file, block, length);
+        if (outcome != PAGELOG_DONE) return outcome;
+    }
+    file->next = pulled->next;
+    return PAGELOG_DONE;
+}
+
 /* It ends where the log ended when it was behind, so that a writer that goes on for ever keeps nobody here:
  * what was committed before the begin is there. After a leap nothing is pulled, however far the log is said
  * to go on from that transaction. */
@@ -86,17 +103,9 @@ enum pagelog_outcome pagelog_follow(struct pagelog_file *file) {
     if (file->next > limit) return PAGELOG_DONE;
     for (bool may_leap = true;;) {
         struct pagelog_reply pulled;
-        size_t at = 0, length;
-        const uint8_t *block;
         enum pagelog_outcome outcome = pagelog_pull(file->log, file->next, PAGELOG_PULL_BLOCKS, &pulled);
-        if (outcome != PAGELOG_DONE) return outcome;
-        pagelog_hold_pulled(file, file->next, &pulled);
-        while (outcome == PAGELOG_DONE && (block = pagelog_next_block(&pulled, &at, &length))) {
-            if (pagelog_read_number(block, 8) > limit) return PAGELOG_DONE;
-            outcome = take_block(file, block, length);
-        }
-        if (outcome != PAGELOG_DONE) return outcome;
-        file->next = pulled.next;
+        if (outcome == PAGELOG_DONE) outcome = pagelog_take_pulled(file, &pulled);
+        if (outcome != PAGELOG_DONE || file->next != pulled.next) return outcome; /* or it is at the limit */
         if (pulled.hard != 0 || pulled.count == 0 || file->next > until) return PAGELOG_DONE;
         if (may_leap) outcome = leap(file, &until);
         if (until == 0) return outcome;

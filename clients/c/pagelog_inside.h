@@ -4,6 +4,7 @@
 
 #include "pagelog.h"
 #include "pagelog_common.h"
+#include "pagelog_secure.h"
 
 #include <sys/types.h>
 
@@ -81,9 +82,11 @@ bool pagelog_waits_on(struct pagelog_waiter *waiter);
 struct pagelog {
     char *host, *port; /* NULL: none yet */
     struct pagelog_options options;
-    pid_t process;               /* that has made it */
-    int socket;                  /* -1: not connected */
-    struct buffer output, input; /* requests that were not sent yet; replies not read yet */
+    pid_t process;                 /* that has made it */
+    int socket;                    /* -1: not connected */
+    struct pagelog_secure *secure; /* TLS over it; NULL: none */
+    char why[PAGELOG_WHY_BYTES];   /* what was wrong with that last; empty: nothing */
+    struct buffer output, input;   /* requests that were not sent yet; replies not read yet */
     struct lent lent[MOST_LENT]; /* bytes of these requests that are not in the buffer; none of them empty */
     size_t lent_count;
     struct asked asked[PAGELOG_IN_FLIGHT]; /* a ring: the requests in flight, the oldest first */

@@ -70,14 +70,19 @@ enum pagelog_outcome pagelog_append_full_group(struct pagelog_file *file) {
     return pagelog_blocks_count(file->blocks) >= GROUP ? pagelog_append_ended(file) : PAGELOG_DONE;
 }
 
+/* Whether page 0 has this name. */
+static bool has_name(const uint8_t *page, const char *name) {
+    size_t length = strlen(name);
+    return length > 0 && page[NAME_PLACE] == length && memcmp(page + NAME_PLACE + 1, name, length) == 0;
+}
+
+/* A copy has the name of another one, up to where it was copied, and until a writer gives it its own. */
 bool pagelog_is_misnamed(const struct pagelog_file *file, const uint8_t *page) {
-    size_t length = strlen(file->name), named = page[NAME_PLACE];
-    const char *ancestor = file->named.place.ancestor;
-    if (length == 0 || named == 0) return false;
-    bool is_of_copy = is_named(file) && strcmp(file->name, pagelog_keepers_name(file->named.keepers)) == 0;
-    if (is_of_copy && strlen(ancestor) == named && memcmp(page + NAME_PLACE + 1, ancestor, named) == 0)
-        return false;
-    return length != named || memcmp(page + NAME_PLACE + 1, file->name, named) != 0;
+    const struct pagelog_place *place = &file->named.place;
+    if (!*file->name || page[NAME_PLACE] == 0 || has_name(page, file->name)) return false;
+    bool is_own = is_named(file) && strcmp(file->name, pagelog_keepers_name(file->named.keepers)) == 0;
+    bool is_copied = pagelog_read_number(page + sizeof magic, 8) <= place->copied;
+    return !is_own || !(is_copied || has_name(page, place->ancestor));
 }
 
 enum pagelog_outcome pagelog_refuse_name(struct pagelog_file *file, const uint8_t *page) {
@@ -103,19 +108,23 @@ static enum pagelog_outcome add_name(struct pagelog_file *file) {
     return pagelog_blocks_put(file->blocks, MARK_PAGE, NAME_PLACE, bytes, (uint16_t)(1 + length));
 }
 
-/* Where zeros or a name come before the mark, all are in one block: nobody sees the page without its mark. */
+/* Where zeros, a name or an origin come before the mark, all are in one block: nobody sees the page without
+ * its mark. */
 enum pagelog_outcome pagelog_add_mark(struct pagelog_file *file, struct mark *mark) {
-    enum { MOST_BEFORE = PAGELOG_ZERO_BYTES + PUT_BYTES + 1 + PAGELOG_NAME_BYTES };
+    enum { NAME = PUT_BYTES + 1 + PAGELOG_NAME_BYTES, ORIGIN = PUT_BYTES + ORIGIN_BYTES };
     uint8_t bytes[MARK_BYTES];
+    mark->session = file->session; /* the blocks before may have moved the file to another run */
     bool is_image = mark->transaction % IMAGE_EACH == 0,
-         has_name = *file->name && (is_image || !file->is_named);
-    size_t before = has_name ? MOST_BEFORE : PAGELOG_ZERO_BYTES;
+         adds_name = *file->name && (is_image || !file->is_named),
+         adds_origin = is_named(file) && (is_image || file->told_session != file->session);
+    size_t before = (size_t)PAGELOG_ZERO_BYTES + (adds_name ? NAME : 0) + (adds_origin ? ORIGIN : 0);
     enum pagelog_outcome outcome = PAGELOG_DONE;
     mark->lsn = pagelog_blocks_room(file->blocks, MARK_PAGE, (uint16_t)(before + MARK_BYTES));
     if (mark->lsn == 0) return PAGELOG_NO_MEMORY;
     write_mark(file, bytes, mark);
     if (is_image) outcome = pagelog_blocks_zero(file->blocks, MARK_PAGE);
-    if (outcome == PAGELOG_DONE && has_name) outcome = add_name(file);
+    if (outcome == PAGELOG_DONE && adds_name) outcome = add_name(file);
+    if (outcome == PAGELOG_DONE && adds_origin) outcome = pagelog_add_origin(file);
     if (outcome == PAGELOG_DONE) outcome = pagelog_blocks_put(file->blocks, MARK_PAGE, 0, bytes, MARK_BYTES);
     return outcome == PAGELOG_DONE ? pagelog_blocks_end(file->blocks) : outcome;
 }
@@ -196,7 +205,10 @@ enum pagelog_outcome pagelog_take_mark(struct pagelog_file *file, uint64_t lsn) 
         file->next = mark.lsn + 1;
     }
     if (pagelog_is_misnamed(file, page)) return pagelog_refuse_name(file, page);
-    file->is_named = page[NAME_PLACE] > 0;
+    outcome = pagelog_check_origin(file, page, &mark);
+    if (outcome != PAGELOG_DONE) return outcome;
+    file->is_named = page[NAME_PLACE] > 0 && (!is_named(file) || has_name(page, file->name));
+    file->told_session = pagelog_has_origin(page, &mark) ? mark.session : 0;
     file->mark = mark;
     file->named.is_gone = false;
     pagelog_expect(file->log, lsn, MARK_PAGE, 0, page, MARK_BYTES);

@@ -23,12 +23,13 @@ enum { SECTION_A = 1, SECTION_B = 2 };
 bool pagelog_make_named(struct pagelog_file *file) {
     struct pagelog_file_options *options = &file->options;
     struct named *named = &file->named;
-    named->keepers = pagelog_keepers_new(options->keepers, options->database_name);
+    named->keepers = pagelog_keepers_new(options->keepers, options->database_name, options->service.tls);
     if (!named->keepers) return false;
     if (options->move_ms == 0) options->move_ms = DEFAULT_MOVE_MS;
     options->service.address = NULL;
     options->service.patience_ms = SERVICE_PATIENCE_MS; /* the wait for a place is the file's */
     memcpy(named->token, options->service.token, PAGELOG_TOKEN_BYTES);
+    pagelog_keepers_prove(named->keepers, options->service.principal, named->token);
     memcpy(named->operator_token, options->operator_token, PAGELOG_TOKEN_BYTES);
     file->is_fenced = true;
     return true;
@@ -96,6 +97,7 @@ static enum pagelog_outcome enter(struct pagelog_file *file, const struct pagelo
     if (!is_same_run) {
         named->is_accepted = false;
         named->refused = 0;
+        pagelog_renew_session(file);
     }
     if (named->is_superseded) named->settled = *place; /* nothing is left of before: that is told once */
     named->is_superseded = false;
@@ -472,7 +474,7 @@ static void leave_if_full(struct pagelog_file *file, struct leaving *leaving) {
 
 static enum pagelog_outcome give_up_move(struct pagelog_file *file, const struct leaving *leaving) {
     static const struct pagelog_reply no_memory = {.kind = PAGELOG_REPLY_NO_MEMORY};
-    const char *why = "no generation could be used in time";
+    const char *why = pagelog_explain_wait(file, "no generation could be used in time", "");
     if (leaving->is_full) why = "the service has no memory left, and no other has followed it in time";
     if (leaving->cause == PAGELOG_NO_MEMORY) pagelog_restore(file->log, leaving->cause, &no_memory);
     return pagelog_file_fail(file, may_be_there(&file->named) ? PAGELOG_IN_DOUBT : leaving->cause, why);
@@ -489,6 +491,7 @@ static bool are_keepers_gone(const struct pagelog_file *file, uint64_t *since) {
 
 static enum pagelog_outcome move(struct pagelog_file *file, struct leaving leaving) {
     struct pagelog_file_patience patience = pagelog_file_patience(file);
+    static const char gone_why[] = ": all connections are refused";
     uint64_t gone = 0;
     leave_if_full(file, &leaving);
     file->reason = NULL;
@@ -499,7 +502,8 @@ static enum pagelog_outcome move(struct pagelog_file *file, struct leaving leavi
         if (outcome == PAGELOG_DONE || !is_passing(file, outcome)) return outcome;
         leave_if_full(file, &leaving);
         if (are_keepers_gone(file, &gone))
-            return pagelog_file_fail(file, outcome, "no keeper answers: all connections are refused");
+            return pagelog_file_fail(file, outcome,
+                                     pagelog_explain_wait(file, "no keeper answers", gone_why));
         pagelog_disconnect(file->log);
         if (!pagelog_file_may_wait(file, &patience)) return give_up_move(file, &leaving);
     }

@@ -43,6 +43,10 @@ enum pagelog_outcome pagelog_write_on(struct pagelog_file *file);
 /* A wait that was ended because the generation is over may be followed by others. */
 void pagelog_wait_again(struct pagelog_file *file);
 
+/* The sentence, and behind it what was wrong with TLS of a keeper or the service, or what is to be said
+ * otherwise. It is valid until the next one. */
+const char *pagelog_explain_wait(struct pagelog_file *file, const char *sentence, const char *otherwise);
+
 /* Whether who waits for a generation, or for what becomes durable, goes on with it. */
 bool pagelog_may_pause(struct pagelog_file *file);
 

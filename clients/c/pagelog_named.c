@@ -93,15 +93,51 @@ static enum pagelog_outcome look_at_epoch(struct pagelog_file *file) {
     return PAGELOG_DONE;
 }
 
+/* Whether a hand-over may be taken: nothing of this file is on its way, or between two generations. */
+static bool may_take_hand_over(const struct pagelog_file *file) {
+    const struct named *named = &file->named;
+    bool may_write = !file->options.reads_only && !file->options.durable_only && file->options.has_operator;
+    return may_write && !named->is_gone && !named->is_closing && !file->is_broken &&
+           file->on_their_way == 0 && (pagelog_tail_is_empty(&named->tail) || is_settled_here(named));
+}
+
+/* Becomes the writer by what who had the turn before has said, and reads what was written since. False where
+ * that is not so, or not all of it was read: then a begin goes on as ever. */
+static bool take_hand_over(struct pagelog_file *file, uint32_t epoch) {
+    const struct pagelog_file_options *options = &file->options;
+    struct pagelog_reply pulled;
+    uint64_t asked = pagelog_now();
+    bool is_own = is_writer(file) && epoch == pagelog_writing_epoch(file->log); /* nobody has written since */
+    if (epoch == 0 || is_own || !may_take_hand_over(file)) return false;
+    pagelog_become_follower(file);
+    enum pagelog_outcome outcome = pagelog_hand_over(file->log, options->operator_principal,
+                                                     options->operator_token, epoch, file->next, &pulled);
+    if (outcome == PAGELOG_DONE) outcome = pagelog_take_pulled(file, &pulled);
+    if (outcome != PAGELOG_DONE || file->mark.lsn != pagelog_end(file->log)) return false;
+    file->is_fenced = file->named.is_doubted = false;
+    file->checked = asked;
+    return file->is_checked = true;
+}
+
+void pagelog_file_hand_over(struct pagelog_file *file, uint32_t epoch, uint64_t generation) {
+    file->named.handed = generation == file->named.place.generation ? epoch : 0;
+}
+
 enum pagelog_outcome pagelog_begin_named(struct pagelog_file *file,
                                          enum pagelog_outcome (*refresh)(struct pagelog_file *file)) {
-    uint64_t generation;
+    uint64_t generation, first = file->named.place.generation;
+    uint32_t handed = file->named.handed;
     enum pagelog_outcome outcome;
+    file->named.handed = 0;
     do {
         generation = file->named.place.generation;
         outcome = pagelog_arrive(file);
         if (outcome == PAGELOG_DONE) outcome = pagelog_glance(file);
-        if (outcome == PAGELOG_DONE) outcome = file->named.is_gone ? take_newest(file) : refresh(file);
+        bool is_handed =
+            outcome == PAGELOG_DONE && file->named.place.generation == first && take_hand_over(file, handed);
+        handed = 0;
+        if (outcome == PAGELOG_DONE && !is_handed)
+            outcome = file->named.is_gone ? take_newest(file) : refresh(file);
         if (!file->is_over) outcome = ask_wherever(file, outcome, refresh);
         if (outcome == PAGELOG_DONE) outcome = ask_wherever(file, look_at_epoch(file), look_at_epoch);
         if (outcome == PAGELOG_DONE && file->named.is_closing) outcome = pagelog_glance(file);

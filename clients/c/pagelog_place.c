@@ -40,7 +40,9 @@ struct pagelog_keepers {
     struct pagelog_line
         keepers[PAGELOG_MOST_KEEPERS + 1]; /* the last one: of the lines that a place has named */
     size_t count;
-    struct pagelog_place own; /* of the database that was opened */
+    struct pagelog_tls *tls;
+    struct pagelog_proof proof; /* of whose token, and of what is asked now */
+    struct pagelog_place own;   /* of the database that was opened */
     bool has_own;
     const char *reason; /* why the last question for the place was denied */
     struct told told;   /* of the question that nobody waits for; and the place that it has found */
@@ -65,11 +67,13 @@ static bool is_word(const char *text) {
     return length > 0 && length < PAGELOG_PLACE_BYTES;
 }
 
-struct pagelog_keepers *pagelog_keepers_new(const char *addresses, const char *name) {
+struct pagelog_keepers *pagelog_keepers_new(const char *addresses, const char *name,
+                                            struct pagelog_tls *tls) {
     struct pagelog_keepers *keepers = is_word(name) ? calloc(1, sizeof *keepers) : NULL;
     if (!keepers) return NULL;
     for (size_t i = 0; i <= PAGELOG_MOST_KEEPERS; i++)
-        keepers->keepers[i].socket = -1;
+        keepers->keepers[i] = (struct pagelog_line){.socket = -1, .tls = tls};
+    keepers->tls = tls;
     snprintf(keepers->name, sizeof keepers->name, "%s", name);
     if (set_addresses(keepers, addresses)) return keepers;
     free(keepers);
@@ -90,6 +94,14 @@ void pagelog_keepers_free(struct pagelog_keepers *keepers) {
 void pagelog_keepers_set_waiting(struct pagelog_keepers *keepers, bool (*goes_on)(void *argument),
                                  void *argument) {
     keepers->waiter = (struct pagelog_waiter){.goes_on = goes_on, .argument = argument};
+}
+
+void pagelog_keepers_prove(struct pagelog_keepers *keepers, uint32_t principal,
+                           const uint8_t token[PAGELOG_TOKEN_BYTES]) {
+    keepers->proof.is_there = true;
+    keepers->proof.principal = principal;
+    memcpy(keepers->proof.token, token, PAGELOG_TOKEN_BYTES);
+    snprintf(keepers->proof.name, sizeof keepers->proof.name, "%s", keepers->name);
 }
 
 bool pagelog_keepers_wait_on(struct pagelog_keepers *keepers) {
@@ -113,6 +125,12 @@ bool pagelog_keepers_are_gone(const struct pagelog_keepers *keepers) {
     return keepers->are_gone;
 }
 
+const char *pagelog_keepers_why(const struct pagelog_keepers *keepers) {
+    for (size_t i = 0; i < keepers->count; i++)
+        if (*keepers->keepers[i].why) return keepers->keepers[i].why;
+    return "";
+}
+
 /* ---- A question ---- */
 
 /* One round of a poll, of so many milliseconds at most: those that are asked send and read. Returns how many
@@ -121,6 +139,7 @@ static int poll_once(struct pagelog_keepers *keepers, const char *line, uint64_t
     struct pollfd polled[PAGELOG_MOST_KEEPERS + 1];
     struct pagelog_line *of[PAGELOG_MOST_KEEPERS + 1];
     size_t count = 0, length = strlen(line);
+    bool has_held = false; /* of what has come, by TLS */
     uint64_t now = pagelog_now();
     for (size_t i = 0; i <= PAGELOG_MOST_KEEPERS; i++) {
         struct pagelog_line *keeper = &keepers->keepers[i];
@@ -129,16 +148,17 @@ static int poll_once(struct pagelog_keepers *keepers, const char *line, uint64_t
             pagelog_line_lose(keeper);
         }
         if (!keeper->is_asked) continue;
-        bool has_more = keeper->is_connecting || keeper->sent < length;
-        polled[count] = (struct pollfd){.fd = keeper->socket, .events = has_more ? POLLOUT : POLLIN};
+        polled[count] = (struct pollfd){.fd = keeper->socket, .events = pagelog_line_events(keeper, length)};
+        has_held |= pagelog_line_holds(keeper);
         of[count++] = keeper;
     }
-    int ready = count == 0 ? -1 : poll(polled, count, (int)ms);
+    int ready = count == 0 ? -1 : poll(polled, count, has_held ? 0 : (int)ms);
+    if (has_held && ready == 0) ready = 1;
     for (size_t i = 0; i < count && ready > 0; i++) {
         bool is_good = true;
-        if (polled[i].revents && of[i]->is_connecting | (of[i]->sent < length))
+        if (polled[i].revents && pagelog_line_has_more(of[i], length))
             is_good = pagelog_line_send(of[i], line, length);
-        else if (polled[i].revents)
+        else if (polled[i].revents || pagelog_line_holds(of[i]))
             is_good = pagelog_line_read(of[i]);
         if (!is_good) pagelog_line_lose(of[i]);
     }
@@ -236,10 +256,19 @@ static bool read_identity(const char *of, char database[PAGELOG_IDENTITY_BYTES])
     return true;
 }
 
-/* at NAME GENERATION RUN ADDRESS ARCHIVED LINES BASE SHIFT .. of=DATABASE/RUN */
+/* What it says of the time before this run: nothing where it does not. */
+static void read_before(char **words, size_t count, struct pagelog_place *place) {
+    const char *after = value_of(words, count, "after"), *copied = value_of(words, count, "copied");
+    snprintf(place->after, sizeof place->after, "%s", after ? after : "");
+    if (count < 10 || !read_number(words[9], &place->kept)) place->kept = 0;
+    if (!copied || !read_number(copied, &place->copied)) place->copied = 0;
+}
+
+/* at NAME GENERATION RUN ADDRESS ARCHIVED LINES BASE SHIFT KEPT .. of=DATABASE/RUN */
 static bool read_place(char **words, size_t count, struct pagelog_place *place) {
     const char *ancestor = value_of(words, count, "ancestor");
     snprintf(place->ancestor, sizeof place->ancestor, "%s", ancestor ? ancestor : "");
+    read_before(words, count, place);
     return count >= 9 && read_identity(value_of(words, count, "of"), place->database) &&
            strcmp(words[0], "at") == 0 && read_number(words[2], &place->generation) &&
            copy_word(place->run, sizeof place->run, words[3]) &&
@@ -292,8 +321,10 @@ static enum pagelog_outcome refuse_place(struct pagelog_keepers *keepers, const 
 /* Begins a question for the place. */
 static struct told ask_where(struct pagelog_keepers *keepers, char line[WHERE_BYTES]) {
     snprintf(line, WHERE_BYTES, "where %s\n", keepers->name);
-    for (size_t i = 0; i < keepers->count; i++)
+    for (size_t i = 0; i < keepers->count; i++) {
+        keepers->keepers[i].proof = NULL;
         pagelog_line_ask(&keepers->keepers[i]);
+    }
     return (struct told){.until = pagelog_after(ANSWER_MS)};
 }
 
@@ -380,7 +411,8 @@ static bool read_fate(char **words, size_t count, uint64_t position, const char 
 
 /* The keeper of these lines, which is given a place of its own where it is none of those that were named. */
 static struct pagelog_line *find_keeper(struct pagelog_keepers *keepers, const char *lines) {
-    struct pagelog_line wanted = {.socket = -1}, *other = &keepers->keepers[PAGELOG_MOST_KEEPERS];
+    struct pagelog_line wanted = {.socket = -1, .tls = keepers->tls};
+    struct pagelog_line *other = &keepers->keepers[PAGELOG_MOST_KEEPERS];
     if (!lines || !pagelog_line_set_address(&wanted, lines, strlen(lines))) return NULL;
     for (size_t i = 0; i < keepers->count; i++)
         if (strcmp(keepers->keepers[i].host, wanted.host) == 0 &&
@@ -390,6 +422,12 @@ static struct pagelog_line *find_keeper(struct pagelog_keepers *keepers, const c
     pagelog_line_leave(other);
     *other = wanted;
     return other;
+}
+
+/* Has a keeper told, before its next question, whose token this is. */
+static void prove(struct pagelog_keepers *keepers, struct pagelog_line *keeper, const char *of) {
+    if (of != keepers->proof.of) snprintf(keepers->proof.of, sizeof keepers->proof.of, "%s", of);
+    keeper->proof = keepers->proof.is_there ? &keepers->proof : NULL;
 }
 
 /* The answer of one keeper. One that does not come would be mixed with later ones: the connection is left. */
@@ -427,6 +465,7 @@ static bool ask_fate(struct pagelog_keepers *keepers, struct pagelog_line *keepe
     snprintf(of, sizeof of, "%s/%s", place->database, place->run);
     snprintf(line, sizeof line, "durable %s %llu %llu of=%s\n", keepers->name,
              (unsigned long long)place->generation, (unsigned long long)position, of);
+    prove(keepers, keeper, of);
     size_t count = keeper->version == 1 ? 0 : ask_one(keepers, keeper, line, ms, answer, words);
     if (keeper->version == 1) return ask_older(keepers, keeper, place, position, fate);
     return read_fate(words, count, position, of, fate);
@@ -453,11 +492,13 @@ enum pagelog_outcome pagelog_fate_at_once(struct pagelog_keepers *keepers, const
 
 /* Nothing answers `full` itself: the answer that is waited for is that of the line after it. */
 void pagelog_keepers_tell_full(struct pagelog_keepers *keepers, const struct pagelog_place *place) {
-    char line[2 * LINE_BYTES], answer[PAGELOG_LINE_BYTES], *words[MOST_WORDS];
+    char line[2 * LINE_BYTES], of[PAGELOG_OF_BYTES], answer[PAGELOG_LINE_BYTES], *words[MOST_WORDS];
     struct pagelog_line *keeper = find_keeper(keepers, place->lines);
     if (!keeper || keeper->version == 1) return;
-    snprintf(line, sizeof line, "full %s %llu of=%s/%s\nwhere %s\n", keepers->name,
-             (unsigned long long)place->generation, place->database, place->run, keepers->name);
+    snprintf(of, sizeof of, "%s/%s", place->database, place->run);
+    snprintf(line, sizeof line, "full %s %llu of=%s\nwhere %s\n", keepers->name,
+             (unsigned long long)place->generation, of, keepers->name);
+    prove(keepers, keeper, of);
     size_t count = ask_one(keepers, keeper, line, SILENCE_MS, answer, words);
     if (count > 0 && strcmp(words[0], "what") == 0) pagelog_line_leave(keeper); /* it answers both */
 }
@@ -473,8 +514,11 @@ static enum pagelog_loss ask_loss(struct pagelog_keepers *keepers) {
     snprintf(of, sizeof of, "%s/%s", own->database, own->run);
     snprintf(line, sizeof line, "durable %s %llu 0 of=%s\n", keepers->name,
              (unsigned long long)own->generation, of);
-    for (size_t i = 0; i < keepers->count; i++)
-        if (keepers->keepers[i].version != 1) pagelog_line_ask(&keepers->keepers[i]);
+    for (size_t i = 0; i < keepers->count; i++) {
+        if (keepers->keepers[i].version == 1) continue;
+        prove(keepers, &keepers->keepers[i], of);
+        pagelog_line_ask(&keepers->keepers[i]);
+    }
     while (!fate.loss && next_answer(keepers, line, until, answer))
         if (!read_fate(words, split(answer, words), 0, of, &fate)) fate.loss = PAGELOG_NOT_LOST;
     stop_asking(keepers, line, false);

@@ -31,11 +31,14 @@ struct pagelog_place {
     char database[PAGELOG_IDENTITY_BYTES]; /* also another one of the same name has another */
     char ancestor[PAGELOG_PLACE_BYTES];    /* of a copy the name of the database that it is of; else empty */
     char run[PAGELOG_RUN_BYTES];
+    char after[PAGELOG_RUN_BYTES];     /* the run before, where its keeper knows that; else empty */
     char address[PAGELOG_PLACE_BYTES]; /* of the service */
     char lines[PAGELOG_PLACE_BYTES];   /* of the keeper that has it */
     uint64_t archived,
         base; /* positions: what is durable at least, and below which nothing can be read there */
     int64_t shift;
+    uint64_t kept, copied; /* positions: where the run before ended; and up to which the database began as a
+                            * copy, whose marks are those of others. 0: with nothing */
 };
 
 /* Why a run is lost. */
@@ -57,10 +60,15 @@ struct pagelog_fate {
 
 struct pagelog_keepers;
 
-/* The keepers of a database: `addresses` are "HOST:PORT,HOST:PORT". NULL where memory runs out, or the
- * addresses or the name cannot be a line's. */
-struct pagelog_keepers *pagelog_keepers_new(const char *addresses, const char *name);
+/* The keepers of a database: `addresses` are "HOST:PORT,HOST:PORT"; their lines, and those that places name,
+ * are by this TLS, or without where it is NULL. NULL where memory runs out, or the addresses or the name
+ * cannot be a line's. */
+struct pagelog_keepers *pagelog_keepers_new(const char *addresses, const char *name, struct pagelog_tls *tls);
 void pagelog_keepers_free(struct pagelog_keepers *keepers);
+
+/* Whose token is proved to keepers before they are asked what costs them something. */
+void pagelog_keepers_prove(struct pagelog_keepers *keepers, uint32_t principal,
+                           const uint8_t token[PAGELOG_TOKEN_BYTES]);
 
 /* As pagelog_set_waiting. */
 void pagelog_keepers_set_waiting(struct pagelog_keepers *keepers, bool (*goes_on)(void *argument),
@@ -84,6 +92,9 @@ const char *pagelog_keepers_reason(const struct pagelog_keepers *keepers);
 
 /* Whether the last pagelog_where was refused by all keepers: none of them listens. */
 bool pagelog_keepers_are_gone(const struct pagelog_keepers *keepers);
+
+/* What was wrong with TLS of one of them, in the last question; empty: nothing. */
+const char *pagelog_keepers_why(const struct pagelog_keepers *keepers);
 
 /* The place of the highest generation that a keeper knows of, where that is `least` or above, as who knows
  * most of its archive says, of those that answer soon after the first. LOST: nobody serves it now, no keeper
@@ -121,6 +132,9 @@ enum pagelog_outcome pagelog_fate_at_once(struct pagelog_keepers *keepers, const
 
 /* Tells the keeper of a place that its service had no memory: it begins the next generation, if it may. */
 void pagelog_keepers_tell_full(struct pagelog_keepers *keepers, const struct pagelog_place *place);
+
+/* What was wrong with TLS at the object's last connect; empty: nothing. */
+const char *pagelog_tls_why(const struct pagelog *log);
 
 /* The token that stands for `token` in a run of the database. */
 void pagelog_token_of_run(const struct pagelog_keepers *keepers, const uint8_t token[PAGELOG_TOKEN_BYTES],

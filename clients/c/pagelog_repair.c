@@ -127,8 +127,7 @@ static enum pagelog_outcome add_repairs(struct pagelog_file *file, uint64_t end,
 enum pagelog_outcome pagelog_repair(struct pagelog_file *file) {
     struct pages pages = {0};
     uint64_t end = pagelog_end(file->log), position = position_of(file, end);
-    struct mark mark = {
-        .size = file->mark.size, .session = file->session, .transaction = file->mark.transaction + 1};
+    struct mark mark = {.size = file->mark.size, .transaction = file->mark.transaction + 1};
     enum pagelog_outcome outcome = touched_pages(file, end, &pages);
     pagelog_blocks_restart(file->blocks, end + 1);
     for (size_t i = 0; i < pages.count && outcome == PAGELOG_DONE; i += GROUP) {
@@ -143,6 +142,7 @@ enum pagelog_outcome pagelog_repair(struct pagelog_file *file) {
     if (outcome != PAGELOG_DONE) return outcome;
     mark.lsn = lsn_of(file, position);
     file->mark = mark;
+    file->told_session = mark.session;
     file->next = mark.lsn + 1;
     file->repairs++;
     return PAGELOG_DONE;

@@ -54,7 +54,8 @@ static void set_least(struct pagelog *log, size_t least) {
  * counts what has come since it began to wait. */
 static bool sleep_for(struct pagelog *log, size_t least, uint64_t deadline) {
     short ready;
-    if (least == 1) return pagelog_read_some(log, 0);
+    if (least == 1 || log->secure)
+        return pagelog_read_some(log, 0); /* of TLS they are not what a socket counts */
     set_least(log, least);
     pagelog_wait_for(log, log->socket, POLLIN, deadline, &ready);
     set_least(log, 1);
@@ -204,7 +205,7 @@ enum pagelog_outcome pagelog_receive(struct pagelog *log, struct pagelog_reply *
 
 /* Sends a few bytes, which have room in a connection that nothing was sent over. */
 static bool send_alone(struct pagelog *log, const uint8_t *bytes, size_t length) {
-    ssize_t count = send(log->socket, bytes, length, MSG_NOSIGNAL | MSG_DONTWAIT);
+    ssize_t count = pagelog_put(log, bytes, length);
     log->counts.bytes_sent += count > 0 ? (uint64_t)count : 0;
     log->waits = true;
     return count == (ssize_t)length;

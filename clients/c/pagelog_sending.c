@@ -71,18 +71,26 @@ static void take_over_lent(struct pagelog *log) {
 bool pagelog_read_some(struct pagelog *log, int flags) {
     struct buffer *input = &log->input;
     if (!pagelog_reserve(input, READ_AT_ONCE)) return false;
-    ssize_t count = recv(log->socket, input->bytes + input->end, input->room - input->end, flags);
+    uint8_t *to = input->bytes + input->end;
+    size_t room = input->room - input->end;
+    ssize_t count = log->secure ? pagelog_secure_receive(log->secure, to, room, flags)
+                                : recv(log->socket, to, room, flags);
     if (count < 0) return errno == EAGAIN || errno == EWOULDBLOCK || errno == EINTR;
     input->end += (size_t)count;
     log->counts.bytes_received += (uint64_t)count;
     return count > 0;
 }
 
+ssize_t pagelog_put(struct pagelog *log, const void *bytes, size_t length) {
+    if (log->secure) return pagelog_secure_send(log->secure, bytes, length, 0);
+    return send(log->socket, bytes, length, MSG_NOSIGNAL | MSG_DONTWAIT);
+}
+
 /* Sends what it can of the output, and of what is lent. */
 static ssize_t send_pieces(struct pagelog *log) {
     const struct buffer *output = &log->output;
     const int flags = MSG_NOSIGNAL | MSG_DONTWAIT;
-    if (log->lent_count == 0) return send(log->socket, output->bytes + output->start, held(output), flags);
+    if (log->lent_count == 0) return pagelog_put(log, output->bytes + output->start, held(output));
     struct iovec pieces[MOST_PIECES];
     struct msghdr message = {.msg_iov = pieces, .msg_iovlen = pieces_of(log, pieces)};
     return sendmsg(log->socket, &message, flags);
@@ -91,6 +99,7 @@ static ssize_t send_pieces(struct pagelog *log) {
 /* Nothing is lent afterwards: what could not be sent is copied. */
 static bool send_some(struct pagelog *log) {
     struct buffer *output = &log->output;
+    if (log->secure) take_over_lent(log); /* what is encrypted is copied in any case */
     size_t lent = pagelog_lent_bytes(log), all = held(output) + lent;
     ssize_t count = send_pieces(log);
     bool goes_on = count >= 0 || errno == EAGAIN || errno == EWOULDBLOCK || errno == EINTR;

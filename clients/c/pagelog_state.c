@@ -55,6 +55,10 @@ uint64_t pagelog_file_generation(const struct pagelog_file *file) {
     return file->named.place.generation;
 }
 
+void pagelog_file_lend_token(const struct pagelog_file *file, struct pagelog_keepers *keepers) {
+    pagelog_keepers_prove(keepers, file->options.service.principal, file->named.token);
+}
+
 const struct pagelog_place *pagelog_file_place(const struct pagelog_file *file) {
     return file->named.has_place ? &file->named.place : NULL;
 }

@@ -13,25 +13,37 @@ struct pagelog_turn {
     struct pagelog_line line;
     char name[PAGELOG_PLACE_BYTES], lines[PAGELOG_PLACE_BYTES]; /* of the database; of the keeper */
     uint64_t generation;                                        /* in which it is asked for */
-    char of[PAGELOG_IDENTITY_BYTES + PAGELOG_RUN_BYTES];        /* the database and the run */
-    uint64_t looked; /* when what the keeper has said was read last */
-    bool is_asked;   /* no answer has come yet */
+    uint32_t written; /* the epoch that its holder has written in, as is told with `back`; 0: in none */
+    uint32_t epoch;   /* the last one that was written in before it was granted; 0: that was not told */
+    char of[PAGELOG_OF_BYTES];  /* the database and the run */
+    struct pagelog_proof proof; /* that it is a principal's */
+    uint64_t looked;            /* when what the keeper has said was read last */
+    bool is_asked;              /* no answer has come yet */
     bool is_soon; /* it was asked for `now`, and another keeps it, who may not use it: the answer is not known
                      yet */
     bool is_held;
-    bool is_used;       /* it was asked for, and not given back since */
-    bool is_mine;       /* it was held when its line or its generation ended: whoever had it comes first */
-    bool is_same;       /* the turn before was this one's too: nobody has written since */
-    bool is_kept;       /* it may be used again */
+    bool is_used;    /* it was asked for, and not given back since */
+    bool has_newest; /* its holder has all that was written before */
+    bool is_mine; /* such a one was held when its line or its generation ended: whoever had it comes first */
+    bool is_same; /* the turn before was this one's too: nobody has written since */
+    bool is_kept; /* it may be used again */
     bool is_wanted;     /* another waits for it */
     bool is_unheard;    /* that was said, and is not answered yet */
     bool has_heartbeat; /* it is answered at any time, by pagelog_turn_heartbeat */
+    bool takes_slices;  /* who asks now writes one transaction after the other */
+    uint64_t slice;     /* until when the one that is held is used without a word; 0: it is no slice */
+    uint64_t given;     /* when it was given back last, or would have been; 0: it was asked for since */
+    unsigned gaps;      /* how often in a row it was asked for right after that */
     uint64_t shunned;   /* until when a keeper that has not answered is left alone */
     uint64_t patient;   /* until when another keeper may have it, since it was lost here; 0: it was not */
 };
 
-/* A turn that was not asked for yet. */
-void pagelog_turn_begin(struct pagelog_turn *turn, const char *name);
+/* A turn that was not asked for yet; its line is by this TLS, or without where it is NULL. */
+void pagelog_turn_begin(struct pagelog_turn *turn, const char *name, struct pagelog_tls *tls);
+
+/* Whose token is proved to keepers before it is asked for. */
+void pagelog_turn_prove(struct pagelog_turn *turn, uint32_t principal,
+                        const uint8_t token[PAGELOG_TOKEN_BYTES]);
 
 /* For the end of it, and for a child of fork(): closes the connection. */
 void pagelog_turn_leave(struct pagelog_turn *turn);
@@ -54,7 +66,8 @@ void pagelog_turn_heartbeat(struct pagelog_turn *turn);
 /* As that, of a turn which is kept, unless it was looked after a moment ago. */
 void pagelog_turn_hold(struct pagelog_turn *turn);
 
-/* Gives it back, or waits for it no more. One that is kept stays, unless it is wanted. */
+/* Gives it back, or waits for it no more. One that is kept stays, unless it is wanted; a slice for its time,
+ * where one transaction has come right after the other. */
 void pagelog_turn_give(struct pagelog_turn *turn);
 
 #endif

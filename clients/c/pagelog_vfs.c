@@ -39,6 +39,12 @@
  *                    preload; log: to SQLite's log alone
  *   async_commits=N  with synchronous=off up to N commits, 64 at most, may be on their way to the service
  *                    while nobody waits for them; 0
+ *   sslmode=MODE     verify-full: TLS 1.3, and the service's and keepers' certificates are verified, with
+ *                    the host that is asked for; disable: none. Nothing between. It is verify-full where
+ *                    one of the next three is named, which `disable` beside them cannot take away
+ *   sslrootcert=FILE certificates of CAs, PEM, and
+ *   sslcert=FILE     of this client, with
+ *   sslkey=FILE      its key, which nobody else may read. Files that change are read again at a connect
  *
  * In place of `to`, for a database that keepers know by name:
  *
@@ -88,7 +94,8 @@
  *                        journal, which a crash would leave half written, and nothing is committed
  *
  * The message of an open that fails, as of sqlite3_errmsg, says why. Of a statement SQLite takes no message
- * from a VFS: the pragma below says it, SQLite's log, and with `errors=stderr` standard error.
+ * from a VFS: the preload joins it to SQLite's own, and the pragma below says it, SQLite's log, and with
+ * `errors=stderr` standard error.
  *
  * A wait for the service that takes longer than a second asks the connection's busy handler, as of
  * busy_timeout, and ends once that says so. Without one it ends by `timeout` and `patience`.
@@ -101,7 +108,8 @@
  * has, for all connections of the process, as an open with `op` does. `PRAGMA pagelog_entries` and
  * `pagelog_entries_left` count the audit list by some 24 requests of the operator. Of a named database
  * `pagelog_generation`, `pagelog_position`, `pagelog_durable`, `pagelog_moves` and `pagelog_resent` say where
- * it is. SQLite has a VFS report numbers as texts.
+ * it is, and `pagelog_origin` for which database and run its newest transaction was made, as DATABASE/RUN;
+ * empty where an older client has made that. SQLite has a VFS report numbers as texts.
  *
  * Connections of one process that write as one principal to one database share a file, by whatever address
  * they reach it, with the settings of the one that opened it, and lock as SQLite expects. Between processes
@@ -126,12 +134,14 @@ enum { NAME_BYTES = 1024 };
 sqlite3_vfs *pagelog_real_vfs;
 
 /* Says which setting is wrong. A name alone is mostly that of a plain file, of ATTACH or VACUUM INTO. */
-static int refuse_setting(sqlite3_filename name, const char *wrong) {
+static int refuse_setting(sqlite3_filename name, const char *wrong, const char *why) {
     bool is_shown = pagelog_reads_shown(name);
     if (!sqlite3_uri_key(name, 0) && strcmp(wrong, "to") == 0)
         pagelog_tell(SQLITE_MISUSE, is_shown,
                      "%s has no setting `to` or `where`; a plain file is opened as file:%s?vfs=unix", name,
                      name);
+    else if (*why)
+        pagelog_tell(SQLITE_MISUSE, is_shown, "the setting %s", why);
     else
         pagelog_tell(SQLITE_MISUSE, is_shown, "the setting %s is missing, unknown, or cannot be read", wrong);
     return SQLITE_MISUSE;
@@ -146,7 +156,7 @@ static int open_database(sqlite3_filename name, struct connection *connection, i
         return SQLITE_PERM;
     }
     const char *wrong = pagelog_read_settings(name, &options, &settings);
-    if (wrong) return refuse_setting(name, wrong);
+    if (wrong) return refuse_setting(name, wrong, settings.why);
     int code = pagelog_find_or_open(&options, &settings, &connection->database);
     if (code != SQLITE_OK) return code;
     pagelog_open_connection(connection, name);

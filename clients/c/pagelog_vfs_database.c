@@ -69,6 +69,9 @@ int pagelog_result(struct database *database, enum pagelog_outcome outcome) {
 }
 
 int pagelog_result_of_begin(struct database *database, enum pagelog_outcome outcome) {
+    char text[ERROR_BYTES];
+    if (outcome == PAGELOG_DONE && pagelog_file_take_note(database->file, text, sizeof text))
+        pagelog_tell(SQLITE_NOTICE, database->shows_errors, "%s", text);
     if (outcome == PAGELOG_DONE) return SQLITE_OK;
     bool is_promised = outcome != PAGELOG_IN_DOUBT || pagelog_file_state_of(database->file).is_over;
     return note(database, is_promised ? code_of(database->file, outcome) : SQLITE_IOERR);
@@ -96,8 +99,8 @@ static char *key_of(const struct pagelog_file_options *options) {
     char token[2 * PAGELOG_TOKEN_BYTES + 1];
     for (size_t i = 0; i < PAGELOG_TOKEN_BYTES; i++)
         sprintf(token + 2 * i, "%02x", options->service.token[i]);
-    return sqlite3_mprintf("%u %u %s %s", options->service.database, options->service.principal, token,
-                           options->keepers ? options->database_name : "");
+    return sqlite3_mprintf("%p %u %u %s %s", (void *)options->service.tls, options->service.database,
+                           options->service.principal, token, options->keepers ? options->database_name : "");
 }
 
 static void take_operator(struct database *database, const struct pagelog_file_options *options) {
@@ -122,7 +125,9 @@ static struct database *make_database(const struct pagelog_file_options *options
     database->name = sqlite3_mprintf("%s", options->name);
     database->mutex = sqlite3_mutex_alloc(SQLITE_MUTEX_FAST);
     database->file = pagelog_file_new(options);
-    pagelog_turn_begin(&database->turn, database->is_named ? options->database_name : "");
+    database->tls = options->service.tls;
+    pagelog_turn_begin(&database->turn, database->is_named ? options->database_name : "", database->tls);
+    pagelog_turn_prove(&database->turn, options->service.principal, options->service.token);
     pthread_mutex_init(&database->turn_guard, NULL);
     take_operator(database, options);
     if (database->key && database->address && database->name && database->kept_name && database->mutex &&
@@ -281,6 +286,17 @@ void pagelog_unlist_connection(struct connection *connection) {
     sqlite3_mutex_leave(list_mutex());
 }
 
+const char *pagelog_find_message(sqlite3 *db,
+                                 const char *(*look)(struct connection *connection, const char *message),
+                                 const char *message) {
+    const char *found = NULL;
+    sqlite3_mutex_enter(list_mutex());
+    for (struct connection *at = connections; at && !found; at = at->next)
+        if (at->sqlite && *at->sqlite == db) found = look(at, message);
+    sqlite3_mutex_leave(list_mutex());
+    return found;
+}
+
 /* ---- Forks ---- */
 
 /* The lists are whole in a child: no thread is amid a change of them while this process forks. */
@@ -307,6 +323,7 @@ static void after_fork_in_child(void) {
         pagelog_disown_connection(connection);
     }
     pagelog_abandon_polls();
+    pagelog_forget_tls();
     databases = NULL;
     connections = NULL;
     sqlite3_mutex_leave(list_mutex());

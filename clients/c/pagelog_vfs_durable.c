@@ -8,7 +8,8 @@
 static struct pagelog_keepers *keepers_of(struct connection *connection) {
     const struct database *database = connection->database;
     if (!connection->keepers)
-        connection->keepers = pagelog_keepers_new(database->address, database->kept_name);
+        connection->keepers = pagelog_keepers_new(database->address, database->kept_name, database->tls);
+    if (connection->keepers) pagelog_file_lend_token(database->file, connection->keepers);
     return connection->keepers;
 }
 

@@ -4,7 +4,12 @@
  * An open that fails has no connection to ask by a pragma. But SQLite asks automatic extensions after it has
  * opened the file, and ends the open by an error that one of them has left. So a file is opened that refuses
  * everything, and an extension asks it by the pragma: the answer becomes the message of the open. Where none
- * is asked, as in ATTACH, the file's refusal ends the statement by the same code. */
+ * is asked, as in ATTACH, the file's refusal ends the statement by the same code.
+ *
+ * Of a statement sqlite3VdbeTransferError sets the message, as the last thing that a step does, to what the
+ * statement has: the text of its code. No call that an extension may make comes after that. So the sentence
+ * is joined to it where the message is asked for, by who can be asked in SQLite's place: the preload. */
+#include "pagelog_vfs.h"
 #include "pagelog_vfs_inside.h"
 
 #include <errno.h>
@@ -14,13 +19,19 @@
 #include <time.h>
 #include <unistd.h>
 
-enum { SENTENCE_BYTES = ERROR_BYTES + 32, REPEATED_SECONDS = 10 };
+enum { REPEATED_SECONDS = 10 };
 
 /* The open that this thread is in. */
 static _Thread_local struct {
     bool is_under_way;
     char sentence[SENTENCE_BYTES];
 } opening;
+
+/* The call that this thread is in. */
+static _Thread_local struct {
+    struct connection *connection;
+    char sentence[SENTENCE_BYTES]; /* why it fails; empty: that is not known */
+} called;
 
 /* A file that could not be opened. */
 struct refused {
@@ -68,10 +79,46 @@ void pagelog_tell(int code, bool is_shown, const char *format, ...) {
     va_end(arguments);
     bool is_passing = (code & 0xff) == SQLITE_BUSY; /* a program that shares a database expects it */
     if (is_shown && !is_passing && !was_shown(sentence)) dprintf(STDERR_FILENO, "%s\n", sentence);
+    if (code != SQLITE_NOTICE && code != SQLITE_WARNING) strcpy(called.sentence, sentence);
     if (opening.is_under_way)
         strcpy(opening.sentence, sentence);
     else
         sqlite3_log(code, "%s", sentence);
+}
+
+/* ---- The message of a statement ---- */
+
+void pagelog_note_sentence(const char *text) {
+    snprintf(called.sentence, sizeof called.sentence, "pagelog: %s", text);
+}
+
+void pagelog_begin_call(struct connection *connection) {
+    called.connection = connection;
+    *called.sentence = 0;
+}
+
+int pagelog_end_call(int code) {
+    struct connection *connection = called.connection;
+    bool has_failed = code != SQLITE_OK && code != SQLITE_NOTFOUND && code != SQLITE_IOERR_SHORT_READ;
+    called.connection = NULL;
+    if (!connection || !has_failed) return code;
+    connection->failed = code;
+    strcpy(connection->sentence, called.sentence);
+    return code;
+}
+
+/* Joins why a call failed to the text of its code, where SQLite says no more than that. */
+static const char *join(struct connection *connection, const char *message) {
+    int code = connection->failed;
+    bool is_its = *connection->sentence && strcmp(message, sqlite3_errstr(code)) == 0;
+    if (!is_its) return NULL;
+    snprintf(connection->message, sizeof connection->message, "%s: %s", message, connection->sentence);
+    return connection->message;
+}
+
+const char *pagelog_explain_message(sqlite3 *db, const char *message) {
+    const char *joined = db && message ? pagelog_find_message(db, join, message) : NULL;
+    return joined ? joined : message;
 }
 
 /* ---- A file that refuses ---- */

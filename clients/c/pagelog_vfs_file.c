@@ -2,6 +2,8 @@
  * it. */
 #include "pagelog_vfs_inside.h"
 
+#include "pagelog_common.h"
+
 #include <string.h>
 #include <unistd.h>
 
@@ -175,6 +177,29 @@ static int file_truncate(sqlite3_file *file, sqlite3_int64 size) {
     return leave(database, note_error(file, as_io_error(code)));
 }
 
+/* Whether SQLite makes the file shorter once it is committed: so its first page says. */
+static bool becomes_shorter(const struct database *database) {
+    enum { SIZE_OFFSET = 16, PAGES_OFFSET = 28, HEAD = PAGES_OFFSET + 4 };
+    unsigned char head[HEAD];
+    size_t count = 0;
+    if (pagelog_file_read(database->file, 0, head, sizeof head, &count) != PAGELOG_DONE || count < HEAD)
+        return true;
+    uint64_t bytes = pagelog_read_number(head + SIZE_OFFSET, 2),
+             pages = pagelog_read_number(head + PAGES_OFFSET, 4);
+    return pagelog_file_size(database->file) != pages * (bytes == 1 ? 65536 : bytes);
+}
+
+/* The service has the commit. What another process writes next is upon it, in whatever generation, and is
+ * durable after it: that does not wait until this one is. It does where SQLite may write on with this turn:
+ * where the lock is kept, where a commit to several databases may be rolled back, and where the file becomes
+ * shorter. */
+static void give_turn_before_wait(struct connection *connection) {
+    struct database *database = connection->database;
+    bool may_write_on = connection->is_exclusive || connection->is_of_several;
+    if (connection->synchronous < SYNCHRONOUS_FULL || may_write_on || !connection->is_committed) return;
+    if (database->turn_of == connection && !becomes_shorter(database)) pagelog_give_turn(connection);
+}
+
 /* Follows the commit, unless synchronous=off. */
 static int file_sync(sqlite3_file *file, int flags) {
     (void)flags;
@@ -182,6 +207,7 @@ static int file_sync(sqlite3_file *file, int flags) {
     struct database *database = enter(file);
     if (connection->decision != DECIDED) return leave(database, SQLITE_OK); /* of a rollback */
     int code = pagelog_result(database, pagelog_file_settle(database->file));
+    if (code == SQLITE_OK) give_turn_before_wait(connection);
     if (code == SQLITE_OK) code = pagelog_wait_until_durable(connection);
     return leave(database, note_error(file, code));
 }
@@ -230,6 +256,7 @@ static int file_control(sqlite3_file *file, int operation, void *argument) {
     int code = SQLITE_NOTFOUND;
     switch (operation) {
     case SQLITE_FCNTL_SYNC:
+        connection->is_of_several = argument != NULL;
         code = commit(connection);
         if (code == SQLITE_OK) pagelog_warn_of_full_list(database);
         note_error(file, code);
@@ -280,7 +307,7 @@ static const sqlite3_io_methods file_methods = {
 void pagelog_open_connection(struct connection *connection, sqlite3_filename name) {
     connection->lock = SQLITE_LOCK_NONE;
     connection->is_sized = connection->is_refused = connection->is_committed = false;
-    connection->is_exclusive = false;
+    connection->is_exclusive = connection->is_of_several = false;
     connection->busy = NULL;
     connection->sqlite = NULL;
     connection->keepers = NULL;
@@ -291,6 +318,7 @@ void pagelog_open_connection(struct connection *connection, sqlite3_filename nam
     connection->decision = DECIDED;
     connection->synchronous = SYNCHRONOUS_FULL; /* as SQLite begins */
     connection->journal_mode = "delete";
+    *connection->sentence = 0;
     connection->base.pMethods = &file_methods;
     pagelog_list_connection(connection, name);
     enter(&connection->base);

@@ -96,9 +96,9 @@ bool pagelog_start_heartbeat(struct database *database) {
     return database->has_heartbeat;
 }
 
-void pagelog_note_grant(void) {
+void pagelog_note_grant(bool is_slice) {
     pthread_mutex_lock(&mutex);
-    is_changed = true;
+    is_changed |= !is_slice; /* the end of a slice is heard at once, as nobody may write then */
     if (is_asleep) eventfd_write(woken, 1);
     is_asleep = false;
     pthread_mutex_unlock(&mutex);

@@ -21,6 +21,7 @@ enum {
     LEAST_SECTOR_BYTES = 512,
     VALUE_BYTES = 256,                          /* of a setting */
     ERROR_BYTES = 2 * PAGELOG_NAME_BYTES + 128, /* with two names */
+    SENTENCE_BYTES = ERROR_BYTES + 32,
 };
 
 /* The audit list is full, by which SQLite's extended code differs from a service without memory. */
@@ -47,6 +48,7 @@ struct database {
     uint32_t operator_principal;
     uint8_t operator_token[PAGELOG_TOKEN_BYTES];
     bool is_inherited;          /* this process is a child of the one that has opened it */
+    struct pagelog_tls *tls;    /* NULL: none */
     bool is_named;              /* by keepers, the addresses of which are `address` then */
     char *kept_name;            /* the name that they know it by, or NULL */
     struct pagelog_turn turn;   /* to write, among processes */
@@ -55,6 +57,7 @@ struct database {
     bool has_heartbeat;
     struct connection *turn_of;       /* who has it, or waits for it; NULL: nobody */
     unsigned turn_writes;             /* in the transaction that has it */
+    bool is_contended;                /* another process has written since the turn before, or has the turn */
     struct connection *first_waiting; /* of this process, for the write lock, in the order of asking */
     unsigned
         durable_waits;   /* commits that are in the log, and wait until they are durable; others may read */
@@ -106,7 +109,12 @@ struct connection {
     /* What was set by `PRAGMA synchronous`, `locking_mode` and `journal_mode`. */
     int synchronous;
     bool is_exclusive;
+    bool is_of_several; /* the last commit is to several databases: SQLite gives the name of their
+                           super-journal */
     const char *journal_mode;
+    /* The last code of a call that failed, and why, where that is known; and both as one message. */
+    int failed;
+    char sentence[SENTENCE_BYTES], message[2 * SENTENCE_BYTES];
 };
 
 /* A journal, or the super-journal of several databases, which has the names of their journals. */
@@ -124,12 +132,18 @@ extern sqlite3_vfs *pagelog_real_vfs;
 /* Whether a connection lets a wait for the service go on: its busy handler ends it, or sqlite3_interrupt. */
 bool pagelog_connection_waits_on(void *connection);
 
+/* ---- pagelog_vfs_errors.c: around each call of a connection's ---- */
+
+void pagelog_begin_call(struct connection *connection);
+int pagelog_end_call(int code);
+
 /* The database of a connection, whose mutex is taken until `leave`, which returns the code that it is given.
  * What waits for the service meanwhile waits for this connection. */
 static inline struct database *enter(sqlite3_file *file) {
     struct connection *connection = (struct connection *)file;
     struct database *database = connection->database;
     sqlite3_mutex_enter(database->mutex);
+    pagelog_begin_call(connection);
     connection->has_waited = false;
     pagelog_file_set_waiting(database->file, pagelog_connection_waits_on, connection);
     return database;
@@ -137,7 +151,7 @@ static inline struct database *enter(sqlite3_file *file) {
 
 static inline int leave(struct database *database, int code) {
     sqlite3_mutex_leave(database->mutex);
-    return code;
+    return pagelog_end_call(code);
 }
 
 /* ---- pagelog_vfs_settings.c ---- */
@@ -150,13 +164,27 @@ bool pagelog_read_number_of(const char *text, uint64_t most, uint64_t *number);
 /* What the settings say beside the options, and what those point to. */
 struct settings {
     char address[VALUE_BYTES],
-        name[VALUE_BYTES]; /* of the service; or the keepers, and the name that they know */
-    uint64_t entries;      /* that the audit list may have */
-    bool shows_errors;     /* on standard error */
+        name[VALUE_BYTES];               /* of the service; or the keepers, and the name that they know */
+    uint64_t entries;                    /* that the audit list may have */
+    bool shows_errors;                   /* on standard error */
+    char why[VALUE_BYTES + ERROR_BYTES]; /* what is wrong with a setting, where its name does not say all */
 };
+
+/* A setting: of the URI, of the file of credentials, or of the environment. One that is too long is none that
+ * can be read. `*rank` says which of them has it: the nearest has the lowest. */
+bool pagelog_find_setting(sqlite3_filename uri, const char *name, char value[VALUE_BYTES], int *rank);
 
 /* Whether others may read the file that `credentials` names: then nothing is read of it. */
 bool pagelog_has_shared_credentials(sqlite3_filename uri);
+
+/* ---- pagelog_vfs_tls.c ---- */
+
+/* Reads sslmode, sslrootcert, sslcert and sslkey. The name of the one that is wrong, and why where that says
+ * more, or NULL; `*tls` is NULL then where none of them asks for TLS, and else the process's own. */
+const char *pagelog_read_tls(sqlite3_filename uri, struct pagelog_tls **tls, char *why, size_t room);
+
+/* In a child of fork(), which makes its own. */
+void pagelog_forget_tls(void);
 
 /* Reads all settings; the name of the first one that is missing, has no meaning, or cannot be read, or NULL.
  */
@@ -183,6 +211,11 @@ void pagelog_warn_of_full_list(struct database *database);
 
 /* Takes over again where that is wanted, and no connection reads what is there now. */
 int pagelog_take_over_if_wanted(struct database *database);
+
+/* Has each connection of a connection of SQLite's looked at, until one is found; NULL: none is. */
+const char *pagelog_find_message(sqlite3 *db,
+                                 const char *(*look)(struct connection *connection, const char *message),
+                                 const char *message);
 
 /* The database of these options, open, with one reference more. One that was fenced is taken over again where
  * the options have an operator. */
@@ -273,6 +306,9 @@ bool pagelog_sleep_for_turn(int microseconds);
  * becomes the message of that. */
 void pagelog_tell(int code, bool is_shown, const char *format, ...) __attribute__((format(printf, 3, 4)));
 
+/* The same of the present call alone: it goes to no log. */
+void pagelog_note_sentence(const char *text);
+
 /* Whether errors are shown where no setting says so. */
 bool pagelog_shows_by_default(void);
 void pagelog_show_errors(void);
@@ -288,7 +324,7 @@ int pagelog_end_open(sqlite3_file *file, int code);
 bool pagelog_start_heartbeat(struct database *database);
 
 /* A turn was granted that was not held before. */
-void pagelog_note_grant(void);
+void pagelog_note_grant(bool is_slice);
 
 /* Before a database is freed. */
 void pagelog_stop_heartbeat(struct database *database);

@@ -28,6 +28,7 @@ static int lock_shared(struct database *database) {
     if (database->sharing > 0 && pagelog_file_state_of(database->file).is_over) return SQLITE_BUSY;
     if (database->is_loss_untold) {
         database->is_loss_untold = false;
+        pagelog_note_sentence(database->error);
         return SQLITE_IOERR_FSYNC;
     }
     int code = pagelog_take_over_if_wanted(database);
@@ -47,6 +48,7 @@ static int refuse_write(struct database *database, const struct pagelog_file_sta
                  state->writing_epoch, state->epoch);
     else
         snprintf(database->error, sizeof database->error, "this connection only reads");
+    pagelog_note_sentence(database->error);
     return SQLITE_READONLY;
 }
 
@@ -92,7 +94,10 @@ int pagelog_lock(sqlite3_file *file, int lock) {
         pagelog_give_turn(connection);
         pagelog_wake_next(database);
     }
-    if (code == SQLITE_OK && connection->lock == SQLITE_LOCK_NONE) connection->lock = SQLITE_LOCK_SHARED;
+    if (code == SQLITE_OK && connection->lock == SQLITE_LOCK_NONE) {
+        connection->lock = SQLITE_LOCK_SHARED;
+        *connection->sentence = 0; /* of a statement that is over */
+    }
     if (code == SQLITE_OK && lock == SQLITE_LOCK_RESERVED) code = lock_reserved(database, connection);
     if (code == SQLITE_OK && lock == SQLITE_LOCK_EXCLUSIVE) code = lock_exclusive(database, connection);
     if (code == SQLITE_OK) connection->lock = lock;

@@ -21,6 +21,7 @@ struct holder_poll {
     struct holder_poll *next;
     unsigned references;
     char *addresses;
+    struct pagelog_tls *tls; /* by which they are asked: what others say is no answer */
     char name[PAGELOG_PLACE_BYTES], identity[PAGELOG_IDENTITY_BYTES]; /* of the database */
     sqlite3_mutex *mutex;
     struct pagelog_keepers *keepers;
@@ -62,7 +63,8 @@ static struct holder_poll *make_poll(const struct database *database, const stru
     poll->references = 1;
     poll->addresses = sqlite3_mprintf("%s", database->address);
     poll->mutex = sqlite3_mutex_alloc(SQLITE_MUTEX_FAST);
-    poll->keepers = pagelog_keepers_new(database->address, database->kept_name);
+    poll->tls = database->tls;
+    poll->keepers = pagelog_keepers_new(database->address, database->kept_name, database->tls);
     if (!poll->addresses || !poll->mutex || !poll->keepers) {
         free_poll(poll);
         return NULL;
@@ -78,8 +80,8 @@ static struct holder_poll *make_poll(const struct database *database, const stru
 static struct holder_poll *find(const struct database *database, const struct pagelog_place *place) {
     struct holder_poll *poll = polls;
     while (poll &&
-           (strcmp(poll->addresses, database->address) != 0 || strcmp(poll->name, database->kept_name) != 0 ||
-            strcmp(poll->identity, place->database) != 0))
+           (poll->tls != database->tls || strcmp(poll->addresses, database->address) != 0 ||
+            strcmp(poll->name, database->kept_name) != 0 || strcmp(poll->identity, place->database) != 0))
         poll = poll->next;
     if (poll) poll->references++;
     return poll;

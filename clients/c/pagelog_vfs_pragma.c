@@ -94,6 +94,14 @@ static int count_entries(struct database *database, bool is_left, char **words) 
     return code;
 }
 
+/* For which database and run the newest transaction was made. */
+static int tell_origin(struct database *database, char **words) {
+    char text[ERROR_BYTES];
+    int code = pagelog_result(database, pagelog_file_origin(database->file, text, sizeof text));
+    *words = sqlite3_mprintf("%s", code == SQLITE_OK ? text : database->error);
+    return code;
+}
+
 /* Waits for what is on its way, and then changes how much may be. */
 static int set_async_commits(struct database *database, uint64_t number) {
     int code = pagelog_result(database, pagelog_file_settle(database->file));
@@ -168,6 +176,7 @@ int pagelog_answer_pragma(struct connection *connection, char **arguments) {
          is_left = sqlite3_stricmp(name, "_entries_left") == 0;
     if (is_left || sqlite3_stricmp(name, "_entries") == 0)
         return count_entries(database, is_left, &arguments[0]);
+    if (sqlite3_stricmp(name, "_origin") == 0) return tell_origin(database, &arguments[0]);
     if (is_take_over)
         code = take_over(connection, &arguments[0]);
     else if (arguments[2])

@@ -16,12 +16,12 @@ enum { DEFAULT_SPIN_US = 50 };
 enum { MOST_ENTRIES = 1 << 24 };
 
 /* The parameters of a URI: these, and SQLite's own. */
-static const char *const known[] = {"to",          "db",      "id",    "token",   "op",       "optoken",
-                                    "mode",        "at",      "check", "stale",   "pages",    "copies",
-                                    "quorum",      "written", "spin",  "timeout", "patience", "async_commits",
-                                    "credentials", "audit",   "vfs",   "cache",   "psow",     "nolock",
-                                    "immutable",   "modeof",  "where", "name",    "move",     "durable",
-                                    "errors"};
+static const char *const known[] = {
+    "to",    "db",      "id",       "token",         "op",          "optoken", "mode",
+    "at",    "check",   "stale",    "pages",         "copies",      "quorum",  "written",
+    "spin",  "timeout", "patience", "async_commits", "credentials", "audit",   "vfs",
+    "cache", "psow",    "nolock",   "immutable",     "modeof",      "where",   "name",
+    "move",  "durable", "errors",   "sslmode",       "sslrootcert", "sslcert", "sslkey"};
 
 /* Opens a file of credentials. NULL where it cannot be read, and where others may read it, as `*is_shared`
  * says. */
@@ -61,9 +61,8 @@ static bool find_in_environment(const char *name, char *value) {
     for (size_t i = 0; name[i] && length + 1 < sizeof variable; i++)
         variable[length++] = (char)toupper((unsigned char)name[i]);
     const char *text = getenv(variable);
-    if (!text || strlen(text) >= VALUE_BYTES) return false;
-    strcpy(value, text);
-    return true;
+    if (text) strcpy(value, strlen(text) < VALUE_BYTES ? text : "");
+    return text;
 }
 
 /* The first parameter that has no meaning, or NULL. */
@@ -78,12 +77,20 @@ static const char *find_unknown(sqlite3_filename uri) {
     return NULL;
 }
 
-/* A setting: of the URI, of the file of credentials, or of the environment. One that is too long is none that
- * can be read. */
-static bool find_setting(sqlite3_filename uri, const char *name, char value[VALUE_BYTES]) {
+bool pagelog_find_setting(sqlite3_filename uri, const char *name, char value[VALUE_BYTES], int *rank) {
     const char *text = sqlite3_uri_parameter(uri, name), *path = sqlite3_uri_parameter(uri, "credentials");
     if (text) strcpy(value, strlen(text) < VALUE_BYTES ? text : "");
-    return text || (path && find_in_file(path, name, value)) || find_in_environment(name, value);
+    *rank = 0;
+    if (text) return true;
+    *rank = 1;
+    if (path && find_in_file(path, name, value)) return true;
+    *rank = 2;
+    return find_in_environment(name, value);
+}
+
+static bool find_setting(sqlite3_filename uri, const char *name, char value[VALUE_BYTES]) {
+    int rank;
+    return pagelog_find_setting(uri, name, value, &rank);
 }
 
 bool pagelog_read_number_of(const char *text, uint64_t most, uint64_t *number) {
@@ -218,6 +225,7 @@ const char *pagelog_read_settings(sqlite3_filename uri, struct pagelog_file_opti
     uint64_t pages = 0, stale = 0;
     const char *wrong = find_unknown(uri);
     settings->entries = MOST_ENTRIES;
+    *settings->why = 0;
     settings->shows_errors = pagelog_reads_shown(uri);
     if (!wrong && strlen(uri) > PAGELOG_NAME_BYTES) wrong = "(name)";
     if (!wrong) wrong = read_place(uri, options, settings);
@@ -225,6 +233,7 @@ const char *pagelog_read_settings(sqlite3_filename uri, struct pagelog_file_opti
     if (!wrong) wrong = read_zone(uri, options);
     if (!wrong) wrong = read_waits(uri, options);
     if (!wrong && !is_shown_or_hidden(uri)) wrong = "errors";
+    if (!wrong) wrong = pagelog_read_tls(uri, &options->service.tls, settings->why, sizeof settings->why);
     if (wrong) return wrong;
     if (!read_setting(uri, "at", PAGELOG_LAST_LSN, &options->at)) return "at";
     if (!read_setting(uri, "pages", UINT32_MAX, &pages)) return "pages";

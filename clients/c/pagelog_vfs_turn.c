@@ -40,16 +40,19 @@ static bool waits_on(struct connection *connection, int fd) {
     return goes_on;
 }
 
-static enum pagelog_outcome ask(struct database *database, bool now) {
+static enum pagelog_outcome ask(const struct connection *connection, bool now) {
+    struct database *database = connection->database;
     struct pagelog_awaited place = {.position = UINT64_MAX};
     pagelog_file_is_durable(database->file, &place);
     bool has_heartbeat = pagelog_start_heartbeat(database);
     pthread_mutex_lock(&database->turn_guard);
     bool was_held = database->turn.is_held;
     database->turn.has_heartbeat = has_heartbeat;
+    database->turn.takes_slices = connection->synchronous < SYNCHRONOUS_FULL;
     enum pagelog_outcome outcome = pagelog_turn_ask(&database->turn, &place.place, now);
+    bool is_slice = database->turn.slice > 0;
     pthread_mutex_unlock(&database->turn_guard);
-    if (outcome == PAGELOG_DONE && !was_held) pagelog_note_grant();
+    if (outcome == PAGELOG_DONE && !was_held) pagelog_note_grant(is_slice);
     return outcome;
 }
 
@@ -57,8 +60,9 @@ static enum pagelog_outcome ask(struct database *database, bool now) {
 static enum pagelog_outcome look(struct database *database) {
     pthread_mutex_lock(&database->turn_guard);
     enum pagelog_outcome outcome = pagelog_turn_look(&database->turn);
+    bool is_slice = database->turn.slice > 0;
     pthread_mutex_unlock(&database->turn_guard);
-    if (outcome == PAGELOG_DONE) pagelog_note_grant();
+    if (outcome == PAGELOG_DONE) pagelog_note_grant(is_slice);
     return outcome;
 }
 
@@ -73,11 +77,23 @@ static bool is_held_in(struct database *database, uint64_t generation) {
 static void take(struct connection *connection, enum pagelog_outcome outcome) {
     struct database *database = connection->database;
     pthread_mutex_lock(&database->turn_guard);
-    bool is_same = database->turn.is_same;
+    bool is_same = database->turn.is_same, is_slice = database->turn.slice > 0;
     pthread_mutex_unlock(&database->turn_guard);
     if (outcome != PAGELOG_DONE || !is_same) pagelog_file_doubt(database->file);
+    database->is_contended = outcome == PAGELOG_DONE && (!is_same || is_slice);
     database->turn_of = connection;
     database->turn_writes = 0;
+}
+
+/* The begin that follows may become the writer at once, as who had the turn before has said in which epoch.
+ */
+static void expect_hand_over(struct database *database) {
+    pthread_mutex_lock(&database->turn_guard);
+    bool is_other = database->turn.is_held && !database->turn.is_same;
+    uint32_t epoch = is_other ? database->turn.epoch : 0;
+    uint64_t generation = database->turn.generation;
+    pthread_mutex_unlock(&database->turn_guard);
+    pagelog_file_hand_over(database->file, epoch, generation);
 }
 
 /* ---- The connections of this process, in the order of asking ---- */
@@ -134,8 +150,12 @@ static bool wait_in_line(struct connection *connection) {
 void pagelog_give_turn(struct connection *connection) {
     struct database *database = connection->database;
     if (database->turn_of == connection) {
+        struct pagelog_file_state state = pagelog_file_state_of(database->file);
+        bool has_written = database->is_named && state.is_writer;
         database->turn_of = NULL;
+        pagelog_file_hand_over(database->file, 0, 0);
         pthread_mutex_lock(&database->turn_guard);
+        database->turn.written = has_written ? state.writing_epoch : 0;
         pagelog_turn_give(&database->turn);
         pthread_mutex_unlock(&database->turn_guard);
     }
@@ -149,8 +169,26 @@ void pagelog_hold_turn(struct connection *connection) {
     pthread_mutex_unlock(&database->turn_guard);
 }
 
+/* Whether a statement of SQLite's that runs now writes, to this database alone: of several each would wait
+ * with the turn of another. */
+static bool writes_now(const struct connection *connection) {
+#if SQLITE_VERSION_NUMBER >= 3039000
+    sqlite3 *sqlite = connection->sqlite ? *connection->sqlite : NULL;
+    bool is_alone = sqlite && sqlite3_libversion_number() >= 3039000 && sqlite3_db_name(sqlite, 2) == NULL;
+    sqlite3_stmt *statement = is_alone ? sqlite3_next_stmt(sqlite, NULL) : NULL;
+    for (; statement; statement = sqlite3_next_stmt(sqlite, statement))
+        if (sqlite3_stmt_busy(statement) && !sqlite3_stmt_readonly(statement)) return true;
+#else
+    (void)connection;
+#endif
+    return false;
+}
+
 int pagelog_wait_for_turn(struct connection *connection) {
     struct database *database = connection->database;
+    bool is_foreseen = !connection->wants_turn && database->is_contended && database->sharing == 0 &&
+                       connection->busy && writes_now(connection);
+    connection->wants_turn |= is_foreseen;
     bool asks = connection->wants_turn && database->sharing == 0;
     if (!asks && !connection->wants_lock) return SQLITE_OK;
     connection->wants_lock = false;
@@ -158,14 +196,15 @@ int pagelog_wait_for_turn(struct connection *connection) {
     database->turn_of = connection;
     if (!connection->wants_turn || database->sharing > 0) return SQLITE_OK;
     connection->wants_turn = false;
-    enum pagelog_outcome outcome = ask(database, false);
+    enum pagelog_outcome outcome = ask(connection, false);
     while (outcome == PAGELOG_CONFLICT && waits_on(connection, database->turn.line.socket))
         outcome = pagelog_file_is_overtaken(database->file) ? PAGELOG_LOST : look(database);
     if (outcome == PAGELOG_CONFLICT) {
         pagelog_give_turn(connection);
-        return SQLITE_BUSY;
+        return is_foreseen ? SQLITE_OK : SQLITE_BUSY; /* of one that is kept and unused nobody knows yet */
     }
     take(connection, outcome);
+    if (outcome == PAGELOG_DONE) expect_hand_over(database);
     return SQLITE_OK;
 }
 
@@ -185,6 +224,21 @@ static bool comes_soon(struct connection *connection, uint64_t until) {
     return true;
 }
 
+/* Whether a transaction that has read begins to write. */
+static bool is_upgrade(const struct connection *connection) {
+    bool is_known = connection->sqlite && *connection->sqlite && sqlite3_libversion_number() >= 3034000;
+    return is_known && sqlite3_txn_state(*connection->sqlite, NULL) != SQLITE_TXN_NONE;
+}
+
+/* Whether such a one waits on where the keeper does not answer, and another may soon have the database. Any
+ * other begins again, and asks there. */
+static bool comes_elsewhere(struct connection *connection) {
+    struct database *database = connection->database;
+    bool may_come = connection->busy && pagelog_turn_may_come(&database->turn);
+    return may_come && is_upgrade(connection) && !pagelog_file_is_overtaken(database->file) &&
+           waits_on(connection, -1);
+}
+
 /* Has the turn of the generation that the file is in. One that was waited for may be of a generation that is
  * over, or of none where its keeper was gone. */
 static int have_turn(struct connection *connection) {
@@ -192,18 +246,28 @@ static int have_turn(struct connection *connection) {
     if (database->turn_of == connection && is_held_in(database, pagelog_file_generation(database->file)))
         return SQLITE_OK;
     database->turn_of = connection;
-    enum pagelog_outcome outcome = ask(database, true);
+    enum pagelog_outcome outcome = ask(connection, true);
     uint64_t until = pagelog_after(MOMENT_MS);
     while (outcome == PAGELOG_CONFLICT && comes_soon(connection, until))
         outcome = look(database);
+    while (outcome == PAGELOG_LOST && comes_elsewhere(connection))
+        outcome = ask(connection, true);
     bool may_come = outcome == PAGELOG_LOST && connection->busy && pagelog_turn_may_come(&database->turn);
     connection->wants_turn = outcome == PAGELOG_CONFLICT;
+    database->is_contended |= connection->wants_turn;
     if (connection->wants_turn || may_come) {
         pagelog_give_turn(connection);
         return SQLITE_BUSY;
     }
     take(connection, outcome);
     return SQLITE_OK;
+}
+
+/* The file is the writer, and has read all that was written before. */
+static void note_newest(struct database *database) {
+    pthread_mutex_lock(&database->turn_guard);
+    database->turn.has_newest = database->turn.is_held;
+    pthread_mutex_unlock(&database->turn_guard);
 }
 
 /* A file that has moved meanwhile needs a turn there. */
@@ -217,7 +281,10 @@ int pagelog_reserve_database(struct connection *connection) {
         if (have_turn(connection) != SQLITE_OK) return SQLITE_BUSY;
         outcome = pagelog_file_reserve(database->file);
     } while (outcome == PAGELOG_DONE && pagelog_file_generation(database->file) != generation);
-    if (outcome == PAGELOG_DONE) return SQLITE_OK;
+    if (outcome == PAGELOG_DONE) {
+        note_newest(database);
+        return SQLITE_OK;
+    }
     pagelog_give_turn(connection);
     struct pagelog_file_state state = pagelog_file_state_of(database->file);
     connection->wants_turn = outcome == PAGELOG_FENCED && !state.is_over && !state.is_gone;

@@ -2,6 +2,8 @@
  * that stands still, or a machine that is gone, says neither. */
 #include "pagelog_move.h"
 
+#include <stdio.h>
+
 enum { GLANCE_MS = 1000 };
 
 bool pagelog_file_is_overtaken(struct pagelog_file *file) {
@@ -39,6 +41,15 @@ void pagelog_wait_again(struct pagelog_file *file) {
     if (!named->is_overtaken) return;
     named->is_overtaken = false;
     pagelog_set_waiting(file->log, waits_on, file);
+}
+
+const char *pagelog_explain_wait(struct pagelog_file *file, const char *sentence, const char *otherwise) {
+    struct named *named = &file->named;
+    const char *why = pagelog_keepers_why(named->keepers);
+    if (!*why) why = pagelog_tls_why(file->log);
+    const char *between = *why ? ": " : "";
+    snprintf(named->why, sizeof named->why, "%s%s%s", sentence, between, *why ? why : otherwise);
+    return named->why;
 }
 
 bool pagelog_may_pause(struct pagelog_file *file) {

@@ -57,7 +57,7 @@ static void look_at_service(const char *address) {
 
 /* Where the machine is slow the second address may be late as well: then it is asked again. */
 static void look_at_keeper(const char *address) {
-    struct pagelog_keepers *keepers = pagelog_keepers_new(address, "shop");
+    struct pagelog_keepers *keepers = pagelog_keepers_new(address, "shop", NULL);
     struct pagelog_place place;
     enum pagelog_outcome outcome = PAGELOG_LOST;
     for (int tries = 0; keepers && tries < 5 && outcome != PAGELOG_DONE; tries++)
@@ -72,10 +72,13 @@ static void take_turn(const char *address) {
         .generation = 1, .database = "00000000-0000-4000-8000-000000000001", .run = "run1"};
     enum pagelog_outcome outcome = PAGELOG_LOST;
     snprintf(place.lines, sizeof place.lines, "%s", address);
-    pagelog_turn_begin(&turn, "shop");
+    uint8_t token[PAGELOG_TOKEN_BYTES];
+    memset(token, 0x22, sizeof token);
+    pagelog_turn_begin(&turn, "shop", NULL);
     for (int tries = 0; tries < 5 && outcome != PAGELOG_DONE; tries++) {
         pagelog_turn_leave(&turn);
-        pagelog_turn_begin(&turn, "shop");
+        pagelog_turn_begin(&turn, "shop", NULL);
+        pagelog_turn_prove(&turn, 2, token);
         outcome = pagelog_turn_ask(&turn, &place, true);
     }
     expect("the turn is had", outcome == PAGELOG_DONE);

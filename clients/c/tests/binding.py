@@ -2,7 +2,7 @@
 
 import ctypes
 import os
-from ctypes import POINTER, Structure, byref, c_bool, c_char_p, c_size_t, c_uint, c_uint8, c_uint16, c_uint32, c_uint64
+from ctypes import POINTER, Structure, byref, c_bool, c_char_p, c_int, c_size_t, c_ssize_t, c_uint, c_uint8, c_uint16, c_uint32, c_uint64
 from ctypes import c_void_p
 
 from service import CLIENT
@@ -55,7 +55,7 @@ class Records(Structure):
 class Options(Structure):
     _fields_ = [("address", c_char_p), ("principal", c_uint32), ("token", Token), ("database", c_uint32),
                 ("connect_ms", c_uint), ("reply_ms", c_uint), ("patience_ms", c_uint), ("spin_us", c_uint),
-                ("copies", c_uint), ("quorum", c_uint)]
+                ("copies", c_uint), ("quorum", c_uint), ("tls", c_void_p)]
 
 
 class Zone(Structure):
@@ -222,13 +222,40 @@ def numbered(first, count, size=20, page=0):
     return blocks
 
 
+class TlsFiles(Structure):
+    _fields_ = [("sslrootcert", c_char_p), ("sslcert", c_char_p), ("sslkey", c_char_p)]
+
+
+declare("pagelog_tls_new", c_void_p, POINTER(TlsFiles), c_char_p, c_size_t)
+declare("pagelog_tls_free", None, c_void_p)
+declare("pagelog_secure_begin", c_void_p, c_void_p, c_int, c_char_p, c_char_p)
+declare("pagelog_secure_shake", c_int, c_void_p)
+declare("pagelog_secure_receive", c_ssize_t, c_void_p, c_void_p, c_size_t, c_int)
+declare("pagelog_secure_holds", c_bool, c_void_p)
+declare("pagelog_secure_has_ended", c_bool, c_void_p)
+declare("pagelog_secure_end", None, c_void_p)
+
+
+class Tls:
+    """Whom a client believes. It is kept as long as what uses it."""
+
+    def __init__(self, sslrootcert=None, sslcert=None, sslkey=None):
+        why, files = ctypes.create_string_buffer(256), (sslrootcert, sslcert, sslkey)
+        self.made = lib.pagelog_tls_new(byref(TlsFiles(*(path and path.encode() for path in files))), why, 256)
+        self.why = why.value.decode()
+
+    def __del__(self):
+        lib.pagelog_tls_free(self.made)
+
+
 class Log:
     """An object of the wire."""
 
     def __init__(self, address, principal, database=0, key=None, connect_ms=0, reply_ms=300000, patience_ms=0, copies=0,
-                 quorum=0, spin_us=0):
+                 quorum=0, spin_us=0, tls=None):
         options = Options(address.encode(), principal, key or token(principal), database, connect_ms, reply_ms,
-                          patience_ms, spin_us, copies, quorum)
+                          patience_ms, spin_us, copies, quorum, tls and tls.made)
+        self.tls = tls
         self.made = lib.pagelog_new(byref(options))
 
     def __enter__(self):
@@ -326,26 +353,48 @@ DATABASE = "00000000-0000-4000-8000-000000000001"  # of a stub, by default
 
 
 class Place(Structure):
-    _fields_ = [("generation", c_uint64), ("database", ctypes.c_char * 40), ("ancestor", ctypes.c_char * 256), ("run", ctypes.c_char * 80), ("address", ctypes.c_char * 256), ("lines", ctypes.c_char * 256),
-                ("archived", c_uint64), ("base", c_uint64), ("shift", ctypes.c_int64)]
+    _fields_ = [("generation", c_uint64), ("database", ctypes.c_char * 40), ("ancestor", ctypes.c_char * 256), ("run", ctypes.c_char * 80), ("after", ctypes.c_char * 80), ("address", ctypes.c_char * 256), ("lines", ctypes.c_char * 256),
+                ("archived", c_uint64), ("base", c_uint64), ("shift", ctypes.c_int64), ("kept", c_uint64), ("copied", c_uint64)]
 
 
 class Fate(Structure):
     _fields_ = [("end", c_uint64), ("is_over", c_bool), ("loss", c_uint)]
 
 
-declare("pagelog_keepers_new", c_void_p, c_char_p, c_char_p)
+declare("pagelog_keepers_new", c_void_p, c_char_p, c_char_p, c_void_p)
 declare("pagelog_keepers_free", None, c_void_p)
 declare("pagelog_where", c_uint, c_void_p, c_uint64, POINTER(Place))
 declare("pagelog_fate_of", c_uint, c_void_p, c_char_p, POINTER(Place), c_uint64, POINTER(Fate))
 declare("pagelog_token_of_run", None, c_void_p, Token, c_char_p, Token)
+declare("pagelog_keepers_prove", None, c_void_p, c_uint32, Token)
+declare("pagelog_read_nonce", None, c_char_p, c_char_p)
+declare("pagelog_write_proof", c_size_t, c_void_p, c_char_p, c_char_p)
+
+
+class Proof(Structure):
+    """What is proved to a keeper, and the line that does."""
+
+    _fields_ = [("is_there", c_bool), ("principal", c_uint32), ("token", Token), ("name", ctypes.c_char * 256), ("of", ctypes.c_char * 120)]
+
+    def line(self, nonce):
+        text = ctypes.create_string_buffer(1024)
+        length = lib.pagelog_write_proof(byref(self), nonce, text)
+        return text.raw[:length]
+
+
+def nonce_of(answer):
+    """What a keeper has said to prove something with, in its answer to the greeting."""
+    nonce = ctypes.create_string_buffer(33)
+    lib.pagelog_read_nonce(answer, nonce)
+    return nonce.value
 
 
 class Keepers:
     """What keepers say of a database."""
 
-    def __init__(self, addresses, name="shop"):
-        self.made = lib.pagelog_keepers_new(addresses.encode(), name.encode())
+    def __init__(self, addresses, name="shop", tls=None):
+        self.tls = tls
+        self.made = lib.pagelog_keepers_new(addresses.encode(), name.encode(), tls and tls.made)
 
     def __enter__(self):
         return self
@@ -361,6 +410,9 @@ class Keepers:
         """Of the run of a stub's generation, by default."""
         fate, place = Fate(), Place(generation=generation, database=database.encode(), run=(run or f"run{generation}").encode())
         return name(lib.pagelog_fate_of(self.made, lines and lines.encode(), byref(place), position, byref(fate))), fate
+
+    def prove(self, principal, key):
+        lib.pagelog_keepers_prove(self.made, principal, Token(*key))
 
     def token(self, key, run):
         made = Token()

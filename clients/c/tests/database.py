@@ -56,8 +56,9 @@ def uri_of(keepers, database, principal, **more):
              "move": 300000}
     if "mode" not in more and "at" not in more:
         parts.update(op=1, optoken=TOKENS[1])
+    file = more.pop("file", "test")
     parts.update(more)
-    return "file:test?" + "&".join(f"{key}={value}" for key, value in parts.items())
+    return f"file:{file}?" + "&".join(f"{key}={value}" for key, value in parts.items())
 
 
 def numbers(connection, *names):

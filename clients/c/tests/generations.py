@@ -9,10 +9,11 @@ import re
 import socket
 import sqlite3
 import subprocess
+import sys
 import threading
 import time
 
-from binding import DATABASE, DENIED, DONE, LOST, Keepers
+from binding import DATABASE, DENIED, DONE, LOST, Keepers, Proof, Token, nonce_of
 from check import LONG, run, same, true
 from database import TOKENS, code_of, connect, named, numbers, one, sqlite_of, uri_of
 from service import CLIENT, Asker, Service, plain_environment, wire
@@ -127,6 +128,51 @@ def test_tokens_of_a_run_are_those_of_the_keepers():
         for length in range(0, 75):
             run, key = "f" * length, bytes(range(length, length + 16))
             same(f"{length} digits", hmac.new(key, f"shop/{run}".encode(), hashlib.sha256).digest()[:16], keepers.token(key, run))
+
+
+def test_a_proof_is_that_of_the_page():
+    """The vector of docs/LINES.md, which keepers and the client in Python have too."""
+    page = (CLIENT.parent.parent / "docs" / "LINES.md").read_text()
+    [nonce] = re.findall(r"hello 2 nonce=([0-9a-f]{32})", page)
+    [(token, proof)] = re.findall(r"token ([0-9a-f]{32})[^`]*`(prove [^`]*)`", page)
+    _, name, principal, _, of = proof.split()
+    made = Proof(principal=int(principal), token=Token(*bytes.fromhex(token)), name=name.encode(), of=of.removeprefix("of=").encode())
+    same("the line", proof.encode() + b"\n", made.line(nonce.encode()))
+    for length in (0, 1, 39, 40, 90, 119):  # what is hashed goes over the borders of chunks
+        made.of = ("d" * min(length, 36) + "/" * (length > 36) + "r" * max(0, length - 37)).encode()
+        text = f"prove {nonce} {name} {principal} ".encode() + made.of
+        wanted = hmac.new(bytes.fromhex(token), text, hashlib.sha256).hexdigest()
+        same(f"{length}", wanted, made.line(nonce.encode()).split()[3].decode())
+
+
+def test_a_nonce_is_32_digits_and_nothing_else():
+    digits = b"0123456789abcdef" * 2
+    for told, found in ((b"hello 2 nonce=" + digits, digits), (b"hello 2 color=red nonce=" + digits + b" later=", digits), (b"hello 2", b""),
+                        (b"hello 2 nonce=", b""), (b"hello 2 nonce=" + digits[:31], b""), (b"hello 2 nonce=" + digits + b"0", b""),
+                        (b"hello 2 nonce=" + digits[:31] + b"/", b""), (b"hello 2 once=" + digits, b""), (b"what hello", b"")):  # fmt: skip
+        same(told, found, nonce_of(told))
+
+
+def test_what_costs_a_keeper_something_is_proved_first():
+    """Over each connection, before its first question; a keeper of before says no nonce, and is told nothing it does not know."""
+    for says_nonce in (True, False):
+        with StubKeeper() as keeper:
+            keeper.says_nonce = says_nonce
+            connection = named(keeper)
+            connection.execute("pragma synchronous = full")
+            connection.execute("create table t(a, b)")
+            fill(connection, 20)
+            keeper.cut_lines()
+            keeper.succeed()
+            fill(connection, 3, first=20)
+            same("rows", list(range(23)), rows(connection))
+            same("each was right", {(2, True)} if says_nonce else set(), set(keeper.proofs))
+            same("asked without", [], keeper.unproved)
+            true("a few in all", len(keeper.proofs) < 20)
+    with StubKeeper() as keeper, Keepers(keeper.address) as keepers:
+        keepers.prove(2, bytes.fromhex(TOKENS[3]))
+        same("it is asked all the same", DONE, keepers.fate(1, 0)[0])
+        same("of another's token", ([(2, False)], ["durable"]), (keeper.proofs, keeper.unproved))
 
 
 def answered(ask, *words):
@@ -401,16 +447,54 @@ def test_an_open_that_is_refused_says_why():
 
 def test_a_statement_that_is_barred_says_why():
     """Its operator has another token; and its table lets the principal only read."""
-    denied = '[[row]]\nverdict = "deny"\nwho = 5\nrole = "primary"\n[[row]]\nverdict = "allow"\nrole = "secondary"\n'
     for more, told in (({"optoken": "00" * 16}, "denied: the table does not list operator 1 with this token"),
                        ({}, "denied: denied B2, value 0: this row of the table is the first that matches, and it denies")):
-        with StubKeeper() as keeper:
-            with keeper.now.asker(wire.OPERATOR) as operator:
-                principals, _, rest = table_of(keeper.name, keeper.now.run).partition("[[row]]\nverdict = \"deny\"")
-                operator.set_table(principals + denied + f"[[row]]\nverdict = \"deny\"{rest}")
+        with barred() as keeper:
             connection = named(keeper, 5, **more)
             same(told, "SQLITE_PERM", code_of(lambda: connection.execute("create table t(a)")))
             same(told, told, one(connection, "pragma pagelog_error"))
+
+
+@contextlib.contextmanager
+def barred():
+    """A keeper whose table lets principal 5 only read."""
+    denied = '[[row]]\nverdict = "deny"\nwho = 5\nrole = "primary"\n[[row]]\nverdict = "allow"\nrole = "secondary"\n'
+    with StubKeeper() as keeper:
+        with keeper.now.asker(wire.OPERATOR) as operator:
+            principals, _, rest = table_of(keeper.name, keeper.now.run).partition("[[row]]\nverdict = \"deny\"")
+            operator.set_table(principals + denied + f"[[row]]\nverdict = \"deny\"{rest}")
+        yield keeper
+
+
+MESSAGES = """
+import ctypes, sqlite3, sys
+try:
+    sqlite3.connect(sys.argv[1], uri=True).execute("create table t(a)")
+except sqlite3.Error as error:
+    print(error)
+c, db, text = ctypes.CDLL("libsqlite3.so.0"), ctypes.c_void_p(), ctypes.c_char_p()
+c.sqlite3_open_v2(sys.argv[1].encode(), ctypes.byref(db), 0x46, None)
+c.sqlite3_exec(db, b"create table t(a)", None, None, ctypes.byref(text))
+print(text.value.decode())
+c.sqlite3_exec(db, b"create table sqlite_t(a)", None, None, ctypes.byref(text))
+print(text.value.decode())
+c.sqlite3_close(db)
+"""
+
+
+def test_the_message_of_a_statement_that_fails():
+    """With the preload it says why, in Python, in C and in the shell; an extension has no way to say it."""
+    subprocess.run(["make", "-s", "-C", CLIENT, "out/pagelog_preload.so"], check=True, env=plain_environment())
+    with barred() as keeper:
+        uri = uri_of(keeper.address, "shop", 5) + "&errors=log"
+        why = "access permission denied: pagelog: denied: denied B2, value 0: this row of the table is the first that matches, and it denies"
+        preloaded = plain_environment(LD_PRELOAD=str(CLIENT / "out" / "pagelog_preload.so"))
+        ran = subprocess.run([sys.executable, "-c", MESSAGES, uri], capture_output=True, text=True, env=preloaded)
+        own = "object name reserved for internal use: sqlite_t"
+        same("Python, C, and what is none of the VFS", ([why, why, own], ""), (ran.stdout.splitlines(), ran.stderr))
+        ran = subprocess.run(["sqlite3", uri, "create table t(a)"], capture_output=True, text=True, env=preloaded)
+        true(f"the shell: {ran.stderr}", why in ran.stderr)
+        same("an extension", ("SQLITE_PERM", "access permission denied"), refusal(lambda: named(keeper, 5).execute("create table t(a)")))
 
 
 def test_a_token_is_wrong_only_where_its_run_says_so():
@@ -755,6 +839,11 @@ def test_another_writes_before_blocks_are_sent_again():
             same("then", ([0, 1, 100], "ok"), (rows(connection), one(connection, "pragma integrity_check")))
 
 
+def epoch_of(keeper):
+    with keeper.now.asker(wire.SECONDARY) as asker:
+        return asker.status()[0]
+
+
 def test_a_writer_that_is_behind():
     """It has read before another wrote: it is busy, and fences nobody; and where one writes at its takeover it undoes nothing."""
     with StubKeeper() as keeper:
@@ -764,11 +853,13 @@ def test_a_writer_that_is_behind():
         behind.execute("begin")
         same("before", [0], rows(behind))
         fill(connection, 1, first=1)
-        epoch = numbers(connection, "epoch")
+        epoch = epoch_of(keeper)
         true("it is behind", code_of(lambda: fill(behind, 1, first=2)) in ("SQLITE_BUSY", "SQLITE_BUSY_SNAPSHOT"))
         behind.execute("rollback")
+        same("it has fenced nobody", epoch, epoch_of(keeper))
         fill(connection, 1, first=2)
-        same("it has fenced nobody", epoch, numbers(connection, "epoch"))
+        same("nor has the writer to begin another epoch", epoch, epoch_of(keeper))
+        behind = named(keeper, 5)  # who was refused the turn has it before it reads, and is not behind
         behind.execute("begin")
         same("before", [0, 1, 2], rows(behind))
         keeper.rule = at_the_takeover(keeper, lambda: fill(opened_in(keeper.now), 1, first=3))  # who asks for no turn

@@ -1,6 +1,8 @@
 /* A server that means harm, and the client that asks it, in one process, for SECONDS seconds.
  *
  *   hostile SECONDS SEED
+ *   hostile SECONDS SEED serve        the server alone, until its standard input ends: it prints its address
+ *   hostile SECONDS SEED ADDRESS CA   the client alone, by TLS
  *
  * The server answers as the service does, more or less, and then spoils some of it: bits are turned, replies
  * cut, made too long, left out, given twice, or are random bytes. The client makes calls of every kind.
@@ -9,6 +11,7 @@
  */
 #include "../pagelog_common.h"
 #include "../pagelog_file.h"
+#include "../pagelog_tls.h"
 
 #include <arpa/inet.h>
 #include <pthread.h>
@@ -318,6 +321,17 @@ static int listen_somewhere(char *address, size_t room) {
     return fd;
 }
 
+/* Serves until nobody wants it any more. */
+static int serve_alone(struct server *server, const char *address) {
+    pthread_t thread;
+    if (server->listener < 0 || pthread_create(&thread, NULL, serve, server)) return 2;
+    printf("%s\n", address);
+    fflush(stdout);
+    while (getchar() != EOF)
+        continue;
+    return 0;
+}
+
 int main(int count, char **words) {
     uint64_t seconds = count > 1 ? strtoull(words[1], NULL, 10) : 1,
              seed = count > 2 ? strtoull(words[2], NULL, 10) : 1;
@@ -328,6 +342,14 @@ int main(int count, char **words) {
         .address = address, .principal = 2, .connect_ms = 50, .reply_ms = 8, .patience_ms = 10};
     uint8_t *room = malloc(2 * ROOM + 16);
     pthread_t thread;
+    char why[256];
+    if (count == 4 && strcmp(words[3], "serve") == 0) return serve_alone(&server, address);
+    if (count == 5) {
+        options = (struct pagelog_options){
+            .address = words[3], .principal = 2, .connect_ms = 2000, .reply_ms = 50, .patience_ms = 10};
+        options.tls = pagelog_tls_new(&(struct pagelog_tls_files){.sslrootcert = words[4]}, why, sizeof why);
+        if (!options.tls) return 2;
+    }
     if (server.listener < 0 || !room || pthread_create(&thread, NULL, serve, &server)) return 2;
     while (pagelog_now() < end) {
         struct pagelog *log = pagelog_new(&options);
@@ -339,6 +361,7 @@ int main(int count, char **words) {
         pagelog_free(log);
         objects++;
     }
+    pagelog_tls_free(options.tls);
     shutdown(server.listener, SHUT_RDWR);
     pthread_join(thread, NULL);
     close(server.listener);

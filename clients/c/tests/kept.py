@@ -138,7 +138,7 @@ class Database:
 class Torture:
     def __init__(self, seconds, level, seed, databases, until):
         self.seconds, self.chance, self.level, self.count, self.until = seconds, random.Random(seed), level, databases, until
-        self.keeping = Keeping(ttl=1.5)
+        self.keeping = Keeping(ttl=1.5, more="unproved = false\n")
         self.happened = Counter()
 
     def signal(self, pid, number):

@@ -120,7 +120,7 @@ def look(keeping, what, said, requests, took):
 
 
 def main(requests, level, with_faults):
-    with Keeping(ttl=1.5 if with_faults else 3.0) as keeping:
+    with Keeping(ttl=1.5 if with_faults else 3.0, more="unproved = false\n") as keeping:
         keeping.referee.create(NAME, (kept.HERE.parent / "table.toml").read_text(), b"s" * 16)
         keeping.start("a", "b")
         addresses = ",".join(keeping.addresses)

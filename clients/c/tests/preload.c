@@ -42,6 +42,11 @@ int sqlite3_open_v2(const char *name, sqlite3 **db, int flags, const char *vfs) 
     return function(name, db, flags, vfs);
 }
 
+const char *sqlite3_errmsg(sqlite3 *db) {
+    const char *(*function)(sqlite3 *) = function_of("sqlite3_errmsg");
+    return pagelog_explain_message(db, function(db));
+}
+
 sqlite3_vfs *sqlite3_vfs_find(const char *name) {
     sqlite3_vfs *(*function)(const char *) = function_of("sqlite3_vfs_find");
     return function(name);

@@ -3,8 +3,9 @@
 #   testfixture prelude.tcl EXTENSION ADDRESS SCRIPT
 #
 # Databases named test.db, test2.db and so on are the databases 0, 1 .. of the service at ADDRESS, or where that is `where=KEEPERS`
-# the databases t0, t1 .. of these keepers; every other file stays where it was. A database that a script deletes is made empty instead, since the service keeps what it has. Tests that look at
-# the files themselves cannot pass: their names and sizes, the journal beside them, a second process, WAL.
+# the databases t0, t1 .. of these keepers, also in an ATTACH by name; every other file stays where it was. A database that a script
+# deletes is made empty instead, since the service keeps what it has. Tests that look at the files themselves cannot pass: their names
+# and sizes, the journal beside them, how often they were synced, a second process, WAL.
 
 set extension [lindex $argv 0]
 set address [lindex $argv 1]
@@ -22,9 +23,9 @@ loader close
 proc database_of {name} {
     switch -- [file tail $name] {
         test.db {return 0}
-        test2.db {return 1}
-        test3.db {return 2}
-        test4.db {return 3}
+        test2.db - test.db2 {return 1}
+        test3.db - test.db3 {return 2}
+        test4.db - test.db4 {return 3}
     }
     return -1
 }
@@ -72,6 +73,27 @@ proc file {args} {
         }
     }
     uplevel 1 [list file_plain {*}$args]
+}
+
+# An ATTACH of such a file in a statement is one of the database.
+proc attached {sql} {
+    while {[regexp -nocase {attach\s+(?:database\s+)?'((?:[^'/]*/)?test[.]?[2-4]?[.]?db[2-4]?)'} $sql -> name] && [database_of $name] >= 0} {
+        set sql [string map [list '$name' '[uri_of [database_of $name]]'] $sql]
+    }
+    return $sql
+}
+
+# The procedures of tester.tcl that run statements are there once a script has read it.
+rename source source_plain
+proc source {args} {
+    set result [uplevel 1 [list source_plain {*}$args]]
+    if {[file_plain tail [lindex $args end]] eq "tester.tcl" && [info commands execsql_plain] eq ""} {
+        foreach name {execsql catchsql} {
+            rename $name ${name}_plain
+            proc $name {sql {db db}} "uplevel 1 \[list ${name}_plain \[attached \$sql\] \$db\]"
+        }
+    }
+    return $result
 }
 
 source $script

@@ -31,6 +31,14 @@ static void run(sqlite3 *db, const char *text, int wanted) {
     expect(text, wanted, sqlite3_exec(db, text, NULL, NULL, NULL));
 }
 
+/* What the last statement says, with why it has failed. */
+static void expect_message(const char *wanted, sqlite3 *db) {
+    const char *found = pagelog_explain_message(db, sqlite3_errmsg(db));
+    if (strcmp(wanted, found) == 0) return;
+    printf("wanted %s, found %s\n", wanted, found);
+    failures++;
+}
+
 static sqlite3_mutex_methods mutexes;
 static int refuses_mutexes;
 
@@ -49,6 +57,7 @@ static void take_mutexes(void) {
     expect("mutexes", SQLITE_OK, sqlite3_config(SQLITE_CONFIG_MUTEX, &own));
 }
 
+#define READS   "attempt to write a readonly database:"
 #define TOKEN_1 "11111111111111111111111111111111"
 #define TOKEN_2 "22222222222222222222222222222222"
 #define TOKEN_3 "33333333333333333333333333333333"
@@ -77,7 +86,14 @@ int main(int count, char **words) {
     sqlite3 *two = open_as(address, "id=5&token=" TOKEN_5 "&op=1&optoken=" TOKEN_1, SQLITE_OK);
     run(two, "insert into t values (3, 3)", SQLITE_OK);
     run(one, "insert into t values (4, 4)", SQLITE_READONLY);
+    run(one, "begin; select a from t; insert into t values (4, 4)", SQLITE_READONLY);
+    expect_message(READS " pagelog: fenced: epoch 2 is over, the current one is 3", one);
     run(follower, "commit; insert into t values (5, 5)", SQLITE_READONLY);
+    expect_message("attempt to write a readonly database", follower);
+    run(one, "select * from none", SQLITE_ERROR);
+    expect_message("no such table: none", one);
+    run(one, "commit; select a from t; pragma query_only = 1; insert into t values (5, 5)", SQLITE_READONLY);
+    expect_message("attempt to write a readonly database", one); /* SQLite's own, for another reason */
     run(follower, "select count(*) from t", SQLITE_OK);
     sqlite3 *all[] = {one, same, follower, two};
     for (size_t i = 0; i < sizeof all / sizeof *all; i++)

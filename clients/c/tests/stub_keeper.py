@@ -5,6 +5,7 @@ import contextlib
 import hashlib
 import hmac
 import json
+import secrets
 import socket
 import socketserver
 import threading
@@ -122,11 +123,11 @@ class Line:
     """A connection of a client."""
 
     def __init__(self, file):
-        self.file = file
+        self.file, self.nonce, self.is_proved, self.asker = file, secrets.token_hex(16), False, None
 
     def say(self, *words):
         with contextlib.suppress(OSError, ValueError):
-            self.file.write(" ".join(map(str, words)).encode() + b"\n")
+            self.file.write(" ".join(map(str, words)).encode() + b"\n" if words else b"")
 
 
 def later(seconds, action):
@@ -142,6 +143,7 @@ class StubKeeper:
     def __init__(self, name="shop", database="00000000-0000-4000-8000-000000000001"):
         self.database = database
         self.name, self.archive, self.ends = name, [], {}
+        self.more = ()  # keys of `at`
         self.changed = threading.Condition(threading.RLock())
         self.is_archiving, self.is_published, self.asked = True, True, 0
         self.archives_what_is_asked = False  # and no more
@@ -150,6 +152,8 @@ class StubKeeper:
         self.now = Generation(self, 1)
         self.turns = Turns(name, 1, self.after)
         self.old, self.lines = [], []
+        self.proofs, self.unproved = [], []  # what was proved; and what was asked without, which is refused
+        self.says_nonce = True
         keeper = self
 
         class Lines(socketserver.StreamRequestHandler):
@@ -158,11 +162,7 @@ class StubKeeper:
                 keeper.lines.append(self.connection)
                 try:
                     for text in self.rfile:
-                        words = text.decode().split()
-                        if words[0] in ("turn", "back", "hold"):
-                            keeper.turn(line, words)
-                        else:
-                            line.say(*keeper.answer(words))
+                        keeper.hear(line, text.decode().split())
                 except OSError:
                     pass
                 finally:
@@ -173,7 +173,7 @@ class StubKeeper:
             allow_reuse_address = daemon_threads = True
 
         self.server = Server(("127.0.0.1", 0), Lines)
-        self.address = "127.0.0.1:%d" % self.server.server_address[1]
+        self.address = self.told_lines = "127.0.0.1:%d" % self.server.server_address[1]  # and what clients are told
         threading.Thread(target=self.server.serve_forever, args=(0.02,), daemon=True).start()
 
     def __enter__(self):
@@ -207,15 +207,38 @@ class StubKeeper:
 
         return later(seconds, act)
 
+    def hear(self, line, words):
+        """What a client with a token asks of its run is asked by who has proved that. One that has none is refused no answer here."""
+        costs = words[0] in ("turn", "hold", "full", "durable")
+        if costs and self.says_nonce and not line.is_proved:
+            self.unproved.append(words[0])
+        if words[0] == "hello":
+            line.say(*self.answer(words), *([f"nonce={line.nonce}"] if self.says_nonce else []))
+        elif words[0] == "prove":
+            self.prove(line, *words[1:])
+        elif words[0] in ("turn", "hold") and costs and self.says_nonce and not line.is_proved:
+            line.say("denied", self.name, "unproved")
+        elif words[0] in ("turn", "back", "hold"):
+            self.turn(line, words)
+        else:
+            line.say(*self.answer(words))
+
+    def prove(self, line, name, principal, code, of):
+        tokens = {each["id"]: bytes.fromhex(each["token"]) for each in tomllib.loads(TABLE.read_text())["principal"]}
+        text = f"prove {line.nonce} {name} {principal} {of.removeprefix('of=')}"
+        wanted = hmac.new(tokens[int(principal)], text.encode(), hashlib.sha256).hexdigest()
+        line.is_proved = (name, code, of.split("/")[0]) == (self.name, wanted, self.of().split("/")[0])
+        self.proofs.append((int(principal), line.is_proved))
+
     def turn(self, line, words):
         with self.changed:
             match words:
                 case ["turn", _, *_, of] if of.startswith("of=") and of != self.of():
                     line.say("elsewhere", self.name, of)
                 case ["turn", _, *how]:
-                    self.turns.ask(line, now="now" in how, mine="mine" in how, heartbeat="heartbeat" in how)
+                    self.turns.ask(line, now="now" in how, mine="mine" in how, heartbeat="heartbeat" in how, slices="slices" in how)
                 case ["back", _, *_]:
-                    self.turns.back(line)
+                    self.turns.back(line, next((int(word.removeprefix("epoch=")) for word in words if word.startswith("epoch=")), None))
                 case ["hold", _, *_]:
                     self.turns.hold(line)
 
@@ -228,14 +251,16 @@ class StubKeeper:
             match words:
                 case ["hello", _]:
                     return "hello", 2
+                case ["full", *_]:
+                    return ()
                 case ["where", name] if name != self.name:
                     return "unknown", name
                 case ["where", name]:
                     now = self.now
                     if not self.is_published:
                         return "nowhere", name
-                    return ("at", name, now.number, now.run, now.address, len(self.archive), self.address, now.base, now.shift,
-                            self.ends.get(now.number - 1, 0), self.of())
+                    return ("at", name, now.number, now.run, now.address, len(self.archive), self.told_lines, now.base, now.shift,
+                            self.ends.get(now.number - 1, 0), self.of(), *self.more)
                 case ["durable", name, generation, position, of] if of == self.of(f"run{generation}"):
                     return *self.durable(name, int(generation), int(position)), of
         return ("what",)
@@ -294,6 +319,14 @@ class StubKeeper:
             self.now.close()
             self.archive_now()
             self.switch(self.next(**how))
+
+    def copy(self, database):
+        """What is archived goes on as another database."""
+        self.archive_now()
+        new = self.next(images=False)
+        self.now.end()
+        self.database = database
+        self.switch(new)
 
     def die(self, lost=0, others=None, **how):
         """The service dies, once all but the last `lost` blocks of its log are archived. `others` is called before the

@@ -10,8 +10,8 @@ import threading
 import time
 
 from check import run, same, true
-from database import code_of, named, numbers, one
-from generations import fill, rows, until
+from database import code_of, named, numbers, one, uri_of
+from generations import at_the_takeover, fill, opened_in, overtaking, rows, until
 from service import wire
 from stub_keeper import StubKeeper
 from vfs_forks import fork, in_child
@@ -351,6 +351,25 @@ def test_a_turn_that_is_kept_and_unused_comes_back_at_once():
             same("all of it", 30 + (first == "read"), len(rows(connection)))
 
 
+def test_an_upgrade_waits_for_a_keeper_that_does_not_answer():
+    """SQLite asks no busy handler for it: the VFS does."""
+    with StubKeeper() as keeper:
+        named(keeper).execute("create table t(a, b)")
+        asked, turn = [], keeper.turn
+
+        def is_cut_once(line, words):
+            if words[0] == "turn" and not asked:
+                asked.append(words)
+                keeper.cut_lines()
+            else:
+                turn(line, words)
+
+        keeper.turn = is_cut_once
+        for busy, told in (0, "SQLITE_BUSY"), (60, None):
+            asked.clear()
+            same(f"busy {busy}", told, in_child(lambda: code_of(lambda: upgrade(keeper, 0, busy=busy))))  # noqa: B023
+
+
 def test_an_upgrade_beside_a_transaction_is_busy():
     with StubKeeper() as keeper:
         Quarters(keeper)
@@ -453,6 +472,314 @@ def test_a_turn_that_is_kept_is_lost_with_its_line():
         fill(connection, 1, first=31)
         connection.execute("commit")
         same("both", list(range(32)), rows(connection))
+
+
+# ---- A turn goes on before what was written with it is durable ----
+
+
+def end_of(keeper):
+    """How many blocks the service's log has."""
+    with keeper.now.asker(wire.SECONDARY) as asker:
+        return asker.status()[2]
+
+
+def archive_one(keeper):
+    with keeper.changed:
+        keeper.archive += keeper.now.blocks(len(keeper.archive))[:1]
+        keeper.changed.notify_all()
+
+
+def waits_for_the_archive(keeper, count, first=0):
+    """So many processes, each of which commits a row upon the one before it while nothing is archived. Returns what waits for their ends."""
+    ends, keeper.is_archiving = [], False
+    for number in range(first, first + count):
+        before = end_of(keeper)
+        ends.append(fork(lambda: code_of(lambda: fill(named(keeper, busy=60), 1, first=number))))
+        until(lambda: end_of(keeper) > before, f"row {number} is in the log")
+    return ends
+
+
+def test_a_turn_is_kept_until_the_service_has_the_commit():
+    with StubKeeper() as keeper:
+        connection, told = amid_a_transaction(keeper), []
+
+        def rule(frame):
+            if frame[33] == wire.WRITE:
+                keeper.rule = None
+                told.append(begins(keeper, busy=0))
+            return frame
+
+        keeper.rule = rule
+        connection.execute("commit")
+        same("meanwhile, and then", (["SQLITE_BUSY"], None), (told, begins(keeper, busy=60)))
+
+
+def test_the_next_commit_does_not_wait_until_the_last_one_is_durable():
+    """They are durable one after the other, and so they are told; and a reader of what is durable sees no second one before the first."""
+    with StubKeeper() as keeper:
+        connection = named(keeper)
+        connection.execute("create table t(a, b)")
+        before = len(keeper.archive)
+        ends = waits_for_the_archive(keeper, 4)
+        same("nothing of it is archived", before, len(keeper.archive))
+        reader = named(keeper, 3, mode="ro", durable=1)
+        for number, end in enumerate(ends):
+            same("a reader of what is durable", list(range(number)), rows(reader))
+            archive_one(keeper)
+            same("told", None, end())
+        same("all of them", (list(range(4)), "ok"), (rows(reader), one(connection, "pragma integrity_check")))
+        keeper.is_archiving = True
+
+
+def asked_by(keeper, principals=(1, 5)):
+    """What these ask of the service from now on: the operations, in their order."""
+    asked = []
+
+    def rule(frame):
+        if int.from_bytes(frame[4:8], "big") in principals:
+            asked.append(frame[33])
+        return frame
+
+    keeper.rule = rule
+    return asked
+
+
+def test_who_is_given_the_turn_begins_by_one_message():
+    """It is told the epoch that was written in last. Its next transaction waits for the turn before it asks the service anything."""
+    with StubKeeper() as keeper:
+        connection, other = named(keeper), named(keeper, 5, busy=60)
+        connection.execute("create table t(a, b)")
+        for is_foreseen in (False, True):
+            connection.execute("begin immediate")
+            fill(connection, 1, first=2 * is_foreseen)
+            asked, before = asked_by(keeper), keeper.proofs[:]
+            thread = threading.Thread(target=lambda: other.execute("begin immediate"))
+            thread.start()
+            until(lambda: keeper.turns._waiting, "it waits")
+            if is_foreseen:
+                same("it has asked nothing", ([], before), (asked, keeper.proofs))
+            asked = asked_by(keeper)
+            connection.execute("commit")
+            thread.join()
+            same("asked", [wire.FAILOVER, wire.STATUS, wire.PULL], asked)
+            fill(other, 1, first=2 * is_foreseen + 1)
+            other.execute("commit")
+            same("asked", [wire.WRITE, wire.WRITE, wire.REPORT], [each for each in asked[3:] if each != wire.GET])
+        same("in this order", [0, 1, 2, 3], [number for number, in connection.execute("select a from t order by rowid")])
+
+
+def test_a_transaction_that_reads_waits_for_no_turn():
+    """Though this process had to wait for its last ones."""
+    with StubKeeper() as keeper:
+        connection, other, asked = named(keeper), named(keeper, 5, busy=10), []
+        connection.execute("create table t(a, b)")
+        connection.execute("begin immediate")
+        fill(connection, 1)
+        thread = threading.Thread(target=lambda: fill(other, 1, first=1))
+        thread.start()
+        until(lambda: keeper.turns._waiting, "it waits")
+        connection.execute("commit")
+        thread.join()
+        connection.execute("begin immediate")
+        turn, keeper.turn = keeper.turn, lambda line, words: asked.append(words)
+        same("it reads, and asks for none", ([0, 1], []), (rows(other), asked))
+        keeper.turn = turn
+        connection.execute("rollback")
+
+
+def test_an_epoch_that_is_another_one_by_now():
+    """The keeper says one that is over, or has not come; or another begins one who has no turn. Nothing is lost by that."""
+    for told in (1, 99, None):
+        with StubKeeper() as keeper:
+            connection, other = named(keeper), named(keeper, 5, busy=60)
+            connection.execute("create table t(a, b)")
+            connection.execute("begin immediate")
+            fill(connection, 1)
+            thread = threading.Thread(target=lambda: fill(other, 1, first=1), daemon=True)
+            thread.start()
+            until(lambda: keeper.turns._waiting, "it waits")
+            if told is None:
+                keeper.rule = at_the_takeover(keeper, lambda: fill(opened_in(keeper.now), 1, first=100))
+            else:
+                back = keeper.turns.back
+                keeper.turns.back = lambda line, _=None, back=back, told=told: back(line, told)
+            connection.execute("commit")
+            thread.join(30)
+            true(f"{told}: it writes", not thread.is_alive())
+            wanted = [0, 1] if told else [0, 1, 100]
+            same(f"{told}", (wanted, wanted, "ok"), (rows(connection), rows(other), one(other, "pragma integrity_check")))
+
+
+def test_who_is_given_the_turn_reads_more_than_one_message_brings():
+    with StubKeeper() as keeper:
+        connection, other = named(keeper), named(keeper, 5, busy=60)
+        connection.execute("create table t(a, b)")
+        connection.execute("begin immediate")
+        fill(connection, 500, size=4000)
+        thread = threading.Thread(target=lambda: fill(other, 1, first=500))
+        thread.start()
+        until(lambda: keeper.turns._waiting, "it waits")
+        before = end_of(keeper)
+        connection.execute("commit")
+        thread.join()
+        true("so many blocks", end_of(keeper) > before + 16)
+        same("all of it", (list(range(501)), "ok"), (rows(connection), one(other, "pragma integrity_check")))
+
+
+@contextlib.contextmanager
+def slices_of(seconds):
+    before = turns.SLICE
+    turns.SLICE = seconds
+    try:
+        yield
+    finally:
+        turns.SLICE = before
+
+
+def heard(keeper, word):
+    """The lines with this word that clients say from now on."""
+    turn, said = keeper.turn, []
+
+    def hear(line, words):
+        if words[0] == word:
+            said.append(words)
+        turn(line, words)
+
+    keeper.turn = hear
+    return said
+
+
+def in_a_loop(connection, level, first, count, ends=lambda: False):
+    """Writes one row after the other; how many."""
+    connection.execute(f"pragma synchronous = {level}")
+    for number in range(count):
+        fill(connection, 1, first=first + number)
+        if ends():
+            break
+    return number + 1
+
+
+def loops(keeper, level, count):
+    """Two processes write so many rows each, side by side."""
+    ends = [fork(lambda: in_a_loop(named(keeper, busy=60), level, first, count)) for first in (0, count)]
+    return [end() for end in ends]
+
+
+def test_who_writes_one_transaction_after_the_other_has_a_slice_of_time():
+    """Within it nothing is said to the keeper. A commit that waits until it is durable keeps nobody waiting: it asks for none."""
+    for level, count in ("normal", 300), ("full", 40):
+        with slices_of(0.05), StubKeeper() as keeper:
+            reader = named(keeper)
+            reader.execute("create table t(a, b)")
+            asked = heard(keeper, "turn")
+            same("commits", [count] * 2, loops(keeper, level, count))
+            sliced = sum("slices" in words for words in asked)
+            true(f"{level}: {len(asked)} times asked, {sliced} for slices", sliced == 0 if level == "full" else len(asked) < count and sliced)
+            same("all of them", (list(range(2 * count)), "ok"), (rows(reader), one(reader, "pragma integrity_check")))
+
+
+def test_a_slice_of_one_that_writes_no_more_comes_back():
+    with slices_of(0.05), StubKeeper() as keeper:
+        connection, other, count = named(keeper, busy=60), named(keeper, 5, busy=60), 0
+        connection.execute("create table t(a, b)")
+
+        def has_slice():
+            return keeper.turns._slice is not None
+
+        thread = threading.Thread(target=in_a_loop, args=(other, "normal", 10000, 10000, has_slice))
+        thread.start()
+        while thread.is_alive():
+            count += in_a_loop(connection, "normal", count, 1)
+        since = time.monotonic()
+        count += in_a_loop(connection, "normal", count, 50)
+        true(f"it goes on: {time.monotonic() - since:.1f} s", time.monotonic() - since < 20)
+        same("all of them", list(range(count)), [number for number in rows(connection) if number < 10000])
+
+
+def test_what_waits_for_the_archive_is_sent_again_in_its_order():
+    """Where the service dies with one of three, or all of them; whoever of the three comes first."""
+    for lost in (1, 2, 3):
+        with StubKeeper() as keeper:
+            connection = named(keeper)
+            connection.execute("create table t(a, b)")
+            ends = waits_for_the_archive(keeper, 3)
+            keeper.die(lost=lost)
+            keeper.is_archiving = True
+            same(f"{lost} lost: told", [None] * 3, [end() for end in ends])
+            found = [number for number, in connection.execute("select a from t order by rowid")]
+            same("in their order", (list(range(3)), "ok"), (found, one(connection, "pragma integrity_check")))
+
+
+def test_what_was_written_upon_a_commit_is_lost_with_it():
+    """Another has written in its place, in the next generation."""
+    with StubKeeper() as keeper:
+        connection = named(keeper)
+        connection.execute("create table t(a, b)")
+        ends = waits_for_the_archive(keeper, 3)
+        keeper.die(lost=2, others=overtaking)
+        keeper.is_archiving = True
+        same("told", [None, "SQLITE_IOERR_FSYNC", "SQLITE_IOERR_FSYNC"], [end() for end in ends])
+        same("what is there", ([0, 100], "ok"), (rows(connection), one(connection, "pragma integrity_check")))
+
+
+def test_who_has_not_read_what_waits_for_the_archive_does_not_write_in_its_place():
+    """It was given the turn as the service died: in the next generation it waits, until who wrote last has sent that again."""
+    with for_ever("EARLY"), StubKeeper() as keeper:
+        connection, told, may_answer = amid_a_transaction(keeper), [], threading.Event()
+        durable, keeper.is_archiving = keeper.durable, False
+
+        def held(*words):
+            while keeper.now.number > 1 and not may_answer.is_set():
+                keeper.changed.wait(0.02)
+            return durable(*words)
+
+        keeper.durable = held
+        waits = waits_for_a_turn(keeper)
+        keeper.rule = lambda frame: frame if keeper.turns._waiting or end_of(keeper) < 2 else keeper.die(lost=1)
+        thread = threading.Thread(target=lambda: told.append(code_of(lambda: connection.execute("commit"))))
+        thread.start()
+        until(lambda: keeper.now.number > 1 and keeper.turns._waiting, "it waits in the next generation")
+        keeper.rule, keeper.is_archiving = None, True
+        may_answer.set()
+        thread.join()
+        same("told", [None], told)
+        with keeper.changed:
+            keeper.turns._begin()
+        same("both", (None, [0, 1]), waits())
+
+
+def test_a_turn_that_may_be_written_on_with_is_kept_until_the_commit_is_durable():
+    """The lock is kept; a commit to several databases may be rolled back in one; and a file becomes shorter after its commit."""
+
+    def keeps_the_lock(connection, _):
+        connection.execute("pragma locking_mode = exclusive")
+        fill(connection, 1)
+
+    def writes_to_two(connection, other):
+        connection.execute("attach ? as stock", (uri_of(other.address, "stock", 2),))
+        connection.execute("create table stock.u(a, b)")
+        connection.execute("begin immediate")
+        fill(connection, 1)
+        connection.execute("insert into stock.u values (1, 1)")
+
+    def becomes_shorter(connection, _):
+        fill(connection, 30, size=3000)
+        connection.execute("delete from t")
+
+    for prepare, text in (keeps_the_lock, "insert into t values (1, 1)"), (writes_to_two, "commit"), (becomes_shorter, "vacuum"):
+        with StubKeeper() as keeper, StubKeeper("stock") as other:
+            connection = named(keeper)
+            connection.execute("create table t(a, b)")
+            prepare(connection, other)
+            before, keeper.is_archiving = end_of(keeper), False
+            thread = threading.Thread(target=lambda: connection.execute(text))
+            thread.start()
+            until(lambda: end_of(keeper) > before, "it is in the log")
+            time.sleep(0.1)
+            same(prepare.__name__, "SQLITE_BUSY", begins(keeper, busy=0))
+            keeper.is_archiving = True
+            thread.join()
+            connection.close()
 
 
 if __name__ == "__main__":

@@ -247,7 +247,7 @@ def test_the_lines_of_the_page():
     source.write_text(program)
     sources = [source for source in CLIENT.glob("*.c") if "vfs" not in source.name]
     subprocess.run(["gcc", "-std=c11", "-D_GNU_SOURCE", "-Wall", "-Wextra", "-Werror", "-fsanitize=address,undefined",
-                    "-I", CLIENT, "-o", built, source, *sources], check=True, env=plain_environment())
+                    "-I", CLIENT, "-o", built, source, *sources, "-lssl", "-lcrypto"], check=True, env=plain_environment())
     with Service() as service:
         for wanted in (1, 2):
             said = subprocess.run([built, service.address], capture_output=True, text=True, env=plain_environment())
