@@ -1,0 +1,139 @@
+#include "connection.h"
+
+#include "bytes.h"
+
+#include <errno.h>
+#include <stdlib.h>
+#include <string.h>
+#include <sys/socket.h>
+#include <unistd.h>
+
+enum step { GOES_ON, RESTS, IS_OVER };
+
+void connection_close(struct connection *connection) {
+    close(connection->socket);
+    free(connection->in);
+    free(connection->out);
+    free(connection);
+}
+
+/* Sends what there is room for; RESTS: not all of it. */
+static enum step send_some(int socket, const uint8_t *bytes, size_t length, size_t *sent) {
+    while (*sent < length) {
+        ssize_t now = send(socket, bytes + *sent, length - *sent, MSG_NOSIGNAL | MSG_DONTWAIT);
+        if (now > 0) {
+            *sent += (size_t)now;
+        } else if (errno == EAGAIN || errno == EWOULDBLOCK) {
+            return RESTS;
+        } else if (errno != EINTR) {
+            return IS_OVER;
+        }
+    }
+    return GOES_ON;
+}
+
+static enum step send_left(struct connection *connection) {
+    if (!connection->out) return GOES_ON;
+    enum step step =
+        send_some(connection->socket, connection->out, connection->out_length, &connection->out_at);
+    if (step != GOES_ON) return step;
+    free(connection->out);
+    connection->out = NULL;
+    return GOES_ON;
+}
+
+static enum step send_replies(struct connection *connection, const uint8_t *replies, size_t length) {
+    size_t sent = 0;
+    enum step step = send_some(connection->socket, replies, length, &sent);
+    if (step != RESTS) return step;
+    if (!(connection->out = malloc(length - sent))) return IS_OVER;
+    memcpy(connection->out, replies + sent, length - sent);
+    connection->out_at = 0;
+    connection->out_length = length - sent;
+    return RESTS;
+}
+
+/* The length of the first frame's body, if it is there as a whole. `*is_too_long` says that it never will be.
+ */
+static bool first_frame(const uint8_t *in, size_t length, size_t *body, bool *is_too_long) {
+    *is_too_long = false;
+    if (length < FRAME_HEAD) return false;
+    *body = (size_t)number_at(in, FRAME_HEAD);
+    *is_too_long = *body > MOST_REQUEST;
+    return !*is_too_long && length - FRAME_HEAD >= *body;
+}
+
+/* Whether the request that is next may go on waiting; one that waited in vain is answered. */
+static bool may_wait(struct connection *connection, const struct room *room) {
+    if (connection->wanted == 0) return true;
+    return store_confirmed(room->store) < connection->wanted && room->now < connection->deadline;
+}
+
+static void wait_for(struct connection *connection, const struct room *room, uint64_t wanted) {
+    if (connection->wanted == 0) connection->deadline = room->now + room->wait_ms;
+    connection->wanted = wanted;
+}
+
+/* Answers the whole frames that there are, up to some 256 KiB of replies. RESTS: no whole frame is left, or
+ * the next one waits. */
+static enum step answer_frames(struct connection *connection, struct room *room, uint8_t **end) {
+    size_t at = 0, body;
+    bool is_too_long = false;
+    enum step step = GOES_ON;
+    while (step == GOES_ON && *end - room->out < REPLIES_AT_ONCE) {
+        const uint8_t *frame = connection->in + at;
+        if (!first_frame(frame, connection->in_length - at, &body, &is_too_long)) {
+            step = RESTS;
+            break;
+        }
+        uint64_t wanted;
+        enum answered answered = answer_body(room->table, room->store, room->view, frame + FRAME_HEAD, body,
+                                             may_wait(connection, room), &wanted, end);
+        if (answered == ANSWER_WAITS) {
+            wait_for(connection, room, wanted);
+            step = RESTS;
+        } else if (answered == ANSWER_BROKEN) {
+            step = IS_OVER;
+        } else {
+            connection->wanted = 0;
+            at += FRAME_HEAD + body;
+        }
+    }
+    memmove(connection->in, connection->in + at, connection->in_length - at);
+    connection->in_length -= at;
+    return is_too_long ? IS_OVER : step;
+}
+
+static enum step read_once(struct connection *connection) {
+    if (!connection->in && !(connection->in = malloc(MOST_FRAME))) return IS_OVER;
+    ssize_t got;
+    do {
+        got = recv(connection->socket, connection->in + connection->in_length,
+                   MOST_FRAME - connection->in_length, MSG_DONTWAIT);
+    } while (got < 0 && errno == EINTR);
+    if (got < 0) return errno == EAGAIN || errno == EWOULDBLOCK ? RESTS : IS_OVER;
+    connection->in_length += (size_t)got;
+    return got == 0 ? IS_OVER : GOES_ON;
+}
+
+/* A silent connection has no buffer. */
+static void give_back(struct connection *connection) {
+    if (connection->in_length != 0) return;
+    free(connection->in);
+    connection->in = NULL;
+}
+
+bool connection_turn(struct connection *connection, struct room *room) {
+    enum step step = send_left(connection), read = GOES_ON;
+    while (step == GOES_ON && read == GOES_ON && !connection->is_over) {
+        uint8_t *end = room->out;
+        enum step answered = connection->in ? answer_frames(connection, room, &end) : RESTS;
+        connection->is_over = answered == IS_OVER;
+        step = send_replies(connection, room->out, (size_t)(end - room->out));
+        if (connection->wanted) break;
+        if (step == GOES_ON && answered == RESTS) read = read_once(connection);
+        if (read == IS_OVER) connection->is_over = true;
+    }
+    give_back(connection);
+    return step == RESTS || (step == GOES_ON && !connection->is_over);
+}

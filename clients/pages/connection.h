@@ -1,0 +1,41 @@
+/* One connection: bytes that came and are no whole frame yet, and replies that it has not taken. */
+#ifndef CONNECTION_H
+#define CONNECTION_H
+
+#include "answer.h"
+
+enum {
+    MOST_FRAME = FRAME_HEAD + MOST_REQUEST,
+    REPLIES_AT_ONCE = 256 << 10,
+    OUT_ROOM = REPLIES_AT_ONCE + REPLY_ROOM
+};
+
+struct connection {
+    int socket;
+    uint8_t *in;
+    size_t in_length;
+    uint8_t *out;
+    size_t out_at, out_length;
+    bool is_over;     /* it ends once its replies are sent */
+    uint64_t wanted;  /* the position that its next request waits for; 0: it waits for none */
+    int64_t deadline; /* of that, in ms of the system's steady clock */
+    struct connection *before, *after;
+};
+
+/* What a thread uses for all its connections. */
+struct room {
+    const struct table *table;
+    struct store *store;
+    struct store_view *view;
+    unsigned wait_ms;
+    int64_t now;
+    uint8_t *out; /* of OUT_ROOM */
+};
+
+/* Writes, answers and reads as far as that goes without waiting. False: the connection is over. */
+bool connection_turn(struct connection *connection, struct room *room);
+
+/* Frees what it has, and closes it. */
+void connection_close(struct connection *connection);
+
+#endif

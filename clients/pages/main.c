@@ -1,0 +1,140 @@
+/* pagelog-pages: keeps the pages of one database at every position, and answers for them.
+ *
+ *   pagelog-pages --folder FOLDER --listen HOST:PORT [--cache MIB] [--memtable MIB] [--workers N]
+ * [--connections N] [--wait MS] [--direct]
+ *
+ * `pagelogctl pages` starts it, gives it the table, images and archived blocks on its standard input, and
+ * ends it by closing that. It prints `listening HOST:PORT` and then where it is, after each command. */
+#include "control.h"
+
+#include <arpa/inet.h>
+#include <getopt.h>
+#include <netdb.h>
+#include <signal.h>
+#include <stdlib.h>
+#include <string.h>
+#include <sys/socket.h>
+#include <unistd.h>
+
+enum { MIB = 1 << 20, BACKLOG = 128 };
+
+struct settings {
+    struct store_settings store;
+    struct server_settings server;
+    const char *listen;
+};
+
+static int fail(const char *what, const char *why) {
+    fprintf(stderr, "pagelog-pages: %s: %s\n", what, why);
+    return 1;
+}
+
+static bool read_number(const char *text, unsigned long most, unsigned long *number) {
+    char *end;
+    *number = strtoul(text, &end, 10);
+    return *text >= '0' && *text <= '9' && *end == '\0' && *number >= 1 && *number <= most;
+}
+
+static bool set_number(struct settings *settings, int option, unsigned long number) {
+    switch (option) {
+    case 'c':
+        return settings->store.cache = number * MIB, true;
+    case 'm':
+        return settings->store.memtable = number * MIB, true;
+    case 'w':
+        return settings->server.workers = (unsigned)number, number <= 64;
+    case 'n':
+        return settings->server.connections = (unsigned)number, true;
+    case 't':
+        return settings->server.wait_ms = (unsigned)number, number <= 60000;
+    default:
+        return false;
+    }
+}
+
+static bool read_arguments(int count, char **words, struct settings *settings) {
+    static const struct option options[] = {
+        {"folder", required_argument, NULL, 'f'},
+        {"listen", required_argument, NULL, 'l'},
+        {"cache", required_argument, NULL, 'c'},
+        {"memtable", required_argument, NULL, 'm'},
+        {"workers", required_argument, NULL, 'w'},
+        {"connections", required_argument, NULL, 'n'},
+        {"wait", required_argument, NULL, 't'},
+        {"direct", no_argument, NULL, 'd'},
+        {NULL, 0, NULL, 0},
+    };
+    int option;
+    unsigned long number;
+    while ((option = getopt_long(count, words, "", options, NULL)) != -1) {
+        if (option == 'f')
+            settings->store.folder = optarg;
+        else if (option == 'l')
+            settings->listen = optarg;
+        else if (option == 'd')
+            settings->store.direct = true;
+        else if (option == '?' || !read_number(optarg, 1 << 20, &number) ||
+                 !set_number(settings, option, number))
+            return false;
+    }
+    return optind == count && settings->store.folder && settings->listen;
+}
+
+/* Listens at HOST:PORT, or returns -1. */
+static int listen_at(const char *address) {
+    struct addrinfo hints = {.ai_family = AF_UNSPEC, .ai_socktype = SOCK_STREAM, .ai_flags = AI_PASSIVE},
+                    *found = NULL;
+    const char *colon = strrchr(address, ':');
+    char host[256];
+    int one = 1, listener = -1;
+    if (!colon || (size_t)(colon - address) >= sizeof host) return -1;
+    bool has_brackets = address[0] == '[' && colon[-1] == ']';
+    snprintf(host, sizeof host, "%.*s", (int)(colon - address - 2 * has_brackets), address + has_brackets);
+    if (getaddrinfo(host, colon + 1, &hints, &found) != 0) return -1;
+    listener = socket(found->ai_family, SOCK_STREAM | SOCK_NONBLOCK | SOCK_CLOEXEC, 0);
+    if (listener >= 0) setsockopt(listener, SOL_SOCKET, SO_REUSEADDR, &one, sizeof one);
+    bool is_bound = listener >= 0 && bind(listener, found->ai_addr, found->ai_addrlen) == 0 &&
+                    listen(listener, BACKLOG) == 0;
+    freeaddrinfo(found);
+    if (is_bound) return listener;
+    if (listener >= 0) close(listener);
+    return -1;
+}
+
+static void say_address(int listener) {
+    struct sockaddr_storage at;
+    socklen_t length = sizeof at;
+    char host[NI_MAXHOST], port[NI_MAXSERV];
+    getsockname(listener, (struct sockaddr *)&at, &length);
+    getnameinfo((struct sockaddr *)&at, length, host, sizeof host, port, sizeof port,
+                NI_NUMERICHOST | NI_NUMERICSERV);
+    printf(at.ss_family == AF_INET6 ? "listening [%s]:%s\n" : "listening %s:%s\n", host, port);
+}
+
+int main(int count, char **words) {
+    struct settings settings = {
+        .store = {.cache = 256 * MIB, .memtable = 32 * MIB},
+        .server = {.workers = 4, .connections = 1024, .wait_ms = 100},
+    };
+    char *why;
+    if (!read_arguments(count, words, &settings)) {
+        fputs("usage: pagelog-pages --folder FOLDER --listen HOST:PORT [--cache MIB] [--memtable MIB] "
+              "[--workers N] [--connections N]\n"
+              "                     [--wait MS] [--direct]\n",
+              stderr);
+        return 2;
+    }
+    signal(SIGPIPE, SIG_IGN);
+    struct store *store = store_open(&settings.store, &why);
+    if (!store) return fail(settings.store.folder, why);
+    settings.server.store = store;
+    settings.server.listener = listen_at(settings.listen);
+    if (settings.server.listener < 0) return fail(settings.listen, "nothing can listen there");
+    struct server *server = server_start(&settings.server);
+    if (!server) return fail("threads", "none could be started");
+    say_address(settings.server.listener);
+    int status = control_run(stdin, stdout, store, server);
+    server_stop(server);
+    store_close(store);
+    return status;
+}

@@ -1,0 +1,251 @@
+#include "serve.h"
+
+#include "connection.h"
+
+#include <errno.h>
+#include <netinet/in.h>
+#include <netinet/tcp.h>
+#include <pthread.h>
+#include <stdatomic.h>
+#include <stdlib.h>
+#include <string.h>
+#include <sys/epoll.h>
+#include <sys/eventfd.h>
+#include <sys/socket.h>
+#include <time.h>
+#include <unistd.h>
+
+enum { EVENTS = 64, OLD_TABLES = 16 };
+
+struct worker {
+    struct server *server;
+    pthread_t thread;
+    int poll, bell;
+    struct room room;
+    struct connection connections; /* a ring, of which this is no member */
+    struct connection *next;       /* of a walk: what is closed is no member any more */
+    unsigned era;
+    _Atomic unsigned waiting;
+};
+
+struct server {
+    struct server_settings settings;
+    struct table *_Atomic table;
+    _Atomic unsigned era; /* rises where all connections end */
+    _Atomic unsigned open;
+    atomic_bool ends;
+    struct table *old[OLD_TABLES]; /* that a thread may still read */
+    unsigned olds, workers;
+    struct worker *worker;
+};
+
+static int64_t now_ms(void) {
+    struct timespec now;
+    clock_gettime(CLOCK_MONOTONIC, &now);
+    return now.tv_sec * 1000LL + now.tv_nsec / 1000000;
+}
+
+static void ring(struct worker *worker) {
+    uint64_t one = 1;
+    ssize_t written = write(worker->bell, &one, sizeof one);
+    (void)written; /* a full counter rings too */
+}
+
+/* Which events a connection is polled for: none of its requests while one waits, nor while it does not take
+ * its replies. */
+static void watch(struct worker *worker, struct connection *connection, int how) {
+    uint32_t events = connection->out ? EPOLLOUT : connection->wanted ? 0 : EPOLLIN;
+    struct epoll_event event = {.events = events, .data.ptr = connection};
+    epoll_ctl(worker->poll, how, connection->socket, &event);
+}
+
+static void forget(struct worker *worker, struct connection *connection) {
+    if (connection->wanted) worker->waiting--;
+    if (worker->next == connection) worker->next = connection->after;
+    connection->before->after = connection->after;
+    connection->after->before = connection->before;
+    connection_close(connection);
+    worker->server->open--;
+}
+
+static void turn(struct worker *worker, struct connection *connection) {
+    bool did_wait = connection->wanted != 0;
+    if (!worker->room.table || !connection_turn(connection, &worker->room)) {
+        if (!did_wait && connection->wanted) worker->waiting++;
+        if (did_wait && !connection->wanted) worker->waiting--;
+        forget(worker, connection);
+        return;
+    }
+    if (!did_wait && connection->wanted) worker->waiting++;
+    if (did_wait && !connection->wanted) worker->waiting--;
+    watch(worker, connection, EPOLL_CTL_MOD);
+}
+
+static void keep(struct worker *worker, int socket) {
+    struct connection *connection = calloc(1, sizeof *connection);
+    int one = 1;
+    if (!connection) {
+        close(socket);
+        worker->server->open--;
+        return;
+    }
+    setsockopt(socket, IPPROTO_TCP, TCP_NODELAY, &one, sizeof one);
+    connection->socket = socket;
+    connection->before = worker->connections.before;
+    connection->after = &worker->connections;
+    connection->before->after = connection;
+    worker->connections.before = connection;
+    watch(worker, connection, EPOLL_CTL_ADD);
+}
+
+/* Above the bound, or before there is a table, a connection ends as it comes. */
+static void accept_one(struct worker *worker) {
+    struct server *server = worker->server;
+    int socket = accept4(server->settings.listener, NULL, NULL, SOCK_NONBLOCK | SOCK_CLOEXEC);
+    if (socket < 0) return;
+    if (server->open++ >= server->settings.connections || !worker->room.table) {
+        close(socket);
+        server->open--;
+        return;
+    }
+    keep(worker, socket);
+}
+
+/* Those that wait, and have it or have waited long enough: after that one may wait for the next. */
+static void turn_waiting(struct worker *worker) {
+    uint64_t confirmed = store_confirmed(worker->room.store);
+    struct connection *end = &worker->connections;
+    for (struct connection *one = end->after; one != end; one = worker->next) {
+        worker->next = one->after;
+        if (one->wanted && (one->wanted <= confirmed || one->deadline <= worker->room.now)) turn(worker, one);
+    }
+}
+
+/* When the first of those that wait has waited long enough; -1: none waits. */
+static int64_t first_deadline(const struct worker *worker) {
+    int64_t first = -1;
+    const struct connection *end = &worker->connections;
+    for (const struct connection *one = end->after; one != end; one = one->after) {
+        if (one->wanted && (first < 0 || one->deadline < first)) first = one->deadline;
+    }
+    return first;
+}
+
+static void end_all(struct worker *worker) {
+    while (worker->connections.after != &worker->connections)
+        forget(worker, worker->connections.after);
+}
+
+/* True: all connections have ended, and events that were told are of none. */
+static bool look_around(struct worker *worker) {
+    unsigned era = worker->server->era;
+    bool is_another = era != worker->era;
+    if (is_another) end_all(worker);
+    worker->era = era;
+    worker->room.table = worker->server->table;
+    worker->room.now = now_ms();
+    return is_another;
+}
+
+static void hear(struct worker *worker, const struct epoll_event *event) {
+    uint64_t rung;
+    if (event->data.ptr == worker) {
+        ssize_t got = read(worker->bell, &rung, sizeof rung);
+        (void)got;
+    } else if (event->data.ptr == worker->server) {
+        accept_one(worker);
+    } else if (event->events & (EPOLLERR | EPOLLHUP)) {
+        forget(worker, event->data.ptr);
+    } else {
+        turn(worker, event->data.ptr);
+    }
+}
+
+static void *work(void *given) {
+    struct worker *worker = given;
+    struct epoll_event events[EVENTS];
+    int64_t deadline = -1;
+    while (!worker->server->ends) {
+        int64_t left = deadline < 0 ? -1 : deadline - now_ms();
+        int count = epoll_wait(worker->poll, events, EVENTS, deadline < 0 ? -1 : left < 0 ? 0 : (int)left);
+        if (look_around(worker)) count = 0; /* those that are left come again */
+        for (int n = 0; n < count; n++)
+            hear(worker, &events[n]);
+        if (worker->waiting) turn_waiting(worker);
+        deadline = worker->waiting ? first_deadline(worker) : -1;
+    }
+    end_all(worker);
+    return NULL;
+}
+
+static void free_worker(struct worker *worker) {
+    if (worker->poll >= 0) close(worker->poll);
+    if (worker->bell >= 0) close(worker->bell);
+    store_view_free(worker->room.view);
+    free(worker->room.out);
+}
+
+static bool start_worker(struct server *server, struct worker *worker) {
+    *worker = (struct worker){.server = server, .bell = eventfd(0, EFD_NONBLOCK | EFD_CLOEXEC)};
+    worker->poll = epoll_create1(EPOLL_CLOEXEC);
+    worker->connections.before = worker->connections.after = &worker->connections;
+    worker->room = (struct room){.store = server->settings.store, .wait_ms = server->settings.wait_ms};
+    worker->room.view = store_view_new(server->settings.store);
+    worker->room.out = malloc(OUT_ROOM);
+    struct epoll_event bell = {.events = EPOLLIN, .data.ptr = worker};
+    struct epoll_event door = {.events = EPOLLIN | EPOLLEXCLUSIVE, .data.ptr = server};
+    bool is_ready = worker->bell >= 0 && worker->poll >= 0 && worker->room.view && worker->room.out;
+    is_ready = is_ready && epoll_ctl(worker->poll, EPOLL_CTL_ADD, worker->bell, &bell) == 0;
+    is_ready = is_ready && epoll_ctl(worker->poll, EPOLL_CTL_ADD, server->settings.listener, &door) == 0;
+    if (is_ready && pthread_create(&worker->thread, NULL, work, worker) == 0) return true;
+    free_worker(worker);
+    return false;
+}
+
+struct server *server_start(const struct server_settings *settings) {
+    struct server *server = calloc(1, sizeof *server);
+    if (!server) return NULL;
+    server->settings = *settings;
+    server->worker = calloc(settings->workers, sizeof *server->worker);
+    while (server->worker && server->workers < settings->workers &&
+           start_worker(server, &server->worker[server->workers])) {
+        server->workers++;
+    }
+    if (server->workers == settings->workers) return server;
+    server_stop(server);
+    return NULL;
+}
+
+/* A table is read within one turn; by the time that so many others have come, that is over. */
+void server_set_table(struct server *server, struct table *table) {
+    struct table *before = atomic_exchange(&server->table, table);
+    free(server->old[server->olds]);
+    server->old[server->olds] = before;
+    server->olds = (server->olds + 1) % OLD_TABLES;
+    if (!table) server->era++;
+    server_tell(server);
+}
+
+void server_tell(struct server *server) {
+    for (unsigned n = 0; n < server->workers; n++) {
+        if (server->worker[n].waiting || !server->table) ring(&server->worker[n]);
+    }
+}
+
+unsigned server_connections(const struct server *server) {
+    return server->open;
+}
+
+void server_stop(struct server *server) {
+    server->ends = true;
+    for (unsigned n = 0; n < server->workers; n++) {
+        ring(&server->worker[n]);
+        pthread_join(server->worker[n].thread, NULL);
+        free_worker(&server->worker[n]);
+    }
+    for (unsigned n = 0; n < OLD_TABLES; n++)
+        free(server->old[n]);
+    free(server->table);
+    free(server->worker);
+    free(server);
+}

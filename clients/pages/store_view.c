@@ -1,0 +1,149 @@
+/* Reads a store: pages at positions, and blocks. */
+#include "store_inside.h"
+
+#include <stdlib.h>
+
+/* Sets of changes behind the newest image; a page has some 64 between two of them, or more where images wait.
+ */
+struct sets {
+    struct set {
+        uint8_t *bytes;
+        size_t length;
+    } * found;
+    size_t count, room;
+};
+
+struct store_view {
+    struct store *store;
+    rocksdb_readoptions_t *options, *total;
+    rocksdb_iterator_t *rows, *blocks;
+    uint64_t seen; /* `writes` of the store that `rows` was made after */
+    struct sets sets;
+};
+
+struct store_view *store_view_new(struct store *store) {
+    struct store_view *view = calloc(1, sizeof *view);
+    if (!view) return NULL;
+    view->store = store;
+    view->options = rocksdb_readoptions_create();
+    rocksdb_readoptions_set_prefix_same_as_start(view->options, 1);
+    rocksdb_readoptions_set_verify_checksums(view->options, 1);
+    view->total = rocksdb_readoptions_create();
+    rocksdb_readoptions_set_total_order_seek(view->total, 1);
+    rocksdb_readoptions_set_verify_checksums(view->total, 1);
+    return view;
+}
+
+static void free_sets(struct sets *sets) {
+    for (size_t n = 0; n < sets->count; n++)
+        free(sets->found[n].bytes);
+    sets->count = 0;
+}
+
+void store_view_free(struct store_view *view) {
+    if (!view) return;
+    free_sets(&view->sets);
+    free(view->sets.found);
+    if (view->rows) rocksdb_iter_destroy(view->rows);
+    if (view->blocks) rocksdb_iter_destroy(view->blocks);
+    rocksdb_readoptions_destroy(view->options);
+    rocksdb_readoptions_destroy(view->total);
+    free(view);
+}
+
+/* An iterator sees what was written before it was made. */
+static rocksdb_iterator_t *fresh_rows(struct store_view *view) {
+    uint64_t writes = atomic_load_explicit(&view->store->writes, memory_order_acquire);
+    if (view->rows && view->seen == writes) return view->rows;
+    if (view->rows) rocksdb_iter_destroy(view->rows);
+    view->seen = writes;
+    return view->rows = rocksdb_create_iterator(view->store->db, view->options);
+}
+
+static bool keep_set(struct sets *sets, const char *bytes, size_t length) {
+    if (sets->count == sets->room) {
+        size_t more = sets->room ? 2 * sets->room : 128;
+        struct set *larger = realloc(sets->found, more * sizeof *larger);
+        if (!larger) return false;
+        sets->found = larger;
+        sets->room = more;
+    }
+    struct set *made = &sets->found[sets->count];
+    if (!(made->bytes = malloc(length))) return false;
+    memcpy(made->bytes, bytes, length);
+    made->length = length;
+    sets->count++;
+    return true;
+}
+
+/* False: this row is none of a store's. */
+static bool apply_set(const struct set *set, uint8_t page[PAGE_BYTES]) {
+    size_t at = 1;
+    while (at + 4 <= set->length) {
+        size_t offset = number_at(set->bytes + at, 2), length = number_at(set->bytes + at + 2, 2);
+        at += 4;
+        if (length > set->length - at || offset + length > PAGE_BYTES) return false;
+        memcpy(page + offset, set->bytes + at, length);
+        at += length;
+    }
+    return at == set->length;
+}
+
+/* Walks from the newest row at or below the position back to one that makes the page whole, or to the first.
+ */
+static bool gather(struct store_view *view, rocksdb_iterator_t *rows, const uint8_t key[PAGE_KEY],
+                   uint8_t out[PAGE_BYTES]) {
+    memset(out, 0, PAGE_BYTES);
+    for (rocksdb_iter_seek(rows, (const char *)key, PAGE_KEY); rocksdb_iter_valid(rows);
+         rocksdb_iter_next(rows)) {
+        size_t key_length, length;
+        const char *found = rocksdb_iter_key(rows, &key_length), *value = rocksdb_iter_value(rows, &length);
+        if (key_length != PAGE_KEY || memcmp(found, key, PAGE_PREFIX) != 0) break;
+        if (found[PAGE_KEY - 1] == IMAGE) {
+            if (length != PAGE_BYTES) return false;
+            memcpy(out, value, PAGE_BYTES);
+            return true;
+        }
+        if (length == 0 || !keep_set(&view->sets, value, length)) return false;
+        if (value[0]) return true;
+    }
+    return true;
+}
+
+static bool is_sound(rocksdb_iterator_t *rows) {
+    char *why = NULL;
+    rocksdb_iter_get_error(rows, &why);
+    rocksdb_free(why);
+    return why == NULL;
+}
+
+bool store_page(struct store_view *view, uint32_t page, uint64_t position, uint8_t out[PAGE_BYTES]) {
+    uint8_t key[PAGE_KEY];
+    page_key(key, page, position, IMAGE);
+    rocksdb_iterator_t *rows = fresh_rows(view);
+    bool is_good = gather(view, rows, key, out) && is_sound(rows);
+    for (size_t n = view->sets.count; is_good && n-- > 0;)
+        is_good = apply_set(&view->sets.found[n], out);
+    free_sets(&view->sets);
+    return is_good;
+}
+
+bool store_block(struct store_view *view, uint64_t *position, uint64_t last, unsigned low, unsigned high,
+                 const uint8_t **block, size_t *length) {
+    uint8_t key[BLOCK_KEY];
+    block_key(key, *position);
+    *position = 0;
+    if (view->blocks) rocksdb_iter_destroy(view->blocks);
+    view->blocks = rocksdb_create_iterator(view->store->db, view->total);
+    for (rocksdb_iter_seek(view->blocks, (char *)key, BLOCK_KEY); rocksdb_iter_valid(view->blocks);
+         rocksdb_iter_next(view->blocks)) {
+        size_t key_length;
+        const uint8_t *found = (const uint8_t *)rocksdb_iter_key(view->blocks, &key_length);
+        if (key_length != BLOCK_KEY || found[0] != 'B' || number_at(found + 1, 8) > last) break;
+        *block = (const uint8_t *)rocksdb_iter_value(view->blocks, length);
+        if (!block_touches(*block, low, high)) continue;
+        *position = number_at(found + 1, 8);
+        return true;
+    }
+    return is_sound(view->blocks);
+}
