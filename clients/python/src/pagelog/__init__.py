@@ -38,6 +38,7 @@ from pagelog.rules import (
     NoTable, OlderEpoch, OtherContent, OtherPrimary, RoleLacksOperation, Section, TableFault, TableRow, UnknownPrincipal,
     UnlistedPrimary,
 )  # fmt: skip
+from pagelog.secure import Trust
 
 __version__ = "0.2.0"
 
@@ -49,6 +50,6 @@ __all__ = [
     "NoRowMatches", "NoSuchCopy", "NoTable", "OlderEpoch", "OlderKeepers", "Operation", "Operator", "OtherContent", "OtherPrimary",
     "OutOfMemory", "PAGE_SIZE", "Page", "PageServer", "PagelogError", "Primary", "Put", "Reader", "Record", "Refusal",
     "ReplyFault", "RequestFault", "Role", "RoleLacksOperation", "Section", "Span", "State", "TableFault", "TableRow",
-    "TimedOut", "TurnsSpent", "UnexpectedReply", "UnknownDatabase", "UnknownName", "UnknownPrincipal",
+    "TimedOut", "Trust", "TurnsSpent", "UnexpectedReply", "UnknownDatabase", "UnknownName", "UnknownPrincipal",
     "UnlistedPrimary", "Unreachable", "Unwritten", "WrongToken", "Zero", "load",
 ]  # fmt: skip

@@ -14,6 +14,7 @@ from pagelog.matching import mismatch
 from pagelog.reply import Denied, Page, Reply, State, expect, refusal_of
 from pagelog.request import Act, Get, Head, Request, Role, Status
 from pagelog.rules import Section
+from pagelog.secure import Trust
 
 FIRST_EPOCH = 1
 ALL_PARTITIONS = (0, HIGHEST_PARTITION)
@@ -61,15 +62,17 @@ class Client:
     @classmethod
     def open(cls: type[Self], account: Account, database: int = 0, *, timeout: float = 10.0, **options: Any) -> Self:
         """A client over a connection of its own. The options are those of the class, as `quorum` of a primary."""
-        return cls(Connection(account.to, timeout=timeout), account.credentials, database, **options)
+        return cls(Connection(account.to, timeout=timeout, trust=account.trust), account.credentials, database, **options)
 
     @classmethod
-    def at(cls: type[Self], address: Address | str, id: int, token: str, database: int = 0, **options: Any) -> Self:
+    def at(
+        cls: type[Self], address: Address | str, id: int, token: str, database: int = 0, *, trust: Trust | None = None, **options: Any
+    ) -> Self:
         """A client of the service at an address as `127.0.0.1:7400`; the token has 32 hexadecimal digits.
 
         The options are those of the class, as `quorum` of a primary.
         """
-        return cls(Connection(address), Credentials.of(id, token), database, **options)
+        return cls(Connection(address, trust=trust), Credentials.of(id, token), database, **options)
 
     def __enter__(self: Self) -> Self:
         return self

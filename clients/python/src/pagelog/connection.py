@@ -21,6 +21,7 @@ from pagelog.faults import FrameFault
 from pagelog.repeating import Backoff
 from pagelog.reply import Reply, decode_reply
 from pagelog.request import Request
+from pagelog.secure import Trust
 
 REPLY_SIZE = 1 << 20
 """The most bytes of a reply's body."""
@@ -77,7 +78,8 @@ class Connection:
     `attempts` is how often in a row, 1 or more, a connection is tried before `Unreachable` or `ConnectionLost`; a
     reply that came begins the count anew. `pause` is the wait in seconds before the second attempt, doubled for each
     further one up to a second. `reply_timeout` is the longest wait for one whole reply, however many bytes come meanwhile;
-    by default it is six times `timeout`, and at least a minute.
+    by default it is six times `timeout`, and at least a minute. With `trust` it is by TLS: the service has to show that it is the host of
+    the address.
 
     The service never closes an idle connection, and counts it, so close it, or use it in a `with`. It is for one thread at a
     time; `close` of another thread ends a request with `ConnectionLost`. It is for one process: a child that a fork makes may
@@ -87,8 +89,9 @@ class Connection:
 
     def __init__(
         self, address: Address | str, *, timeout: float = 10.0, attempts: int = 5, pause: float = 0.05,
-        reply_timeout: float | None = None,
+        reply_timeout: float | None = None, trust: Trust | None = None,
     ) -> None:  # fmt: skip
+        self.trust = trust
         self.address = Address.parse(address) if isinstance(address, str) else address
         self.timeout = timeout
         self.reply_timeout = max(60.0, 6 * timeout) if reply_timeout is None else reply_timeout
@@ -252,7 +255,7 @@ class Connection:
     def _connect(self) -> None:
         self._check_closed()
         try:
-            made = dial(self.address.host, self.address.port, self.timeout)
+            made = dial(self.address.host, self.address.port, self.timeout, self.trust)
         except (OSError, UnicodeError) as error:  # UnicodeError: the host is no name that can be looked up
             raise Unreachable(f"{self.address}: {error}") from error
         made.setsockopt(socket.IPPROTO_TCP, socket.TCP_NODELAY, 1)

@@ -7,7 +7,7 @@
 
 The sections are `primary`, `secondary`, `page_server` and `operator`; each command says which it needs. In the
 environment PAGELOG_PRIMARY_TO, PAGELOG_PRIMARY_ID and PAGELOG_PRIMARY_TOKEN stand for such a section, and
-PAGELOG_CREDENTIALS names the file.
+PAGELOG_CREDENTIALS names the file. The section `tls` has sslrootcert, sslcert, sslkey and sslmode, as PAGELOG_SSLROOTCERT and the like.
 """
 
 from __future__ import annotations
@@ -23,6 +23,8 @@ from typing import Any, Mapping, Sequence
 from pagelog.connection import Address
 from pagelog.errors import CredentialsError
 from pagelog.request import COPIES_OF_QUORUM, QUORUM, Role
+from pagelog.secure import WORDS, Trust, of_environment, trust_of
+from pagelog.store.settings import StoreSettings
 
 FILE_VARIABLE = "PAGELOG_CREDENTIALS"
 """The variable of the environment that names the file."""
@@ -61,6 +63,8 @@ class Account:
 
     to: Address
     credentials: Credentials
+    trust: Trust | None = None
+    """By which TLS it is reached; None: by none."""
 
 
 @dataclass(frozen=True)
@@ -80,6 +84,12 @@ class Accounts:
     memory: int | None = None
     keeper: Mapping[str, Any] = field(default_factory=dict)
     """The section `keeper`, which `pagelogctl keep` reads."""
+    key_file: Path | None = None
+    """The file of the keys by which tables of principals are sealed in PostgreSQL: `[archive] key_file`, beside this file."""
+    store: StoreSettings | None = None
+    """Where blocks lie that PostgreSQL has no more: `store` of [archive], and the section [store]."""
+    trust: Trust | None = None
+    """By which TLS all of them are reached; None: by none."""
 
     def account(self, role: Role) -> Account:
         """The account of this role. Raises `CredentialsError` where there is none."""
@@ -89,30 +99,38 @@ class Accounts:
         return found
 
 
-def load(file: str | Path | None = None, environment: Mapping[str, str] | None = None) -> Accounts:
-    """The accounts of the file, or of the one that the environment names. Those of the environment override them.
+def load(
+    file: str | Path | None = None, environment: Mapping[str, str] | None = None, words: Mapping[str, str] | None = None
+) -> Accounts:
+    """The accounts of the file, or of the one that the environment names. Those of the environment override them, and `words` of TLS both.
 
     Raises `CredentialsError` where the file cannot be read, is malformed, or others may read it.
     """
     environment = os.environ if environment is None else environment
     name = file if file is not None else environment.get(FILE_VARIABLE)
     document = _read(Path(name)) if name else {}
-    unknown = set(document) - {role.word for role in Role} - {"archive", "service", "keeper"}
+    unknown = set(document) - {role.word for role in Role} - {"archive", "service", "keeper", "store", "tls"}
     if unknown:
         raise CredentialsError(f"{name}: there is no section [{sorted(unknown)[0]}]")
     sections = {role: {**_section(document, role.word), **_variables(environment, role)} for role in Role}
-    accounts = {role: _account(role, section) for role, section in sections.items() if section}
-    archive, service = _section(document, "archive", ("url", "keep")), _section(document, "service", ("audit", "quorum", "memory"))
+    trust = trust_of(words or {}, of_environment(environment), _section(document, "tls", WORDS))
+    accounts = {role: _account(role, section, trust) for role, section in sections.items() if section}
+    archive, service = _section(document, "archive", ("url", "keep", "key_file", "store")), _section(document, "service", ("audit", "quorum", "memory"))
+    keys = archive.get("key_file")
     url, limit, quorum, memory = archive.get("url"), service.get("audit"), service.get("quorum", QUORUM), service.get("memory")
     if url is not None and not isinstance(url, str):
         raise CredentialsError("[archive]: url is a text")
+    if keys is not None and not isinstance(keys, str):
+        raise CredentialsError("[archive]: key_file is a text")
     if limit is not None and (type(limit) is not int or not 1 <= limit <= 1 << 24):
         raise CredentialsError("[service]: audit is a number from 1 to 16777216")
     if type(quorum) is not int or quorum not in COPIES_OF_QUORUM:
         raise CredentialsError("[service]: quorum is 2 or 4")
     if memory is not None and (type(memory) is not int or memory < 1):
         raise CredentialsError("[service]: memory is a number of bytes, 1 or more")
-    return Accounts(accounts, url, keep_of(archive.get("keep")), limit, quorum, memory, _section(document, "keeper"))
+    return Accounts(accounts, url, keep_of(archive.get("keep")), limit, quorum, memory, _section(document, "keeper"),
+                    None if keys is None else Path(name or ".").absolute().parent / keys,
+                    StoreSettings.of(archive.get("store"), _section(document, "store")), trust)  # fmt: skip
 
 
 def keep_of(value: object) -> str | int | None:
@@ -161,7 +179,7 @@ def _variables(environment: Mapping[str, str], role: Role) -> dict[str, Any]:
     return found
 
 
-def _account(role: Role, section: Mapping[str, Any]) -> Account:
+def _account(role: Role, section: Mapping[str, Any], trust: Trust | None) -> Account:
     place = f"[{role.word}]"
     for key in _KEYS:
         if key not in section:
@@ -169,6 +187,6 @@ def _account(role: Role, section: Mapping[str, Any]) -> Account:
     if set(section) - set(_KEYS):
         raise CredentialsError(f"{place} has more than to, id and token")
     try:
-        return Account(Address.parse(str(section["to"])), Credentials.of(section["id"], str(section["token"])))
+        return Account(Address.parse(str(section["to"])), Credentials.of(section["id"], str(section["token"])), trust)
     except (CredentialsError, ValueError) as error:
         raise CredentialsError(f"{place}: {error}") from error

@@ -9,9 +9,10 @@ from typing import Sequence, TypeVar
 from pagelog.connection import Connection
 from pagelog.credentials import Credentials
 from pagelog.errors import AuditListFull, ConnectionLost, InDoubt, LogWentBack, TurnsSpent, Unreachable
-from pagelog.keeper.table import token_of
+from pagelog.keeper.table import proof_of, token_of
 from pagelog.place import Keepers, Place, WrongToken
 from pagelog.rules import UnknownPrincipal
+from pagelog.secure import Trust
 
 GONE = (ConnectionLost, Unreachable, UnknownPrincipal, LogWentBack, AuditListFull, TurnsSpent, InDoubt)
 """What is raised where the service is gone, or is another run's: the keepers know where the database is now."""
@@ -32,20 +33,30 @@ class NamedAccount:
 
     def of(self, place: Place) -> Credentials:
         """Those at this place."""
-        return Credentials(self._credentials.id, token_of(self._credentials.token, self._name, place.run))
+        return self.in_run(place.run)
+
+    def in_run(self, run: str) -> Credentials:
+        """Those in a run."""
+        return Credentials(self._credentials.id, token_of(self._credentials.token, self._name, run))
+
+    def prove(self, nonce: str, of: str) -> tuple[object, ...]:
+        """The words that prove to a keeper which has said this nonce that a client has the token."""
+        return "prove", self._name, self.id, proof_of(self._credentials.token, nonce, self._name, self.id, of), f"of={of}"
 
 
 class Following:
     """One who follows a named database. `patience` is for a place or an answer of the keepers, `timeout` for a reply of the
-    service, in seconds."""
+    service, in seconds. `trust` is of both."""
 
     def __init__(
-        self, name: str, keepers: Sequence[str], principal: int, token: str, *, patience: float = 60.0, timeout: float = 10.0
-    ) -> None:
-        self.keepers = Keepers(name, keepers, patience)
+        self, name: str, keepers: Sequence[str], principal: int, token: str, *, patience: float = 60.0, timeout: float = 10.0,
+        trust: Trust | None = None,
+    ) -> None:  # fmt: skip
+        self._account = NamedAccount(name, principal, token)
+        self.keepers = Keepers(name, keepers, patience, trust, self._account.prove)
+        self._trust = trust
         self.keepers.opens = True
         self.place: Place | None = None
-        self._account = NamedAccount(name, principal, token)
         self._timeout = timeout
         self._accepted: str | None = None
         """The run that has answered last: it knows the principal."""
@@ -82,4 +93,4 @@ class Following:
         raise NotImplementedError
 
     def _connection(self, place: Place, attempts: int = 1) -> Connection:
-        return Connection(place.address, timeout=self._timeout, attempts=attempts, pause=AGAIN)
+        return Connection(place.address, timeout=self._timeout, attempts=attempts, pause=AGAIN, trust=self._trust)

@@ -27,6 +27,7 @@ from pagelog.reader import Reader
 from pagelog.repeating import Backoff
 from pagelog.request import PULL_MAX, QUORUM
 from pagelog.rules import Denial, NoRowMatches, OlderEpoch, OtherPrimary, TableRow, UnknownPrincipal, UnlistedPrimary
+from pagelog.secure import SecurityError, Trust
 
 TAIL = 16 << 20
 """The most bytes of blocks that are kept because they are not known to be durable. Then a commit waits for the archive."""
@@ -56,10 +57,11 @@ class NamedPrimary(Following):
 
     def __init__(
         self, name: str, keepers: Sequence[str], principal: int, token: str, operator: tuple[int, str], *, quorum: int = QUORUM,
-        patience: float = 60.0, timeout: float = 10.0, overwrite_sqlite: bool = False,
+        patience: float = 60.0, timeout: float = 10.0, overwrite_sqlite: bool = False, trust: Trust | None = None,
     ) -> None:  # fmt: skip
-        """`patience` is for a place or an answer of the keepers, `timeout` for a reply of the service, in seconds."""
-        super().__init__(name, keepers, principal, token, patience=patience, timeout=timeout)
+        """`patience` is for a place or an answer of the keepers, `timeout` for a reply of the service, in seconds. With `trust` all of
+        them are reached by TLS."""
+        super().__init__(name, keepers, principal, token, patience=patience, timeout=timeout, trust=trust)
         self.end = 0
         """The position of the last block of the log, as far as this writer knows."""
         self.durable_end = 0
@@ -76,6 +78,8 @@ class NamedPrimary(Following):
         self._over: int | None = None
         """The generation of its place, once the keepers have said that it is over."""
         self._records: list[Record] = []
+        self._insecure = ""
+        """What was wrong with TLS of the service that was tried last."""
         self._is_urgent = False
         """Whether the archive is waited for once the blocks are in the log: then it is told of them before."""
         self._tail: list[Block] = []
@@ -229,7 +233,7 @@ class NamedPrimary(Following):
                 return
             may_stay = True
             if time.monotonic() > deadline:
-                raise error or TimedOut(f"in {self.keepers.patience} s no generation of {self.keepers.name} could be used")
+                raise error or TimedOut(f"in {self.keepers.patience} s no generation of {self.keepers.name} could be used{self._insecure}")
             # Another keeper may have seen the take, and told of it, before the one that took has let anybody in.
             self.keepers.wait_for(place.generation + 1, waits.next(), place if place.generation > newest else None)
             newest = max(newest, place.generation)
@@ -309,6 +313,7 @@ class NamedPrimary(Following):
         except GONE as error:
             if isinstance(error, UnknownPrincipal):
                 self._see_refused(place, f"principal {self._account.id} or operator {self._operator.id}")
+            self._insecure = f": {error}" if isinstance(error.__cause__, SecurityError) else ""
             return False
         except UnlistedPrimary:
             self._see_refused(place, f"principal {self._account.id}")

@@ -8,12 +8,14 @@ from typing import Callable, Iterator, Sequence, TypeVar
 from pagelog.block import Block
 from pagelog.errors import TimedOut
 from pagelog.following import GONE, Following
+from pagelog.page_copies import PageCopies
 from pagelog.place import QUICKEST, SLOWEST, BelowBase, Place
 from pagelog.polling import HolderPoll, poll_of
 from pagelog.reader import Reader, Span
 from pagelog.repeating import Backoff
 from pagelog.reply import Page
 from pagelog.rules import AboveTheEnd, Section, UnknownPrincipal
+from pagelog.secure import Trust
 
 Result = TypeVar("Result")
 _AT_ONCE = 0.1
@@ -33,13 +35,23 @@ class NamedReader(Following):
     read may later have another block. Whether the service is still the holder's, the keepers are asked each second, of all
     readers of the process together. With `durable_only` it sees what is durable, at a standby where there is one, and its
     `end` never falls. docs/KEEPERS.md says how old each may be.
+
+    Where the database has page servers, pages at positions that are known to be durable come from them, over all generations back to
+    the oldest position that is kept; with `pages="never"` from services alone. With `pages="only"` no service is asked: its `end` is
+    that of a page server, which is durable.
     """
 
     def __init__(
-        self, name: str, keepers: Sequence[str], principal: int, token: str, *, durable_only: bool = False, patience: float = 60.0,
-        timeout: float = 10.0,
+        self, name: str, keepers: Sequence[str], principal: int, token: str, *, durable_only: bool = False, pages: str = "prefer",
+        patience: float = 60.0, timeout: float = 10.0, trust: Trust | None = None,
     ) -> None:  # fmt: skip
-        super().__init__(name, keepers, principal, token, patience=patience, timeout=timeout)
+        super().__init__(name, keepers, principal, token, patience=patience, timeout=timeout, trust=trust)
+        if pages not in ("prefer", "never", "only"):
+            raise ValueError('pages is "prefer", "never" or "only"')
+        if pages == "only" and trust is not None:
+            raise ValueError('page servers have no TLS: with trust pages is not "only"')
+        self._copies = None if pages == "never" or trust is not None else PageCopies(self.keepers, self._account.in_run)
+        self._only_copies = pages == "only"
         self.durable_only = durable_only
         self._reader: Reader | None = None
         self._least = self._durable = self._returned = 0
@@ -49,6 +61,11 @@ class NamedReader(Following):
         self._asks_from, self._pauses = 0.0, Backoff(_LEAST_PAUSE, _LONGEST_PAUSE)
         self._holder: Place | None = None
         """Of the standby that is read: who holds the database."""
+
+    def close(self) -> None:
+        if self._copies is not None:
+            self._copies.close()
+        super().close()
 
     def _leave(self) -> None:
         if self._reader is not None:
@@ -62,6 +79,8 @@ class NamedReader(Following):
     def end(self) -> int:
         """The position up to which it can be read now: of the log, or with `durable_only` what is durable, which never falls. Raises
         `TimedOut` where the keepers name another run than the one that they led to, again and again, or one that lacks what was durable."""
+        if self._only_copies:
+            return self._end_of_copies()
         deadline, waits = time.monotonic() + self.keepers.patience, Backoff(QUICKEST, SLOWEST)
         while True:
             hard = self._hard()
@@ -80,6 +99,27 @@ class NamedReader(Following):
                 lacks = f"that has position {self._returned}, which was durable" if is_confirmed else f"where {self.keepers.name} is read"
                 raise TimedOut(f"no keeper has confirmed in {self.keepers.patience} s {lacks}")
             time.sleep(waits.next())
+
+    def _end_of_copies(self) -> int:
+        """What a page server has, which is durable, and no less than before."""
+        deadline, waits = time.monotonic() + self.keepers.patience, Backoff(QUICKEST, SLOWEST)
+        while True:
+            self._find_place()
+            assert self._copies is not None
+            found = self._copies.end()
+            if found is not None and found >= self._returned:
+                self._returned = found
+                return found
+            if time.monotonic() > deadline:
+                lacks = "" if found is None else f" that has position {self._returned}, which was durable"
+                raise TimedOut(f"no page server of {self.keepers.name}{lacks} has answered in {self.keepers.patience} s")
+            time.sleep(waits.next())
+
+    def _find_place(self) -> None:
+        """Which database it is: of another one of the name nothing is read."""
+        if self.place is None:
+            self.place = self.keepers.place(self._least)
+            self.keepers.is_of(self.place)
 
     def _hard(self) -> int:
         """The end of the log of the service that is read."""
@@ -143,9 +183,40 @@ class NamedReader(Following):
             at, run = end if position is None else position, self._run
             if self.durable_only and at > end:
                 raise AboveTheEnd(Section.C, 1, end)
-            found = self._asked(lambda reader: self._pages_at(reader, numbers, at), at)
+            if (copied := self._copied(numbers, at)) is not None:
+                return copied
+            try:
+                found = self._asked(lambda reader: self._pages_at(reader, numbers, at), at)
+            except BelowBase:
+                if (copied := self._copied(numbers, at)) is None:
+                    raise
+                return copied
             if not self.durable_only or run == self._run:
                 return found  # else it was read from another run than the one that the end is of
+
+    def _copied(self, numbers: Sequence[int], at: int) -> list[Page] | None:
+        """Pages of a page server, where there is one, and the position is known to be durable."""
+        if self._copies is None:
+            return None
+        if self._only_copies:
+            return self._copied_at_last(self._copies, numbers, at)
+        if self.place is None or not self.place.pages or at > max(self._durable, self.place.archived):
+            return None
+        return self._copies.pages(numbers, at)
+
+    def _copied_at_last(self, copies: PageCopies, numbers: Sequence[int], at: int) -> list[Page]:
+        """The same, where no service is asked. Raises `AboveTheEnd`, `BelowBase` and `TimedOut`."""
+        self._find_place()
+        deadline, waits = time.monotonic() + self.keepers.patience, Backoff(QUICKEST, SLOWEST)
+        while (found := copies.pages(numbers, at)) is None:
+            if at > (end := self._end_of_copies()):
+                raise AboveTheEnd(Section.C, 1, end)
+            if (oldest := copies.oldest()) is not None and at < oldest:
+                raise BelowBase(at, oldest)
+            if time.monotonic() > deadline:
+                raise TimedOut(f"no page server of {self.keepers.name} that has position {at} has answered in {self.keepers.patience} s")
+            time.sleep(waits.next())
+        return found
 
     def blocks(self, position: int = 1, *, follow: bool = True, idle: float = 0.5, stop: Callable[[], bool] = lambda: False) -> Iterator[Block]:
         """The blocks from this position on, in order, each once, as of a `Reader`."""
@@ -218,7 +289,7 @@ class NamedReader(Following):
         if self._reader is None or self.place is None or self.durable_only:
             return
         if self._poll is None:
-            self._poll = poll_of(self.keepers.name, self._addresses, self.place)
+            self._poll = poll_of(self.keepers.name, self._addresses, self.place, self._trust)
         later = self._poll.superseding(self.place, self._known)
         if later is not None:
             self._least = later.generation

@@ -3,16 +3,18 @@
 from __future__ import annotations
 
 import os
+import re
 import select
 import socket
 import time
 from dataclasses import dataclass
-from typing import Mapping, Sequence
+from typing import Callable, Mapping, Sequence
 
 from pagelog.connection import Address
 from pagelog.dialing import dial
 from pagelog.errors import PagelogError, TimedOut
 from pagelog.repeating import Backoff
+from pagelog.secure import SecurityError, Trust
 
 QUICKEST, SLOWEST = 0.005, 0.2
 """Seconds between two rounds of questions, the first and the longest."""
@@ -34,12 +36,17 @@ _AT_ONCE = ("where", "standby")
 """What a keeper that lives answers at once; the rest may wait for PostgreSQL."""
 
 
+_NONCE = re.compile("[0-9a-f]{32}")
+Prover = Callable[[str, str], Sequence[object]]
+"""Makes the words that prove whose token a client has, of a keeper's nonce and of DATABASE/RUN."""
+
+
 class UnknownName(PagelogError):
     """The keepers know of no database of this name."""
 
 
 class NoKeeper(PagelogError):
-    """No keeper answers: all connections are refused. Who has found the database before waits for them."""
+    """No keeper answers: all connections are refused, or are not with whom they should be. Who has found the database before waits for them."""
 
 
 class WrongToken(PagelogError):
@@ -102,11 +109,23 @@ class Place:
     database: str = ""
     after: str = ""
     """The run of the generation directly before, where who tells the place knows it."""
+    pages: int = 0
+    """How many page servers the database has."""
 
     @property
     def of(self) -> str:
         """The word of the database and the run, as `at` has told it."""
         return f"{self.database}/{self.run}"
+
+
+@dataclass(frozen=True)
+class PageServerPlace:
+    """A page server: it has pages from position `oldest` to `position`, or a later one by now."""
+
+    address: str
+    run: str
+    position: int
+    oldest: int
 
 
 @dataclass(frozen=True)
@@ -123,9 +142,9 @@ class Fate:
 class _Line:
     """A connection to a keeper, one question at a time."""
 
-    def __init__(self, address: str) -> None:
+    def __init__(self, address: str, trust: Trust | None) -> None:
         place = Address.parse(address)
-        self._socket = dial(place.host, place.port, _ANSWER)
+        self._socket = dial(place.host, place.port, _ANSWER, trust)
         self._socket.setsockopt(socket.IPPROTO_TCP, socket.TCP_NODELAY, 1)
         self._socket.setblocking(False)
         self._poll = select.poll()
@@ -133,6 +152,9 @@ class _Line:
         self.version = 0
         """The keeper's, once it has answered the greeting."""
         self._greeting = f"hello {VERSION}\n".encode()
+        """What goes before the next question."""
+        self._nonce = self._proved = ""
+        """What the keeper has said to prove something with, and the database for which that was done."""
 
     def close(self) -> None:
         self._socket.close()
@@ -150,7 +172,25 @@ class _Line:
 
     def send(self, words: Sequence[object], timeout: float) -> None:
         """Sends a question. Raises `OSError`."""
-        question, self._greeting = self._greeting + " ".join(map(str, words)).encode() + b"\n", b""
+        self._say(" ".join(map(str, words)).encode() + b"\n", timeout)
+
+    def prove(self, of: str, prover: Prover, timeout: float) -> None:
+        """Proves, with the next question, whose token this client has: once for each database, as soon as the keeper has said its nonce.
+        An older keeper says none. Raises `OSError`."""
+        database = of.partition("/")[0]
+        if self._proved == database:
+            return
+        deadline = time.monotonic() + timeout
+        self._say(b"", timeout)
+        while self.version == 0:
+            self._wait(select.POLLIN, deadline)
+            self.take()
+        self._proved = database
+        if self._nonce:
+            self._greeting = " ".join(map(str, prover(self._nonce, of))).encode() + b"\n"
+
+    def _say(self, question: bytes, timeout: float) -> None:
+        question, self._greeting = self._greeting + question, b""
         deadline = time.monotonic() + timeout
         while question:
             try:
@@ -180,6 +220,8 @@ class _Line:
             self._left, words = rest, line.decode(errors="replace").split()
             if self.version == 0:
                 self.version = int(words[1]) if words[:1] == ["hello"] and words[1:2] and words[1].isdecimal() else 1
+                nonce = _parted(words)[1].get("nonce", "")
+                self._nonce = nonce if _NONCE.fullmatch(nonce) else ""
             elif words not in _NO_ANSWER:
                 return words
 
@@ -191,14 +233,19 @@ class _Line:
 class Keepers:
     """The keepers of a named database. Any of them answers; those that do not are left out, as long as one does."""
 
-    def __init__(self, name: str, addresses: Sequence[str], patience: float = 60.0) -> None:
-        """`patience` is in seconds, for a place or an answer."""
+    def __init__(
+        self, name: str, addresses: Sequence[str], patience: float = 60.0, trust: Trust | None = None, prover: Prover | None = None
+    ) -> None:
+        """`patience` is in seconds, for a place or an answer. With `trust` all lines are by TLS. Without a `prover` keepers may refuse what
+        costs them something."""
         if not addresses or isinstance(addresses, str):
             raise ValueError("keepers are a list of HOST:PORT")
         for address in addresses:
             Address.parse(address)
         self.name = name
         self.patience = patience
+        self._prover = prover
+        self._trust = trust
         self._addresses = list(dict.fromkeys(addresses))
         self._lines: dict[str, _Line] = {}
         self._left_out: dict[str, float] = {}
@@ -209,6 +256,8 @@ class Keepers:
         """Those that have refused a connection since the last question for the place began."""
         self._is_heard = False
         """Whether any has answered that."""
+        self._insecure = ""
+        """What was wrong with TLS of the last one that had any, since then."""
         self._own: Place | None = None
         """The last place of the database that was opened: of another one nothing is taken."""
         self._process = os.getpid()
@@ -239,6 +288,7 @@ class Keepers:
                 return self._ask(address, words, timeout)
             return answer
         except OSError as error:
+            self._note_refusal(address, error)
             if isinstance(error, TimeoutError) and words[0] in _AT_ONCE:
                 self._leave_out(address)
             return []
@@ -253,6 +303,7 @@ class Keepers:
         Raises `UnknownName` where all that answer say so.
         """
         self._refused.clear()
+        self._insecure = ""
         answers = [self._ask(address, ("where", self.name), seconds) for address in self._asks()]
         self._is_heard = any(answers)
         told = [place for place in map(_place, answers) if place is not None]
@@ -292,9 +343,10 @@ class Keepers:
                 return found
             gone = min(gone, time.monotonic()) if self._refused.issuperset(self._addresses) else float("inf")
             if self.opens and self._own is None and time.monotonic() - gone >= _GONE:
-                raise NoKeeper("no keeper answers: all connections are refused")
+                raise NoKeeper(f"no keeper answers: {self._insecure or 'all connections are refused'}")
             if time.monotonic() > deadline:
-                raise TimedOut(f"no keeper has said in {self.patience} s where {self.name} is")
+                why = f": {self._insecure}" if self._insecure else ""
+                raise TimedOut(f"no keeper has said in {self.patience} s where {self.name} is{why}")
             self.wait_for(least, waits.next())
 
     def wait_for(self, least: int, seconds: float, unopened: Place | None = None) -> None:
@@ -340,18 +392,26 @@ class Keepers:
         line = self._lines.pop(address, None)
         try:
             line = line or self._line(address)
+            if of and self._prover is not None:
+                line.prove(of, self._prover, timeout)
             line.send((*words, f"of={of}") if of and line.version != 1 else words, timeout)
             return line
         except (OSError, ValueError) as error:
-            if isinstance(error, ConnectionRefusedError):
-                self._refused.add(address)
+            self._note_refusal(address, error)
             if line is not None:
                 line.close()
             return None
 
+    def _note_refusal(self, address: str, error: Exception) -> None:
+        """Who refuses a connection, or is not whom TLS wants."""
+        if isinstance(error, (ConnectionRefusedError, SecurityError)):
+            self._refused.add(address)
+        if isinstance(error, SecurityError):
+            self._insecure = f"{address}: {error}"
+
     def _line(self, address: str) -> _Line:
         try:
-            return _Line(address)
+            return _Line(address, self._trust)
         except TimeoutError:
             self._leave_out(address)
             raise
@@ -376,6 +436,8 @@ class Keepers:
         if line is None or self._process != os.getpid():
             return
         try:
+            if line.version > 1 and self._prover is not None:
+                line.prove(place.of, self._prover, _ANSWER)
             line.send(("ring", self.name, place.generation, *([f"of={place.of}"] if line.version > 1 else [])), _ANSWER)
         except OSError:
             del self._lines[place.lines]
@@ -405,6 +467,15 @@ class Keepers:
             if found is not None and found.database and self._is_own(found):
                 return found
         return None
+
+    def page_servers(self) -> list[PageServerPlace]:
+        """The page servers of the database that was opened, as the first keeper says that knows of any."""
+        of = "" if self._own is None else self._own.database
+        for address in self._asks():
+            fixed, keys = _parted(self._ask(address, ("pages", self.name), of=of))
+            if fixed[:1] == ["pages"] and keys.get("of", of) == of and (found := _page_servers(fixed[2:])):
+                return found
+        return []
 
     def block(self, position: int) -> str | None:
         """The SHA-256 of the block that the archive has at a position, of the keeper that answers first; None where it has none."""
@@ -522,6 +593,17 @@ def _standby(words: list[str], lines: str) -> Place | None:
             return None
 
 
+def _page_servers(words: list[str]) -> list[PageServerPlace]:
+    """Four words each; none where one is none of its kind."""
+    try:
+        found = [PageServerPlace(address, run, int(position), int(oldest)) for address, run, position, oldest in zip(*[iter(words)] * 4)]
+        for each in found:
+            Address.parse(each.address)
+        return found
+    except ValueError:
+        return []
+
+
 def _read(
     generation: str, run: str, address: str, archived: str, lines: str, base: str, shift: str, kept: str, keys: Mapping[str, str]
 ) -> Place | None:
@@ -529,7 +611,8 @@ def _read(
     try:
         Address.parse(address)
         database = keys.get("of", "").partition("/")[0]
-        return Place(int(generation), run, address, int(archived), lines, int(base), int(shift), int(kept), database, keys.get("after", ""))
+        return Place(int(generation), run, address, int(archived), lines, int(base), int(shift), int(kept), database, keys.get("after", ""),
+                     int(keys.get("pages", "0")))  # fmt: skip
     except ValueError:
         return None
 

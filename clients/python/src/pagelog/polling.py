@@ -14,6 +14,7 @@ from weakref import WeakValueDictionary
 from pagelog.errors import PagelogError
 from pagelog.place import Dropped, Keepers, Place
 from pagelog.repeating import Backoff
+from pagelog.secure import Trust
 
 EACH = 1.0
 """Seconds between two rounds of questions, as long as somebody reads."""
@@ -28,8 +29,8 @@ _ANSWER = 3.0
 class HolderPoll:
     """Asks all keepers of one database in a thread of its own, while `superseding` is called."""
 
-    def __init__(self, name: str, addresses: Sequence[str], place: Place) -> None:
-        self._keepers = Keepers(name, addresses)
+    def __init__(self, name: str, addresses: Sequence[str], place: Place, trust: Trust | None = None) -> None:
+        self._keepers = Keepers(name, addresses, trust=trust)
         self._keepers.is_of(place)
         self._told = threading.Condition()
         self._newest = place
@@ -91,7 +92,7 @@ class HolderPoll:
 _polls: WeakValueDictionary[tuple[object, ...], HolderPoll] = WeakValueDictionary()
 
 
-def poll_of(name: str, addresses: Sequence[str], place: Place) -> HolderPoll:
-    """The one of this process. A child that a fork made begins its own."""
-    key = (os.getpid(), name, tuple(sorted(addresses)), place.database)
-    return _polls.get(key) or _polls.setdefault(key, HolderPoll(name, addresses, place))
+def poll_of(name: str, addresses: Sequence[str], place: Place, trust: Trust | None = None) -> HolderPoll:
+    """The one of this process, of who believes the same. A child that a fork made begins its own."""
+    key = (os.getpid(), name, tuple(sorted(addresses)), place.database, trust and trust.files)
+    return _polls.get(key) or _polls.setdefault(key, HolderPoll(name, addresses, place, trust))

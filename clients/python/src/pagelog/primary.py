@@ -24,6 +24,7 @@ from pagelog.rules import (
     AboveTheWindow, BelowQuorum, HardenedAlready, NewerEpoch, NoRowMatches, OlderEpoch, OtherContent, OtherPrimary, Section, TableRow,
     UnknownPrincipal,
 )  # fmt: skip
+from pagelog.secure import Trust
 
 if TYPE_CHECKING:
     from pagelog.named import NamedPrimary
@@ -121,13 +122,13 @@ class Primary(PageClient):
     @classmethod
     def named(
         cls, name: str, *, keepers: Sequence[str], principal: int, token: str, operator: tuple[int, str], quorum: int = QUORUM,
-        patience: float = 60.0, timeout: float = 10.0, overwrite_sqlite: bool = False,
+        patience: float = 60.0, timeout: float = 10.0, overwrite_sqlite: bool = False, trust: Trust | None = None,
     ) -> NamedPrimary:  # fmt: skip
         """The writer of a named database, which its keepers have somewhere, as `host:port`; `operator` is an id and a token."""
         from pagelog.named import NamedPrimary
 
         return NamedPrimary(name, keepers, principal, token, operator, quorum=quorum, patience=patience, timeout=timeout,
-                            overwrite_sqlite=overwrite_sqlite)  # fmt: skip
+                            overwrite_sqlite=overwrite_sqlite, trust=trust)  # fmt: skip
 
     def begin(self) -> State:
         """Learns the epoch and the end of the log, once; append and commit do it by themselves.

@@ -14,6 +14,7 @@ from pagelog.repeating import Backoff
 from pagelog.reply import Blocks, Denied, NoMemory, Reply, expect, refusal_of
 from pagelog.request import PULL_MAX, Act, Pull, Role
 from pagelog.rules import AboveTheEnd, Section
+from pagelog.secure import Trust
 
 if TYPE_CHECKING:
     from pagelog.named_reader import NamedReader
@@ -63,13 +64,15 @@ class Reader(PageClient):
 
     @classmethod
     def named(
-        cls, name: str, *, keepers: Sequence[str], principal: int, token: str, durable_only: bool = False, patience: float = 60.0,
-        timeout: float = 10.0,
+        cls, name: str, *, keepers: Sequence[str], principal: int, token: str, durable_only: bool = False, pages: str = "prefer",
+        patience: float = 60.0, timeout: float = 10.0, trust: Trust | None = None,
     ) -> NamedReader:  # fmt: skip
-        """The reader of a named database, which its keepers have somewhere; with `durable_only` of what cannot be lost."""
+        """The reader of a named database, which its keepers have somewhere; with `durable_only` of what cannot be lost. `pages` is whether
+        page servers are asked: "prefer", "never" or "only"."""
         from pagelog.named_reader import NamedReader
 
-        return NamedReader(name, keepers, principal, token, durable_only=durable_only, patience=patience, timeout=timeout)
+        return NamedReader(name, keepers, principal, token, durable_only=durable_only, pages=pages, patience=patience, timeout=timeout,
+                           trust=trust)  # fmt: skip
 
     def answers(self, acts: Sequence[Act]) -> list[Reply]:
         """The replies to gets, pulls and statuses that are asked together. None is turned into an exception."""

@@ -13,11 +13,12 @@ from datetime import datetime, timezone
 from itertools import islice
 from typing import Any, Iterable
 
-from pagelog.console.events import Event, Known, of_databases, of_keepers, taken
+from pagelog.console.events import Event, Known, of_asides, of_databases, of_keepers, taken
 from pagelog.console.history import History, Sample
 from pagelog.console.outlook import Scene, Spare, State, Use, forecast_of, sentence, state_of
 from pagelog.console.source import Generation, Seen
 from pagelog.console.trails import TrailCounts
+from pagelog.keeper.aside import asides_of
 from pagelog.keeper.machine import SUCCEED_AT
 from pagelog.keeper.rows import Look, Row, told
 
@@ -66,6 +67,8 @@ class Board:
         self._gone: dict[str, int] = {}
         self._known: dict[int, Known] = {}
         self._keepers: dict[str, tuple[str, bool]] = {}
+        self._asides: dict[str, dict[str, Any]] = {}
+        """The runs of which PostgreSQL has lost something."""
         self._beats: dict[str, tuple[tuple[str, int], float]] = {}
         self._histories: dict[int, History] = {}
         self._generations: dict[int, tuple[Generation, ...]] = {}
@@ -106,7 +109,9 @@ class Board:
             events += of_databases(self._known, known, at)
             if self._seen.look.synchronous.meaning != seen.look.synchronous.meaning:
                 events.append(Event(at, seen.look.synchronous.meaning))
-        self._seen, self._known, self._keepers, self._at = seen, known, keepers, at
+        asides = {each["run"]: {**each, "kept": each.get("kept", True)} for each in asides_of(seen.look)}
+        events += of_asides(self._asides, asides, at)
+        self._seen, self._known, self._keepers, self._asides, self._at = seen, known, keepers, asides, at
         self._generations.update(seen.generations)
         self._say(events)
         self._show(at, living)
@@ -128,7 +133,10 @@ class Board:
 
     def _known_of(self, look: Look, row: Row, living: frozenset[str]) -> Known:
         state = state_of(row, _report(look, row), row.holder not in living)
-        return Known(row, state, frozenset(standby.keeper for standby in look.standbys_of(row.id)))
+        pages = look.pages_of(row.id)
+        return Known(row, state, frozenset(standby.keeper for standby in look.standbys_of(row.id)),
+                     frozenset((each.machine, each.run) for each in pages if not each.is_gone and not each.has_ended),
+                     frozenset(str(aside["run"]) for each in pages for aside in each.aside))  # fmt: skip
 
     def _show(self, at: float, living: frozenset[str]) -> None:
         assert self._seen is not None
@@ -155,7 +163,8 @@ class Board:
         used, grown = Use(left, audit, history.fall()), Use(held, self.limits.memory, history.growth())
         forecast = forecast_of(used, grown, self.limits.share)
         spares = tuple(Spare(each.keeper, each.reached, each.keeper in living) for each in look.standbys_of(row.id))
-        scene = Scene(row, known.state, spares, living, forecast, report.get("state") == "succeeding")
+        has_asides = any(each["name"] == row.name for each in self._asides.values())
+        scene = Scene(row, known.state, spares, living, forecast, report.get("state") == "succeeding", has_asides)
         trail, generations = self._trail_of(row), self._generations.get(row.id, ())
         lag = None if hard is None else max(0, hard - row.archived)
         why = {keeper: said for keeper, said in look.decisions_of(row).items() if keeper in living}
@@ -164,10 +173,12 @@ class Board:
             "name": row.name, "state": known.state.value, "paused": row.paused, "read_only": row.read_only, "wanted": row.wanted, "holder": row.holder,
             "address": row.address, "generation": row.generation, "began": iso(begins[-1]) if begins else None,
             "begins": [iso(each) for each in begins if each > at - DAY][-24:],
-            "position": row.archived, "lag": lag, "lag_seconds": _short(history.lag_seconds),
+            "position": row.archived, "stored": report.get("stored"), "lag": lag, "lag_seconds": _short(history.lag_seconds),
             "commits": _short(history.commits), "reads": _short(trail.reads(at)) if trail else None, "entries_left": left, "entries": audit,
             "due": int((1 - self.limits.share) * audit), "memory": held,
             "memory_limit": self.limits.memory or None, "standbys": [asdict(spare) for spare in spares],
+            "pages": [{"machine": each.machine, "position": each.position, "gone": each.is_gone or each.has_ended}
+                      for each in look.pages_of(row.id)],
             "denials": sum(trail.denials(at).values()) if trail else None,
             "why": told(row.holder, why) or None, "next": sentence(scene),
             "next_in": _short(forecast.seconds, 2) if known.state is State.SERVING and not row.paused else None,
@@ -212,7 +223,7 @@ class Board:
             {"name": keeper.name, "lines": keeper.lines, "lives": self._keepers[keeper.name][1]} for keeper in look.keepers
         ]
         return {
-            "version": VERSION, "look": self.number, "at": iso(self._at), "keepers": keepers,
+            "version": VERSION, "look": self.number, "at": iso(self._at), "keepers": keepers, "set_aside": list(self._asides.values()),
             "postgresql": {
                 "answers": away is None and self._seen is not None, "is_prepared": self._seen is None or self._seen.is_prepared,
                 "away_since": iso(away[0]) if away else None, "why": away[1] if away else "", "durable": look.synchronous.meaning,

@@ -33,6 +33,10 @@ class Known:
     row: Row
     state: State
     standbys: frozenset[str] = frozenset()
+    pages: frozenset[tuple[str, str]] = frozenset()
+    """The machines and runs of its page servers that are heard."""
+    stores: frozenset[str] = frozenset()
+    """Those that they have set aside."""
 
 
 @dataclass(frozen=True)
@@ -90,6 +94,17 @@ def _changes(before: Known, now: Known) -> Iterator[Change]:
         yield Change(word, f"# databases {word}", "warning" if row.read_only else "plain")
     for keeper in sorted(now.standbys - before.standbys):
         yield Change(f"{keeper} stands by", f"{keeper} stands by for # databases")
+    yield from _of_pages(before, now)
+
+
+def _of_pages(before: Known, now: Known) -> Iterator[Change]:
+    for machine, _ in sorted(now.pages - before.pages):
+        yield Change(f"its page server at {machine} is there", f"page servers at {machine} of # databases are there", "good")
+    for machine, _ in sorted(before.pages - now.pages):
+        yield Change(f"its page server at {machine} is not heard of", f"page servers at {machine} of # databases are not heard of", "warning")
+    for run in sorted(now.stores - before.stores):
+        text = f"a page server has set aside store {run}: `pagelogctl rescue` says what it has"
+        yield Change(text, "page servers have set aside stores of # databases", "bad")
 
 
 def _taken(old: Row, row: Row) -> Change:
@@ -106,6 +121,18 @@ def _taken(old: Row, row: Row) -> Change:
 def taken(holder: str, generation: int, base: int, how: str = "") -> str:
     """That a keeper began a generation."""
     return f"{holder} took it{how}: generation {generation} from position {base:,}"
+
+
+def of_asides(before: Mapping[str, Mapping[str, Any]], now: Mapping[str, Mapping[str, Any]], at: float) -> Iterator[Event]:
+    """The events of runs of which PostgreSQL has lost something, by run, as their keepers say of them."""
+    for run, aside in now.items():
+        if run in before and before[run]["kept"] == aside["kept"]:
+            continue
+        how = "is set aside" if aside["kept"] else "has what PostgreSQL lacks, which went back"
+        text = f"run {run} of keeper {aside['keeper']} {how}: `pagelogctl rescue {aside['name']}` says what it has"
+        yield Event(at, text, aside["name"], "bad")
+    for run in before.keys() - now.keys():
+        yield Event(at, f"PostgreSQL has all of run {run} again, or it was ended", before[run]["name"])
 
 
 def of_keepers(before: Mapping[str, Any], now: Mapping[str, Any], at: float) -> Iterator[Event]:

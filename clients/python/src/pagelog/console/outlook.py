@@ -54,6 +54,8 @@ class Scene:
     forecast: Forecast = Forecast()
     is_succeeding: bool = False
     """Whether its holder says that it makes the service of the next generation."""
+    has_asides: bool = False
+    """Whether a keeper has a run of it of which PostgreSQL has lost something."""
 
 
 def state_of(row: Row, report: Mapping[str, Any], is_silent: bool) -> State:
@@ -95,7 +97,13 @@ def forecast_of(entries: Use, memory: Use, share: float) -> Forecast:
 
 
 def sentence(scene: Scene) -> str:
-    """What will happen next."""
+    """What will happen next, and what is a person's to do."""
+    if scene.has_asides:
+        return f"PostgreSQL lacks something: `pagelogctl rescue {scene.row.name}` says what. {_next(scene)}"
+    return _next(scene)
+
+
+def _next(scene: Scene) -> str:
     match scene.state:
         case State.NOBODY:
             return _of_nobody(scene)

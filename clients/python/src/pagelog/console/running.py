@@ -5,6 +5,7 @@ from __future__ import annotations
 import asyncio
 import logging
 import signal
+import ssl
 from concurrent.futures import Future
 from functools import partial
 from threading import Thread
@@ -33,15 +34,16 @@ _log.addFilter(_OwnFaults())
 
 async def run(
     source: Source, limits: Limits, door: Door, host: str, port: int, listening: Callable[[int], None],
-    signals: Iterable[int] = (signal.SIGTERM, signal.SIGINT),
+    signals: Iterable[int] = (signal.SIGTERM, signal.SIGINT), *, context: ssl.SSLContext | None = None,
 ) -> None:  # fmt: skip
-    """Serves until one of the signals. `listening` is told the port. Raises `OSError` where it cannot listen there."""
+    """Serves until one of the signals, by TLS where there is a context. `listening` is told the port. Raises `OSError` where it cannot
+    listen there."""
     loop, board, ended = asyncio.get_running_loop(), Board(limits), asyncio.Event()
     watcher = Watcher(source, partial(_tell, loop, board.take), partial(_tell, loop, board.miss))
-    runner = web.AppRunner(Pages(board, door, watcher.watch).application(), access_log=None, logger=_log)
+    runner = web.AppRunner(Pages(board, door, watcher.watch, is_secure=context is not None).application(), access_log=None, logger=_log)
     await runner.setup()
     try:
-        await web.TCPSite(runner, host, port).start()
+        await web.TCPSite(runner, host, port, ssl_context=context).start()
         for number in signals:
             loop.add_signal_handler(number, ended.set)
         watcher.start()
@@ -51,14 +53,14 @@ async def run(
         await runner.cleanup()
 
 
-def begin(source: Source, limits: Limits, door: Door, host: str, port: int) -> int:
+def begin(source: Source, limits: Limits, door: Door, host: str, port: int, context: ssl.SSLContext | None = None) -> int:
     """Serves in a thread, with a loop of its own, for as long as the program runs. Returns the port. Raises `OSError`, or
     `UnicodeError` for a host that is no name."""
     listening: Future[int] = Future()
 
     def serve() -> None:
         try:
-            asyncio.run(run(source, limits, door, host, port, listening.set_result, ()))
+            asyncio.run(run(source, limits, door, host, port, listening.set_result, (), context=context))
         except BaseException as error:  # whatever it is: who began it waits for its word
             if listening.done():
                 raise

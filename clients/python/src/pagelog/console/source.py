@@ -18,7 +18,7 @@ from pagelog.console import statements
 from pagelog.errors import PagelogError
 from pagelog.keeper.hosts import shut_down, turn_hosts
 from pagelog.keeper.referee import options_of
-from pagelog.keeper.rows import KeeperRow, Look, Row, StandbyRow, Synchronous
+from pagelog.keeper.rows import KeeperRow, Look, PagesRow, Row, StandbyRow, Synchronous
 from pagelog.reply import LINE_SIZE
 from pagelog.trail.store import FORMAT, Piece
 
@@ -131,9 +131,11 @@ class Source:
 
     def _look(self) -> Seen:
         [found] = self._ask(statements.LOOK)
+        pages = self._ask(statements.PAGES) if found["has_pages"] else ()
         look = Look(
             tuple(Row(**row) for row in found["databases"]), tuple(KeeperRow(**row) for row in found["keepers"]),
             tuple(StandbyRow(**row) for row in found["standbys"]), Synchronous(found["names"], found["standbys_of_postgresql"]),
+            tuple(PagesRow(**row) for row in pages),
         )  # fmt: skip
         generations = self._new_generations(look.rows)
         if not found["has_trail"]:

@@ -1,6 +1,7 @@
 """What the console asks PostgreSQL. No statement writes, and none reads a table of principals or a block."""
 
 from pagelog.keeper.schema import FORMAT
+from pagelog.keeper.statements import PAGES_COLUMNS
 
 LOOK = f"""
 SELECT
@@ -15,8 +16,13 @@ SELECT
     THEN (SELECT count(*) FROM pg_stat_replication WHERE sync_state IN ('sync', 'quorum')) END AS standbys_of_postgresql,
   COALESCE(has_table_privilege(to_regclass('pagelog_trail_list'), 'SELECT')
     AND has_table_privilege(to_regclass('pagelog_trail_piece'), 'SELECT'), false) AS has_trail,
-  EXISTS (SELECT 1 FROM pg_attribute WHERE attrelid = to_regclass('pagelog_trail_list') AND attname = 'of_run') AS has_runs
+  EXISTS (SELECT 1 FROM pg_attribute WHERE attrelid = to_regclass('pagelog_trail_list') AND attname = 'of_run') AS has_runs,
+  COALESCE(has_table_privilege(to_regclass('pagelog_pages'), 'SELECT'), false)
+    AND EXISTS (SELECT 1 FROM pg_attribute WHERE attrelid = to_regclass('pagelog_pages') AND attname = 'seen') AS has_pages
 """
+
+PAGES = f"SELECT {PAGES_COLUMNS} FROM pagelog_pages ORDER BY machine, run"
+"""The page servers, of tables that have them."""
 
 GENERATIONS = """
 SELECT g.log, g.generation, g.holder, g.base, g.began

@@ -33,10 +33,10 @@ Handler = Callable[[web.Request], Awaitable[web.StreamResponse]]
 
 
 class Pages:
-    """The answers. `watched` is told whether anybody follows."""
+    """The answers. `watched` is told whether anybody follows, and `is_secure` is whether browsers come by TLS."""
 
-    def __init__(self, board: Board, door: Door, watched: Callable[[bool], None]) -> None:
-        self.board, self.door, self._watched = board, door, watched
+    def __init__(self, board: Board, door: Door, watched: Callable[[bool], None], *, is_secure: bool = False) -> None:
+        self.board, self.door, self._watched, self._is_secure = board, door, watched, is_secure
         self._files = {entry.name: entry.read_bytes() for entry in files(__package__).joinpath("static").iterdir()}
         self._following: set[asyncio.Task[Any]] = set()
 
@@ -94,7 +94,7 @@ class Pages:
             wrong = self._files["login.html"].replace(b'class="wrong" hidden', b'class="wrong"')
             return web.Response(status=403, body=wrong, content_type="text/html", charset="utf-8")
         response = web.HTTPSeeOther("/")
-        response.set_cookie(COOKIE, self.door.cookie(), max_age=LASTS, httponly=True, samesite="Strict")
+        response.set_cookie(COOKIE, self.door.cookie(), max_age=LASTS, httponly=True, samesite="Strict", secure=self._is_secure)
         return response
 
     async def logout(self, request: web.Request) -> web.StreamResponse:

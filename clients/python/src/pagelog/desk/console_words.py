@@ -3,6 +3,7 @@
 from __future__ import annotations
 
 import asyncio
+import ssl
 from pathlib import Path
 from typing import TYPE_CHECKING
 
@@ -10,7 +11,7 @@ import click
 
 from pagelog.credentials import Accounts
 from pagelog.desk.keeper_words import url_of_referee
-from pagelog.desk.options import credentials_option, fail, faults
+from pagelog.desk.options import context_of_file, credentials_option, fail, faults, tls_option
 from pagelog.keeper.machine import ROLL_AT, SUCCEED_AT
 
 if TYPE_CHECKING:
@@ -23,8 +24,9 @@ if TYPE_CHECKING:
 @click.option("--listen", default="127.0.0.1:7480", show_default=True, metavar="HOST:PORT", help="Where browsers reach it.")
 @click.option("--token-file", metavar="FILE", type=click.Path(path_type=Path), help="A file of mode 600 whose first line has the "
               "token that a browser has to give. Needed where HOST is not of this machine alone.")  # fmt: skip
+@tls_option
 @faults
-def console_word(accounts: Accounts, listen: str, token_file: Path | None) -> None:
+def console_word(accounts: Accounts, listen: str, token_file: Path | None, tls: Path | None) -> None:
     """Serve a page that shows named databases live. Needs [archive] url, of a role that may read; it writes nothing.
 
     It prints `listening HOST:PORT`. PostgreSQL is looked at once a second while a browser follows, else every five seconds.
@@ -45,13 +47,14 @@ def console_word(accounts: Accounts, listen: str, token_file: Path | None) -> No
                     float(keeper.get("succeed", SUCCEED_AT)) or ROLL_AT)  # fmt: skip
     source = Source(url_of_referee(accounts))
     try:
-        asyncio.run(run(source, limits, door, host.strip("[]"), port, lambda bound: click.echo(f"listening {host}:{bound}")))
+        asyncio.run(run(source, limits, door, host.strip("[]"), port, lambda bound: click.echo(f"listening {host}:{bound}"),
+                        context=context_of_file(tls)))  # fmt: skip
     except (OSError, UnicodeError) as error:  # UnicodeError: the host is no name that can be looked up
         fail(f"--listen: {listen}: {getattr(error, 'strerror', None) or error}")
 
 
-def begin_console(settings: Settings) -> str:
-    """Serves the page of a keeper beside its work, by its own settings. Returns the address."""
+def begin_console(settings: Settings, context: ssl.SSLContext | None = None) -> str:
+    """Serves the page of a keeper beside its work, by its own settings, and by TLS where there is a context. Returns the address."""
     from pagelog.console.board import Limits
     from pagelog.console.running import begin
     from pagelog.console.source import Source
@@ -60,7 +63,7 @@ def begin_console(settings: Settings) -> str:
     host, port, door = _place_of(settings.console, settings.console_token, "[keeper] console", "console_token")
     limits = Limits(settings.ttl, settings.program.audit, settings.memory >> 20, settings.succeed or ROLL_AT)
     try:
-        return f"{host}:{begin(Source(settings.url), limits, door, host.strip('[]'), port)}"
+        return f"{host}:{begin(Source(settings.url), limits, door, host.strip('[]'), port, context)}"
     except (OSError, UnicodeError) as error:
         fail(f"[keeper] console: {settings.console}: {getattr(error, 'strerror', None) or error}")
 

@@ -11,6 +11,7 @@ from pagelog.archive import Archive
 from pagelog.archive_care import Log, drop, logs_of
 from pagelog.credentials import Accounts
 from pagelog.desk.deleting import agree, counted, yes_option
+from pagelog.desk.hold_words import refuse_held
 from pagelog.desk.keeper_words import facts_of, named, referee_of
 from pagelog.desk.options import credentials_option, fail, faults, url_of, url_options
 from pagelog.keeper.history import extent_of
@@ -22,7 +23,8 @@ _IDENTITY = "SELECT to_jsonb(l) ->> 'identity' FROM pagelog_log l WHERE id = %s"
 _LEFT = """
 WITH old AS (SELECT id FROM pagelog_log WHERE dropped AND name = %s || '!' || id)
 SELECT (SELECT count(*) FROM pagelog_block WHERE log IN (SELECT id FROM old)), (SELECT count(*) FROM pagelog_image WHERE log IN (SELECT id FROM old)),
-  (SELECT count(*) FROM pagelog_base WHERE log IN (SELECT id FROM old)), (SELECT count(*) FROM pagelog_table WHERE log IN (SELECT id FROM old))
+  (SELECT count(*) FROM pagelog_base WHERE log IN (SELECT id FROM old)), (SELECT count(*) FROM pagelog_table WHERE log IN (SELECT id FROM old)),
+  (SELECT count(*) FROM pagelog_object WHERE log IN (SELECT id FROM old)) + (SELECT count(*) FROM pagelog_pack WHERE log IN (SELECT id FROM old))
 """
 
 
@@ -57,11 +59,14 @@ def drop_word(accounts: Accounts, url: str | None, log: str | None, name: str | 
 def _drop_named(referee: Referee, name: str, yes: bool) -> None:
     look = referee.everything()
     row = look.row(name)
+    if row is not None:
+        refuse_held(referee, row)
     agree("to be deleted: " + (_left_of(referee, name) if row is None else _named(referee, look, row)), yes)
     now = referee.everything().row(name)
     if (now and now.id) != (row and row.id):
         fail(f"nothing was deleted: {name} is {'another database' if now else 'gone'} by now")
-    referee.drop(name)
+    if not referee.drop(name) and row is not None:
+        refuse_held(referee, row)
     click.echo(f"dropped {name}")
 
 
@@ -70,8 +75,9 @@ def _left_of(referee: Referee, name: str) -> str:
     [counts] = referee._ask(_LEFT, (name,))
     if not any(counts):
         fail(f"there is no database {name}")
-    blocks, images, bases, tables = counts
-    left = (counted(blocks, "block"), counted(images, "image"), counted(bases, "base"), counted(tables, "table"))
+    blocks, images, bases, tables, objects = counts
+    left = [counted(blocks, "block"), counted(images, "image"), counted(bases, "base"), counted(tables, "table")]
+    left += [counted(objects, "stored object")] if objects else []
     return f"what is left of {name}, whose drop was broken off: {', '.join(left)}"
 
 

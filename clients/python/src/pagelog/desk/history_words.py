@@ -8,8 +8,10 @@ import click
 
 from pagelog.credentials import Accounts, keep_of
 from pagelog.desk.deleting import agree, counted, yes_option
+from pagelog.desk.hold_words import refuse_held
 from pagelog.desk.keeper_words import named, referee_of, referee_word
 from pagelog.desk.options import WRONG, credentials_option, fail, faults
+from pagelog.desk.seal_words import refuse_keepers_without
 from pagelog.keeper.bases import Bases
 from pagelog.keeper.history import begin_again, below, extent_of, position_at, spans
 from pagelog.keeper.referee import Referee
@@ -64,6 +66,7 @@ def prune_word(accounts: Accounts, name: str, keep: str | None, yes: bool) -> No
         if wanted is None:
             fail(f"nothing was deleted: say how much is kept, by --keep 1, --keep 7d or [archive] keep; {name} has {_archive_of(referee, row)}",
                  WRONG)  # fmt: skip
+        refuse_held(referee, row)
         position = Bases(referee, row.id).oldest_to_keep(wanted)
         if position == 0:
             click.echo(f"{name} has no base that is old enough: nothing was pruned")
@@ -100,6 +103,7 @@ def restore_named(accounts: Accounts, name: str, at: str, to: str | None) -> Non
         made = named(to or f"{name}-{position}")
         if isinstance(when, datetime):
             click.echo(f"at {in_both_zones(when)} {name} was archived up to position {position}")
+        refuse_keepers_without(referee)
         if not begin_again(referee, row, position, made):
             fail(f"there is a database {made}, or was one")
         click.echo(f"{made} is {name} at position {position}, for readers")
@@ -117,6 +121,7 @@ def position_or_time(at: str) -> int | datetime:
         fail(f"{at!r} is neither a position nor a time as {FORMS}")
 
 
-def columns_of(referee: Referee) -> dict[int, dict[str, int]]:
+def columns_of(referee: Referee) -> dict[int, dict[str, int | None]]:
     """What `kept` shows of the archive of each database."""
-    return {log: {"oldest": span.oldest, "base": span.base, "bases": span.bases} for log, span in spans(referee).items()}
+    return {log: {"oldest": span.oldest, "base": span.base, "bases": span.bases, "stored": span.stored, "held": span.is_held}
+            for log, span in spans(referee).items()}  # fmt: skip

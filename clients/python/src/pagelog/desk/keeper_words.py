@@ -9,6 +9,7 @@ import logging
 import os
 import secrets
 import signal
+import ssl
 import sys
 import threading
 from contextlib import contextmanager
@@ -19,8 +20,10 @@ import click
 
 from pagelog.credentials import Accounts
 from pagelog.desk.options import AGAIN, URL_VARIABLE, credentials_option, fail, faults
-from pagelog.keeper.referee import LONGEST, NAME, Away, Doubt, Referee, Refused
+from pagelog.keeper.hosts import is_loopback
+from pagelog.keeper.referee import LONGEST, NAME, Away, Doubt, Referee, Refused, Sealed
 from pagelog.keeper.rows import Look, Row
+from pagelog.keeper.sealed import Keys
 from pagelog.keeper.settings import Settings
 from pagelog.keeper.table import Form, read_table, table_of_run
 
@@ -74,13 +77,15 @@ class Asked(Referee):
 
 
 @contextmanager
-def referee_of(accounts: Accounts, kind: type[Referee] = Referee) -> Iterator[Referee]:
-    """The referee. A fault of it is a line, and the exit status that the archive's database has for the like."""
-    referee = kind(url_of_referee(accounts))
+def referee_of(accounts: Accounts, kind: type[Referee] = Referee, url: str | None = None) -> Iterator[Referee]:
+    """The referee, or that of another URL. A fault of it is a line, and the exit status that the archive's database has for the like."""
+    referee = kind(url or url_of_referee(accounts), keys=Keys(accounts.key_file), store=accounts.store)
     try:
         yield referee
     except (Away, Doubt) as error:
         fail(f"{type(error).__name__}: {error}", AGAIN)
+    except Sealed as error:
+        fail(str(error))
     except Refused as error:
         fail(f"{error}: is there a keeper yet, or a `pagelogctl create`?")
     finally:
@@ -94,12 +99,15 @@ def referee_of(accounts: Accounts, kind: type[Referee] = Referee) -> Iterator[Re
 @click.option("--serve", required=True, metavar="HOST", help="Where its services listen, at ports that the system gives.")
 @click.option("--folder", required=True, metavar="DIR", type=click.Path(path_type=Path), help="For the files of its services.")
 @click.option("--program", default="pagelog", show_default=True, metavar="PAGELOG", envvar="PAGELOG", help="The service.")
+@click.option("--runner", metavar="SOCKET", type=click.Path(path_type=Path), help="Services run as the user of the `pagelogctl runner` there.")
 @click.option("--console", metavar="HOST:PORT", help="Serve the page of `pagelogctl console` too, by this keeper's thresholds.")
 @click.option("--require-standby", is_flag=True, help="Nothing is durable that a synchronous standby of PostgreSQL has not.")
 @faults
-def keep_word(accounts: Accounts, name: str, lines: str, serve: str, folder: Path, program: str, console: str | None, require_standby: bool) -> None:
+def keep_word(accounts: Accounts, name: str, lines: str, serve: str, folder: Path, program: str, runner: Path | None, console: str | None,
+              require_standby: bool) -> None:  # fmt: skip
     """Keep named databases, with PostgreSQL as the referee. Needs [archive] url; [keeper] may have ttl, standby, audit, memory,
-    succeed, trail, metrics, console, console_token (the file with the token of a page that others reach) and require_standby.
+    succeed, trail, metrics, console, console_token (the file with the token of a page that others reach), require_standby, and for TLS
+    (docs/SECURITY.md) tls, tls_lines, tls_clients, tls_ports and plain.
 
     It prints `listening HOST:PORT`, and logs each decision with its reason. SIGTERM hands over what it holds; a second one
     ends it at once, and its services go on until its next life adopts them. Exit status 3: another keeper has its name. A name whose
@@ -115,15 +123,24 @@ def keep_word(accounts: Accounts, name: str, lines: str, serve: str, folder: Pat
     logging.basicConfig(level=logging.INFO, stream=sys.stderr, format="%(asctime)s %(message)s")
     said = {"require_standby": require_standby or None, "console": console}
     section = {**accounts.keeper, **{key: value for key, value in said.items() if value is not None}}
-    settings = Settings.of(named(name), lines, serve, folder, program, url_of_referee(accounts), section, accounts.archive_keep)
+    settings = Settings.of(named(name), lines, serve, folder, program, url_of_referee(accounts), section, accounts.archive_keep,
+                           accounts.key_file, accounts.store, runner)  # fmt: skip
+    settings.keys.ids  # what is wrong with the file is said at once
+    if settings.program.runner is not None:
+        settings.program.runner.check()
     keeper = Keeper(settings)
     if settings.metrics is not None:
         _serve_metrics(keeper, settings.metrics)
     if settings.console is not None:
         from pagelog.desk.console_words import begin_console
 
-        logging.getLogger("pagelog.keeper").info("console at %s", begin_console(settings))
+        logging.getLogger("pagelog.keeper").info("console at %s", begin_console(settings, _context_for(keeper, settings.console)))
     sys.exit(asyncio.run(keeper.run()))
+
+
+def _context_for(keeper: Keeper, listen: str) -> ssl.SSLContext | None:
+    """Who comes from another machine comes by TLS, where the keeper has a certificate."""
+    return None if keeper.shown is None or is_loopback(listen.rpartition(":")[0]) else keeper.shown.context
 
 
 def _serve_metrics(keeper: Keeper, listen: str) -> None:
@@ -132,7 +149,7 @@ def _serve_metrics(keeper: Keeper, listen: str) -> None:
 
     host, _, port = listen.rpartition(":")
     try:
-        bound = serve(KeeperCollector(keeper.states, keeper.itself), host.strip("[]"), int(port))
+        bound = serve(KeeperCollector(keeper.states, keeper.itself), host.strip("[]"), int(port), _context_for(keeper, listen))
     except (OSError, ValueError) as error:
         fail(f"[keeper] metrics: {listen}: {error}")
     logging.getLogger("pagelog.keeper").info("metrics at %s:%d", host, bound)
@@ -151,19 +168,28 @@ def create_word(referee: Referee, name: str, table: Path) -> None:
     Example:
       pagelogctl create shop --table table.toml --credentials keeper.toml
     """
-    try:
-        text = table.read_text()
-    except (OSError, UnicodeDecodeError) as error:
-        fail(f"{table}: {error}")
-    read_table(text)
-    table_of_run(text, b"", named(name), "", Form.OPEN)
+    text = text_of_table(table, named(name))
     referee.prepare()
+    from pagelog.desk.seal_words import refuse_keepers_without
+
+    refuse_keepers_without(referee)
     if not referee.create(name, text, secrets.token_bytes(16)):
         fail(f"there is a database {name}, or was one")
     click.echo(f"created {name}")
     if not referee.keep_strangers_out():
         click.echo("every role may connect to the referee's database, and wake keepers: REVOKE CONNECT ON DATABASE .. FROM PUBLIC, "
                    "and grant it to those of the keepers and of the console", err=True)  # fmt: skip
+
+
+def text_of_table(table: Path, name: str) -> str:
+    """The text of a table for a named database, if it is one."""
+    try:
+        text = table.read_text()
+    except (OSError, UnicodeDecodeError) as error:
+        fail(f"{table}: {error}")
+    read_table(text)
+    table_of_run(text, b"", name, "", Form.OPEN)
+    return text
 
 
 def _paused(referee: Referee, name: str | None, paused: bool) -> None:
@@ -210,7 +236,9 @@ def facts_of(look: Look, row: Row) -> dict[str, Any]:
         "archived": row.archived, "lag": None if hard is None else max(0, hard - row.archived), "images": row.images, "standbys": standbys,
         "entries_left": report.get("entries_left"), "memory": report.get("memory"), "memory_left": report.get("memory_left"),
         "state": report.get("state"), "why": look.decisions_of(row), "wanted": row.wanted, "succeed": row.succeed, "read_only": row.read_only, "paused": row.paused,
-        "synchronous_standbys": look.synchronous.count,
+        "synchronous_standbys": look.synchronous.count, "identity": row.identity, "secure": row.told(True),
+        "page_servers": [{"run": each.run, "machine": each.machine, "address": each.address, "position": each.position, "oldest": each.oldest,
+                          "silent": round(each.silent, 1), "gone": each.is_gone, "set_aside": list(each.aside)} for each in look.pages_of(row.id)],
     }  # fmt: skip
 
 

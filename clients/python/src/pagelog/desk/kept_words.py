@@ -13,21 +13,23 @@ from pagelog.desk.keeper_words import facts_of, referee_word
 from pagelog.keeper.aside import asides_of
 from pagelog.keeper.referee import Referee
 from pagelog.keeper.rows import told
+from pagelog.pages.stores import sentence
 
 _USUAL = ("name", "state", "generation", "holder", "position", "lag", "why")
-_WIDE = ("name", "state", "generation", "holder", "position", "lag", "place", "oldest", "base", "standbys", "entries left", "memory left", "why")
+_WIDE = ("name", "state", "generation", "holder", "position", "lag", "place", "oldest", "base", "stored", "standbys", "pages", "entries left",
+         "memory left", "why")  # fmt: skip
 _NUMBERS = ("generation", "position", "lag")
 
 
 @click.command("kept")
 @click.option("--json", "as_json", is_flag=True, help="One line of JSON for each database.")
-@click.option("--wide", is_flag=True, help="More columns, none of them cut: place, oldest position that is kept and newest base, standbys, entries "
-              "and MiB of memory left.")  # fmt: skip
+@click.option("--wide", is_flag=True, help="More columns, none of them cut: place, oldest position that is kept and newest base, up to where "
+              "it is in the store, standbys, page servers, entries and MiB of memory left.")  # fmt: skip
 @referee_word
 def kept_word(referee: Referee, as_json: bool, wide: bool) -> None:
     """List the named databases: state, generation, holder, archived position, how many blocks are not archived yet, and what was
     decided, and why: by its holder, or by all where nobody has it; a switchover that was asked for; whether PostgreSQL has a
-    synchronous standby; and services that were set aside.
+    synchronous standby; services and stores of page servers that were set aside, and page servers that are gone.
 
     \b
     Example:
@@ -53,12 +55,20 @@ def kept_word(referee: Referee, as_json: bool, wide: bool) -> None:
         how = "set aside" if each.get("kept", True) else "PostgreSQL went back"
         click.echo(f"{how}: run {each['run']} of {each['name']} at {each['address']}, process {each['pid']} of keeper {each['keeper']}: "
                    f"`pagelogctl rescue {each['name']}` says what it has")  # fmt: skip
+    for facts in found:
+        for each in facts["page_servers"]:
+            for aside in each["set_aside"]:
+                click.echo(f"set aside: {sentence(facts['name'], each['machine'], aside)}")
+            if each["gone"]:
+                click.echo(f"gone: page server {each['run']} of {facts['name']} at {each['machine']}, not heard for {each['silent']:.0f} s: if for good, "
+                           f"`pagelogctl forget {each['run']}`")  # fmt: skip
 
 
 def _cells(facts: dict[str, Any]) -> dict[str, str]:
     """What is shown of a database, by column: none is empty, and none has a line's end or two spaces."""
     standbys = ", ".join(f"{keeper} at {reached}" for keeper, reached in sorted(facts["standbys"].items()))
-    values = {**facts, "state": _state_of(facts), "position": facts["archived"], "standbys": standbys, "entries left": facts["entries_left"],
+    pages = ", ".join(f"{each['machine']} {_state_of_pages(each)}" for each in facts["page_servers"])
+    values = {**facts, "pages": pages, "state": _state_of(facts), "position": facts["archived"], "standbys": standbys, "entries left": facts["entries_left"],
               "memory left": facts["memory_left"], "why": told(facts["holder"], facts["why"])}  # fmt: skip
     return {word: "-" if values[word] in (None, "") else " ".join(str(values[word]).split()) for word in _WIDE}
 
@@ -66,9 +76,13 @@ def _cells(facts: dict[str, Any]) -> dict[str, str]:
 def _state_of(facts: dict[str, Any]) -> str:
     """As `serving, paused`."""
     said = {"paused": facts["paused"], f"switchover to {whom(facts['wanted'])}": facts["wanted"], "succeeds": facts["succeed"],
-            "read-only": facts["read_only"]}  # fmt: skip
+            "read-only": facts["read_only"], "held": facts["held"]}  # fmt: skip
     state = "nobody" if facts["holder"] is None else facts["state"] or "-"
     return ", ".join((state, *(word for word, holds in said.items() if holds)))
+
+
+def _state_of_pages(found: dict[str, Any]) -> str:
+    return "gone" if found["gone"] else f"at {found['position']}" if found["address"] else "ended"
 
 
 def whom(keeper: str | None) -> str:

@@ -33,7 +33,7 @@ def watch_of(accounts: Accounts, db: int, limit: int | None, stack: ExitStack, s
     for kind in (Operator, Reader):
         if kind is Operator or kind.role in accounts.of_role:
             account = accounts.account(kind.role)
-            connection = Connection(account.to, timeout=seconds, attempts=1, reply_timeout=2 * seconds)
+            connection = Connection(account.to, timeout=seconds, attempts=1, reply_timeout=2 * seconds, trust=account.trust)
             clients[kind.role] = stack.enter_context(kind(connection, account.credentials, db))
     return Watch(clients[Role.OPERATOR], reader=clients.get(Role.SECONDARY), limit=limit or accounts.audit_limit or MOST_ENTRIES, **options)
 

@@ -5,6 +5,7 @@ from __future__ import annotations
 import io
 import ipaddress
 import socket
+import ssl
 import threading
 import time
 from contextlib import suppress
@@ -143,6 +144,8 @@ class _Server(ThreadingMixIn, WSGIServer):
     """A thread for each connection, which ends with the program. Where there are many, another one is ended at once."""
 
     daemon_threads = True
+    context: ssl.SSLContext | None = None
+    """By which it speaks TLS."""
 
     def __init__(self, *arguments: Any) -> None:
         self._free = threading.BoundedSemaphore(_MOST_THREADS)
@@ -159,9 +162,22 @@ class _Server(ThreadingMixIn, WSGIServer):
 
     def process_request_thread(self, request: Any, address: Any) -> None:
         try:
-            super().process_request_thread(request, address)
+            secured = self._secured(request)
+            if secured is not None:
+                super().process_request_thread(secured, address)
         finally:
             self._free.release()
+
+    def _secured(self, request: Any) -> Any:
+        """The connection by TLS, if that is spoken; None where it does not come to it in time."""
+        if self.context is None:
+            return request
+        try:
+            request.settimeout(_IDLE_SECONDS)
+            return self.context.wrap_socket(request, server_side=True)
+        except OSError:
+            self.shutdown_request(request)
+            return None
 
 
 class _Within(io.RawIOBase):
@@ -213,12 +229,12 @@ def _host_of(header: str) -> str:
     return (name if colon and port.isdecimal() else header).lower()
 
 
-def serve(collector: Collector, host: str, port: int) -> int:
-    """Serves the metrics in threads of their own. Returns the port. Raises `OSError`."""
+def serve(collector: Collector, host: str, port: int, context: ssl.SSLContext | None = None) -> int:
+    """Serves the metrics in threads of their own, by TLS where there is a context. Returns the port. Raises `OSError`."""
     registry = CollectorRegistry()
     registry.register(collector)
     family, address = socket.getaddrinfo(host, port, type=socket.SOCK_STREAM)[0][::4]
-    kind: type[_Server] = type("_ServerOfFamily", (_Server,), {"address_family": family})
+    kind: type[_Server] = type("_ServerOfFamily", (_Server,), {"address_family": family, "context": context})
     made: WSGIServer = make_server(address[0], port, make_wsgi_app(registry), kind, _Handler)
     threading.Thread(target=made.serve_forever, daemon=True).start()
     return int(made.server_port)

@@ -5,12 +5,13 @@ from __future__ import annotations
 import time
 from contextlib import ExitStack
 from functools import partial
+from pathlib import Path
 
 import click
 
 from pagelog.credentials import Accounts
 from pagelog.desk.looking_words import dbs_option, limit_option, watch_of
-from pagelog.desk.options import credentials_option, fail, faults, stopping, url_of, url_options
+from pagelog.desk.options import context_of_file, credentials_option, fail, faults, stopping, tls_option, url_of, url_options
 from pagelog.desk.watch import Watch
 
 
@@ -21,13 +22,14 @@ from pagelog.desk.watch import Watch
 @limit_option
 @click.option("--listen", default="127.0.0.1:9464", show_default=True, metavar="ADDRESS", help="Where Prometheus asks, as HOST:PORT or "
               "[IPV6]:PORT; port 0 takes a free one.")  # fmt: skip
+@tls_option
 @click.option("--within", default=4.0, show_default=True, type=click.FloatRange(0.1), metavar="SECONDS",
               help="How long a scrape may take. It has to be below Prometheus' scrape_timeout.")  # fmt: skip
 @click.option("--from-start", is_flag=True, help="Count the audit list from its beginning.")
 @faults
 def metrics_word(
     accounts: Accounts, dbs: tuple[int, ...], url: str | None, log: str | None, limit: int | None, listen: str, within: float,
-    from_start: bool,
+    from_start: bool, tls: Path | None,
 ) -> None:  # fmt: skip
     """Serve metrics for Prometheus, until SIGTERM or SIGINT. Needs [operator], and holds a connection for each database.
 
@@ -58,7 +60,7 @@ def metrics_word(
         archived = {db: partial(archived_of, archive, log or str(db)) for db in dbs} if archive else {}
         collector = DatabaseCollector({db: partial(watch, db) for db in dbs}, archived, within)
         try:
-            bound = serve(collector, host.strip("[]"), int(port))
+            bound = serve(collector, host.strip("[]"), int(port), context_of_file(tls))
         except OSError as error:
             fail(f"{listen}: {error}")
         click.echo(f"listening {host}:{bound}")

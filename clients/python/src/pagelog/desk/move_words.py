@@ -12,7 +12,9 @@ from pagelog.archive import Archive
 from pagelog.archiving import Archiver
 from pagelog.audit_list import MOST_ENTRIES
 from pagelog.credentials import Accounts, load
-from pagelog.desk.options import bar, client, fail, faults, json_option, one_service, quorum_of, quorum_option, url_of, url_options
+from pagelog.desk.options import (
+    bar, client, fail, faults, json_option, one_service, quorum_of, quorum_option, tls_words, url_of, url_options,
+)  # fmt: skip
 from pagelog.moving import Move, Moved
 from pagelog.operator import Operator
 from pagelog.primary import WINDOW, Primary
@@ -52,7 +54,7 @@ def move_word(
     Example:
       pagelogctl move --from old.toml --from-db 0 --to new.toml --to-db 1 --table table.toml --url sqlite:///db0.db
     """
-    old, new, fence = load(source), load(target), TableText.read(table)
+    old, new, fence = load(source, words=tls_words()), load(target, words=tls_words()), TableText.read(table)
     one_service(old, Reader, Operator, "both are of the source")
     one_service(new, Primary, Reader, "both are of the target")
     one_service(new, Primary, Operator, "both are of the target")

@@ -5,9 +5,11 @@ from __future__ import annotations
 import functools
 import os
 import signal
+import ssl
 import sys
 import time
 from contextlib import contextmanager
+from pathlib import Path
 from types import FrameType
 from typing import Any, Callable, Iterator, NoReturn, TypeVar
 
@@ -20,6 +22,7 @@ from pagelog.credentials import FILE_VARIABLE, Accounts, load
 from pagelog.desk.durations import duration
 from pagelog.errors import AuditListFull, ConnectionLost, InDoubt, OutOfMemory, PagelogError, Unreachable
 from pagelog.rules import BelowQuorum, NoSuchCopy
+from pagelog.secure import WORDS
 
 Word = TypeVar("Word", bound=Callable[..., Any])
 Kind = TypeVar("Kind", bound=Client)
@@ -76,12 +79,27 @@ def json_option(word: Word) -> Word:
     return click.option("--json", "as_json", is_flag=True, help="One JSON object a line.")(word)
 
 
+def tls_option(word: Word) -> Word:
+    """--tls FILE."""
+    return click.option("--tls", metavar="FILE", type=click.Path(path_type=Path), help="Speak TLS, with the certificate and the key of this "
+                        "file; another one in its place is taken without a restart.")(word)  # fmt: skip
+
+
+def context_of_file(file: Path | None) -> ssl.SSLContext | None:
+    """What serves by a file with a certificate and its key. Raises `PagelogError`."""
+    if file is None:
+        return None
+    from pagelog.keeper.certificate import ShownFile
+
+    return ShownFile(file).context
+
+
 def credentials_option(word: Word) -> Word:
     """--credentials FILE, as `accounts`."""
 
     def read(_: click.Context, __: click.Parameter, value: str | None) -> Accounts:
         try:
-            return load(value)
+            return load(value, words=tls_words())
         except PagelogError as error:
             fail(str(error))
 
@@ -142,7 +160,15 @@ def quorum_of(quorum: str | None, accounts: Accounts) -> int:
 def client(kind: type[Kind], accounts: Accounts, db: int, **options: Any) -> Kind:
     """A client of this kind, from its section of the credentials."""
     account = accounts.account(kind.role)
-    return kind(Connection(account.to, timeout=timeout(), attempts=8), account.credentials, db, **options)
+    connection = Connection(account.to, timeout=timeout(), attempts=8, trust=account.trust)
+    return kind(connection, account.credentials, db, **options)
+
+
+def tls_words() -> dict[str, str]:
+    """What --sslmode and the like of `pagelogctl` say."""
+    context = click.get_current_context(silent=True)
+    found = context.find_root().params if context else {}
+    return {word: found[word] for word in WORDS if found.get(word) is not None}
 
 
 def timeout() -> float:

@@ -78,20 +78,31 @@ def restore_word(
 @db_option
 @url_options
 @last_option
+@click.argument("name", required=False)
+@click.option("--store", "in_store", is_flag=True, help="Of a NAME: read all its objects in the store.")
 @click.option("--offline", is_flag=True, help="Read the archive alone, and ask no service: every block has to be there and sound.")
 @json_option
 @faults
 def verify_word(
-    accounts: Accounts, db: int, url: str | None, log: str | None, last: int | None, offline: bool, as_json: bool
+    accounts: Accounts, db: int, url: str | None, log: str | None, last: int | None, name: str | None, in_store: bool, offline: bool, as_json: bool
 ) -> None:
     """Compare an archive with a database: all archived blocks, and a sample of pages. Needs [secondary].
+
+    With a NAME and --store: read the objects of a named database in the store, and compare each with what PostgreSQL says of it.
 
     Exit status 1 at the first difference, with its LSN.
 
     \b
-    Example:
+    Examples:
       pagelogctl verify --credentials c.toml --db 0 --url sqlite:///db0.db
+      pagelogctl verify shop --store --credentials keeper.toml
     """
+    if (name is None) == in_store:
+        raise click.UsageError("a NAME has --store, and --store a NAME")
+    if name is not None:
+        from pagelog.desk.store_words import verify_stored
+
+        return verify_stored(accounts, name, as_json)
     upto = HIGHEST_LSN if last is None else last
     with Archive(url_of(url, accounts), log or str(db)) as archive:
         with bar("read") as told:

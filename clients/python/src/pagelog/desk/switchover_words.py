@@ -2,18 +2,15 @@
 
 from __future__ import annotations
 
-import time
-
 import click
 
 from pagelog.credentials import Accounts
+from pagelog.desk.heartbeats import is_alive, ttl_of
 from pagelog.desk.kept_words import whom
 from pagelog.desk.keeper_words import Asked, named, referee_of
 from pagelog.desk.options import AGAIN, credentials_option, fail, faults
 from pagelog.keeper.referee import Referee
 from pagelog.keeper.rows import Look, Row
-from pagelog.keeper.schema import CHANNEL
-from pagelog.keeper.settings import TTL
 
 ANY = "*"
 """The wish for any other keeper."""
@@ -45,13 +42,7 @@ def switchover_word(accounts: Accounts, name: str, keeper: str, cancel: bool) ->
         if cancel:
             click.echo(_cancel(referee, row))
         else:
-            click.echo(_ask(referee, look, row, keeper, _ttl_of(accounts)))
-
-
-def _ttl_of(accounts: Accounts) -> float:
-    """How long a heartbeat may stand still. The keepers' own file says it; another file may."""
-    ttl = accounts.keeper.get("ttl", TTL)
-    return float(ttl) if isinstance(ttl, (int, float)) and ttl > 0 else TTL
+            click.echo(_ask(referee, look, row, keeper, ttl_of(accounts)))
 
 
 def _cancel(referee: Referee, row: Row) -> str:
@@ -71,23 +62,8 @@ def _ask(referee: Referee, look: Look, row: Row, keeper: str, ttl: float) -> str
     stays = f"{row.name} stays with {row.holder or 'no keeper'}"
     if not others:
         fail(f"{stays}: there is no other keeper")
-    if not _is_alive(referee, look, others, ttl):
+    if not is_alive(referee, look, others, ttl):
         fail(f"{stays}: no heartbeat came in {ttl:g} s from {', '.join(sorted(others))}", AGAIN)
     if not referee.wish(row.name, keeper):
         fail(f"there is no database {row.name}")
     return f"asked for {row.name} to go to {whom(keeper)}{', which waits until it is resumed: it is paused' if row.paused else ''}"
-
-
-def _is_alive(referee: Referee, look: Look, keepers: set[str], patience: float) -> bool:
-    """Whether the heartbeat of one of these rises. All are asked for one, and have it at each of their polls anyway."""
-    before = {each.name: (each.run, each.beat) for each in look.keepers}
-    referee._ask(f"SELECT pg_notify('{CHANNEL}', '')")
-    deadline, pause = time.monotonic() + patience, 0.02
-    while True:
-        now = referee.everything()
-        if any((each.run, each.beat) != before.get(each.name) for each in now.keepers if each.name in keepers):
-            return True
-        if time.monotonic() >= deadline:
-            return False
-        time.sleep(pause)
-        pause = min(2 * pause, 0.5)

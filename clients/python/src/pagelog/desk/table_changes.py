@@ -10,6 +10,7 @@ import click
 
 from pagelog.credentials import Accounts
 from pagelog.desk.options import AGAIN, fail
+from pagelog.desk.seal_words import refuse_keepers_without
 from pagelog.keeper.aside import asides_of
 from pagelog.keeper.machine import PATIENCE
 from pagelog.keeper.referee import Away, Doubt, Referee
@@ -26,14 +27,19 @@ WITHIN = 300.0
 """Seconds after which a run that still has an older table is ended, though its keeper is alive."""
 
 
+_PAGES = 3.0
+"""Seconds for which the heartbeat of a page server may stand still at least: it has one each second."""
+
+
 @dataclass(frozen=True)
 class Older:
-    """A run with an older table, which a keeper has still. `is_aside`: no keeper ends it."""
+    """A run with an older table, which a keeper has still, or a page server of this machine. `is_aside`: no keeper ends it."""
 
     keeper: str
     run: str
     what: str
     is_aside: bool = False
+    is_pages: bool = False
 
 
 class Heartbeats:
@@ -43,6 +49,7 @@ class Heartbeats:
         self._ttl = ttl
         self._seen: dict[str, tuple[object, float]] = {}
         self._moved: set[str] = set()
+        self._pages: dict[str, tuple[int, float]] = {}
 
     def see(self, look: Look) -> None:
         """Takes what was looked up."""
@@ -53,6 +60,10 @@ class Heartbeats:
                 self._seen[keeper.name] = (keeper.run, keeper.beat), now
                 if before is not None:
                     self._moved.add(keeper.name)
+        for each in look.pages:
+            if each.run not in self._pages or self._pages[each.run][0] != each.beat:
+                # of one that has been silent for long it is known without a wait
+                self._pages[each.run] = each.beat, float("-inf") if each.is_gone and each.run not in self._pages else now
 
     def has_moved(self, keeper: str) -> bool:
         """Whether it was seen to move."""
@@ -62,6 +73,10 @@ class Heartbeats:
         """Whether it has moved lately, or was not watched for so long."""
         seen = self._seen.get(keeper or "")
         return seen is not None and time.monotonic() - seen[1] < PATIENCE * self._ttl
+
+    def may_answer(self, run: str) -> bool:
+        """The same of a page server."""
+        return time.monotonic() - self._pages[run][1] < max(PATIENCE * self._ttl, _PAGES)
 
 
 def ttl_of(accounts: Accounts) -> float:
@@ -114,6 +129,7 @@ class Change:
             return newest.number
         check(text)
         self._refuse_older_keepers()
+        refuse_keepers_without(self._referee, self._ttl)
         number = self._referee.set_table(self._row, text, newest.number)
         if number is None:
             fail(f"nothing was changed: {self._row.name} was dropped, or another has changed its table just now", AGAIN)
@@ -129,8 +145,8 @@ class Change:
             look = self._look()
 
     def carry_out(self) -> list[Older]:
-        """Returns once no keeper that is alive has a run with an older table, and no such run holds the database. The runs that keepers
-        have which are not alive, and what is set aside, are returned."""
+        """Returns once no keeper that is alive has a run with an older table, no such run holds the database, and no page server that is
+        alive has one. The runs that keepers have which are not alive, such page servers, and what is set aside, are returned."""
         waits, has_ended = Backoff(0.05, 1.0), False
         while True:
             try:
@@ -149,13 +165,16 @@ class Change:
                 click.echo(f"{error}: trying again", err=True)
                 self._wait(waits)
                 continue
-            left = [each for each in older if not each.is_aside and self._beats.may_be_alive(each.keeper)]
+            left = [each for each in older if not each.is_aside and self._is_awaited(each)]
             is_done = not left or (is_late and has_ended)
             if is_done and self._referee.newest_table(row.id) == (row.table_number, row.run):
                 return older  # by a statement that writes: an old leader of PostgreSQL has not heard of a change
             if is_late and not has_ended:
                 has_ended, self._ends = True, time.monotonic() + 2 * self._ttl  # for what was ended just now
             self._wait(waits)
+
+    def _is_awaited(self, each: Older) -> bool:
+        return self._beats.may_answer(each.run) if each.is_pages else self._beats.may_be_alive(each.keeper)
 
     def _end(self, row: Row) -> None:
         """Ends the run that holds the database, as it is archived: from now on nothing of it becomes durable."""
@@ -188,6 +207,9 @@ class Change:
         for aside in asides_of(look):
             if aside["name"] == row.name and aside.get("kept", True) and not self._has_newest(row, aside["run"]):
                 found[aside["run"]] = Older(aside["keeper"], aside["run"], "a service that is set aside", is_aside=True)
+        for pages in look.pages_of(row.id):
+            if pages.table_number < row.table_number and not pages.has_ended:
+                found[pages.run] = Older(pages.machine, pages.run, "a page server", is_pages=True)
         return list(found.values())
 
     def _was_reported_since(self, look: Look, each: Older) -> bool:
@@ -208,8 +230,14 @@ def say(name: str, number: int, older: list[Older]) -> None:
     """Says what came of it, and ends with the status of that."""
     if not older:
         return click.echo(f"table {number} of {name} is in force")
-    click.echo(f"table {number} of {name} is in force, but at {len(older)} of its services:")
+    services = sum(not each.is_pages for each in older)
+    count = " and ".join(f"{count} of its {what}" for count, what in ((services, "services"), (len(older) - services, "page servers")) if count)
+    click.echo(f"table {number} of {name} is in force, but at {count}:")
     for each in older:
+        if each.is_pages:
+            click.echo(f"page server {each.run} at {each.keeper} does not answer: it takes the table once it is there again; gone for good: "
+                       f"`pagelogctl forget {each.run}`")  # fmt: skip
+            continue
         how = (f"`pagelogctl rescue {name}` saves and ends it" if each.is_aside
                else "its keeper does not answer, or cannot end it: it, or the next one of its name in its folder, ends it")  # fmt: skip
         click.echo(f"run {each.run} of keeper {each.keeper}, {each.what}: nothing of it becomes durable; {how}")

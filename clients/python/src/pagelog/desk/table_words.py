@@ -36,10 +36,10 @@ def table_word(
     """Put another table of a named database in force, show the one that it has, or compare. A principal whose token is `same` keeps
     the one that it has.
 
-    It ends once no keeper that is alive serves an older table. Its holder makes the next generation, also while it is paused, and
+    It ends once no keeper and no page server that is alive serves an older table. Its holder makes the next generation, also while it is paused, and
     standbys are made anew. From then on nothing is durable by an old token. Exit status 3: a keeper that has a service with an older
-    table does not answer; nothing of that becomes durable, and its keeper ends it, or the next one of its name. Without an option it
-    waits for the newest table.
+    table does not answer; nothing of that becomes durable, and its keeper ends it, or the next one of its name; or a page server does
+    not, which may be read by old tokens still. Without an option it waits for the newest table.
 
     Without a NAME it sets the table of a service by its address, which needs [operator]; --db says which database.
 

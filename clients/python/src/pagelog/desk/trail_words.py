@@ -21,7 +21,7 @@ from pagelog.desk.archive_words import LONGEST
 from pagelog.desk.audit_words import entry_fields, entry_line
 from pagelog.desk.options import (
     NOT_YET, URL_VARIABLE, _url, bar, client, credentials_option, db_option, fail, faults, first_line_of, is_lost_archive,
-    is_of_the_archive, json_option, stopping, timeout, url_of,
+    is_of_the_archive, json_option, stopping, timeout, tls_words, url_of,
 )  # fmt: skip
 from pagelog.errors import ConnectionLost, OutOfMemory, PagelogError, Unreachable
 from pagelog.following import NamedAccount
@@ -187,7 +187,7 @@ def _say_recorded(one: TrailList) -> None:
 
 def _accounts(_: click.Context, __: click.Parameter, value: str | None) -> Accounts | None:
     try:
-        return load(value) if value else None
+        return load(value, words=tls_words()) if value else None
     except PagelogError as error:
         fail(str(error))
 
@@ -366,9 +366,9 @@ def replay_word(
     where = url_of(url, accounts or Accounts({}))
     with ExitStack() as stack:
         trail = stack.enter_context(Trail(where, name))
-        archive = _archive(where, name, stack)
+        archive, store = _archive(where, name, stack), None if accounts is None else accounts.store
         for one in chosen(trail, run):
-            with nullcontext() if archive is None else log_of(trail, archive, one) as log:
+            with nullcontext() if archive is None else log_of(trail, archive, one, store) as log:
                 with bar(f"list {one.run}") as told:
                     done = replay(trail, one, log, start=start, texts=more, told=told)
                 _say_replayed(one, done, is_last=one == trail.lists()[-1])
@@ -399,11 +399,11 @@ def _reader(accounts: Accounts, db: int, archive: Archive, one: TrailList) -> Re
     if not archive.is_kept:
         return client(Reader, accounts, db)
     account = accounts.account(Role.SECONDARY)
-    place = Keepers(archive.log, [str(account.to)], timeout()).place()
+    place = Keepers(archive.log, [str(account.to)], timeout(), account.trust).place()
     if place.generation != one.generation or one.of not in (None, place.of):
         return None
     run = NamedAccount(archive.log, account.credentials.id, account.credentials.token.hex()).of(place)
-    return Reader(Connection(place.address, timeout=timeout(), attempts=8), run)
+    return Reader(Connection(place.address, timeout=timeout(), attempts=8, trust=account.trust), run)
 
 
 def _compare(log: Log, reader: Reader | None, last: int) -> None:

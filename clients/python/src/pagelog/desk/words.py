@@ -16,15 +16,20 @@ WORDS = {
     "metrics": "metrics_words",
     "archive": "archive_words",
     "restore": "restore_words",
+    "branch": "branch_words",
     "waiting-table": "waiting_words",
     "verify": "restore_words",
     "move": "move_words",
     "logs": "logs_words",
     "mend": "logs_words",
+    "grants": "grants_words",
     "keep": "keeper_words",
+    "runner": "runner_words",
+    "pages": "pages_words",
     "create": "keeper_words",
     "table": "table_words",
     "token": "token_words",
+    "seal": "seal_words",
     "pause": "keeper_words",
     "resume": "keeper_words",
     "kept": "kept_words",
@@ -33,8 +38,11 @@ WORDS = {
     "switchover": "switchover_words",
     "succeed": "history_words",
     "prune": "history_words",
+    "hold": "hold_words",
     "drop": "drop_words",
+    "forget": "forget_words",
     "rescue": "rescue_words",
+    "store": "store_words",
     "record": "trail_words",
     "trail": "trail_words",
     "replay": "trail_words",
@@ -64,12 +72,18 @@ class Words(click.Group):
 @click.version_option(pagelog.__version__, prog_name="pagelogctl")
 @click.option("--timeout", default=10.0, show_default=True, type=click.FloatRange(0.1), metavar="SECONDS",
               help="How long a service may be silent before a request ends.")  # fmt: skip
+@click.option("--sslmode", metavar="MODE", help="disable, or verify-full: TLS 1.3, and who answers has to show that it is the host that is "
+              "asked for. [default: verify-full where a file is named] [env: PAGELOG_SSLMODE, and the like]")  # fmt: skip
+@click.option("--sslrootcert", metavar="FILE", help="Certificates of CAs, PEM.")
+@click.option("--sslcert", metavar="FILE", help="The certificate of this client.")
+@click.option("--sslkey", metavar="FILE", help="Its key, which nobody else may read.")
 @click.option("--verbose", is_flag=True, help="Report each connection that is made again, on standard error.")
-def pagelogctl(timeout: float, verbose: bool) -> None:
+def pagelogctl(timeout: float, verbose: bool, **tls: str | None) -> None:
     """Looks at the databases of a service, keeps what they hold, and moves them.
 
     Credentials are in a TOML file of mode 600, named by --credentials or PAGELOG_CREDENTIALS, with a section for each role
-    that a word needs: [primary], [secondary], [page_server], [operator], each with to, id and token.
+    that a word needs: [primary], [secondary], [page_server], [operator], each with to, id and token. [tls] has the names of
+    --sslrootcert and the like.
 
     Exit status: 0 done; 1 a person has to look, as where two logs differ; 2 wrong arguments; 3 it may be tried again as it is,
     as where a service is away; 4 the audit list is full, or so near to it that the database was fenced; 130 interrupted.

@@ -7,17 +7,23 @@ named database is and how far it is durable, and takes over what another keeper 
     referee     every statement: who holds a database, what is archived; the longer ones are in `statements`, and `refusal` says
                 what an error means
     rows        what the referee knows; `batches` makes values of a statement of it
-    session     the event loop's way to a referee; `quick` keeps small batches without a thread, by a statement that is `prepared`
-    table       the table and the tokens of one run of a service
+    session     the event loop's way to a referee
+    table       the table and the tokens of one run of a service; `sealed` is how they lie in PostgreSQL, `grants` who may see it
     run         one process of a service, its files, its adoption; their folder is locked by `folder`
+    runner      has services run as another user, by runner_process; `unix` has sockets by paths
     loading     fills a service from the archive, as frames
     machine     what a keeper decides, without any IO
     puller      pulls a few blocks in the event loop; looker looks at a service in it
     served      a service that this keeper has, and what is asked of it
     archiver    pulls what is hardened, in batches; committer keeps those of all databases in one statement
+    quick_way   the same in a thread of C, for databases that are waited for: quick_plane is that thread and its sessions (`quick`),
+                quick_way_plane.c its loop, quick_way_service.c pulls, quick_way_statement.c keeps, quick_way_lines.c answers
     recorder    keeps the audit lists beside the blocks
-    lines       the line protocol; waits has who waits
+    lines       the line protocol; waits has who waits, turns whose turn it is to write, proving who a line's principal is
+    front       the one haproxy by which clients reach all of it by TLS; haproxy is its process, front_care sees to it, certificate reads
+                its files, fronted and proxied hear the lines that come through it, and ways says how that is told
     shared      what the databases of a keeper share
-    database    one database of a keeper: does what is decided; beginning, standing and ending have how
+    database    one database of a keeper: does what is decided; beginning, standing, succession, switch and ending have how
+    bases       images of pages in PostgreSQL; basing makes them, storing takes old blocks to a store
     keeping     the loop around all of it
 """

@@ -50,21 +50,21 @@ def new_memory() -> int:
     return descriptor
 
 
-def acknowledged_of(pid: int) -> Acknowledged | None:
-    """The number of a process that runs; None where it has none, as one that an older keeper has started."""
+def memory_of(pid: int) -> int | None:
+    """A descriptor of the memory of a process that runs; None where it has none, as one that an older keeper has started."""
     folder = Path(f"/proc/{pid}/fd")
     try:
         for name in sorted(os.listdir(folder), key=int):
             if os.readlink(folder / name).startswith(f"/memfd:{_NAME} "):
-                return _opened(folder / name)
+                return os.open(folder / name, os.O_RDWR | os.O_CLOEXEC)
     except (OSError, ValueError):
         pass  # it has ended, or is not of this user
     return None
 
 
-def _opened(file: Path) -> Acknowledged:
-    descriptor = os.open(file, os.O_RDWR | os.O_CLOEXEC)
+def acknowledged_of(memory: int | None) -> Acknowledged | None:
+    """The number in the memory of a process; None where it has none."""
     try:
-        return Acknowledged(descriptor)
-    finally:
-        os.close(descriptor)
+        return None if memory is None else Acknowledged(memory)
+    except OSError:
+        return None

@@ -6,10 +6,12 @@ from concurrent.futures import Future, ThreadPoolExecutor
 from contextlib import contextmanager
 from typing import Callable, Iterator, TypeVar
 
-from pagelog.keeper.referee import PIECE, Referee
+from pagelog.keeper.referee import Referee
 
 T = TypeVar("T")
-_MOST = 4 * PIECE, 4 << 20
+PIECE = 256
+"""How many blocks are read at first: 8 MiB at most."""
+_MOST = 8192, 4 << 20
 """How many blocks, and about how many bytes, are read at once, when it is known how large they are."""
 
 

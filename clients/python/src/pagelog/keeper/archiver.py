@@ -9,7 +9,8 @@ from typing import TYPE_CHECKING, AsyncIterator, Callable, Literal, Sequence
 
 from pagelog.errors import AuditListFull, PagelogError, TurnsSpent
 from pagelog.keeper.committer import Committer, Fenced
-from pagelog.keeper.quick_way import End, QuickPool, QuickWay
+from pagelog.keeper.quick_plane import QuickPlane
+from pagelog.keeper.quick_way import QuickWay
 from pagelog.keeper.referee import digest
 from pagelog.keeper.rows import Batch, Kept, Lines, Row
 from pagelog.keeper.served import Served
@@ -33,9 +34,10 @@ class Archiver:
 
     def __init__(
         self, row: Row, served: Served, waits: Waits, committer: Committer, say: Callable[[str, str], None], changed: Callable[[], None],
-        ways: QuickPool | None = None,
+        ways: QuickPlane | None = None,
     ) -> None:  # fmt: skip
         self._row, self._served, self._waits, self._committer = row, served, waits, committer
+        waits.confirmations.watch = self._watch
         self._say, self._changed = say, changed
         self._doorbell, self._advanced = asyncio.Event(), asyncio.Event()
         self.turn = Turn(self._end_way)
@@ -209,6 +211,7 @@ class Archiver:
         self._advanced.set()
         self._is_asked = len(self._waits) > 0
         self._waits.tell(served.generation, served.reached)
+        self._waits.confirmations.tell(served.reached, served.chain)
         if served.hard > served.reached or len(self._waits):
             self.ring()
         return True
@@ -216,15 +219,29 @@ class Archiver:
     # The quick way.
 
     async def _quickly(self) -> bool:
-        """Where somebody waits for each batch, and few come at once, the quick way goes on as long as it can. False where the run holds
-        the database no more. The turn is the caller's."""
+        """Where somebody waits for each batch, or much is behind, the quick way goes on as long as it can. False where the run holds the
+        database no more. The turn is the caller's."""
         served = self._served
-        if self._ways is None or not self._is_asked or self.recorder is not None or served.hard > served.reached + FEW:
+        is_behind = served.hard > served.reached
+        if self._ways is None or not (self._is_asked or is_behind):
             return True
-        way = None if self.turn.is_wanted else await self._ways.way_of(self._row, served, self._hear_way)
-        if way is None:
-            return True
+        async with turn_of(self.lining) as recorder:
+            return recorder is not self.recorder or await self._went_quickly(self._ways, recorder)  # no block goes without its lines
+
+    async def _went_quickly(self, ways: QuickPlane, recorder: Recorder | None) -> bool:
+        """As `_quickly`, once it is known that it may. The recorder's turn is the caller's too."""
+        lines, way = None if recorder is None else recorder.lend(self._end_way), None
+        try:
+            if not self.turn.is_wanted and (recorder is None or lines is not None):
+                way = await ways.way_of(self._row, self._served, self._hear_way, lines)
+            return way is None or await self._gone(way)
+        finally:
+            if recorder is not None and lines is not None:
+                recorder.take_back(lines if way is None else way.lines)
+
+    async def _gone(self, way: QuickWay) -> bool:
         self._way = way
+        way.watch(len(self._waits.confirmations) > 0)
         way.take(self._waits)
         if self._doorbell.is_set():
             way.kick()  # it rang meanwhile: for who waits, and cannot be lent, or for a ring alone
@@ -235,13 +252,18 @@ class Archiver:
         finally:
             self._way = None
         self._take(way)
-        if end not in (End.NOT_KEPT, End.DOUBT):
+        if end.is_known:
             return True
         try:
-            kept = await self._committer.look_up(self._row.id, served.run)
+            kept = await self._committer.look_up(self._row.id, self._served.run)
         except Fenced:
             return False
         return await self._entered(kept, way.last)
+
+    def _watch(self, is_watched: bool) -> None:
+        """Whether somebody waits for what is archived, whatever that is."""
+        if self._way is not None:
+            self._way.watch(is_watched)
 
     def leave_way(self) -> None:
         """What is asked is to be answered here from now on: by a way that knows more."""
@@ -270,6 +292,7 @@ class Archiver:
             served.reached, served.chain, served.hard = reached, chain, max(served.hard, reached)
             self._advanced.set()
             self._waits.tell(served.generation, reached)
+            self._waits.confirmations.tell(reached, chain)
 
     async def _told(self, batch: Batch) -> Kept:
         """What the committer says of it; its recorder knows then whether the lines are kept."""

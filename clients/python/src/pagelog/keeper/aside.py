@@ -7,7 +7,8 @@ from pathlib import Path
 from typing import Any, Iterable
 
 from pagelog.keeper.rows import Look
-from pagelog.keeper.run import Facts, Seen, is_running, kept_in, seen_of
+from pagelog.keeper.run import Facts, Seen, database_of, is_running, kept_in, seen_of
+from pagelog.keeper.runner import RunnerError
 
 ASIDE = "set aside"
 """Under which a keeper's report has them; no name of a database has a space."""
@@ -15,17 +16,19 @@ ASIDE = "set aside"
 
 @dataclass(frozen=True)
 class Aside:
-    """One of them. `seen` is what PostgreSQL has had of its run, and `is_kept` whether it was set aside: else its keeper has it still."""
+    """One of them. `seen` is what PostgreSQL has had of its run, `is_kept` whether it was set aside: else its keeper has it still, and
+    `database` the identity of what it is of."""
 
     facts: Facts
     seen: Seen
     is_kept: bool = True
+    database: str = ""
 
     def report(self) -> dict[str, Any]:
         """As a keeper's report has it."""
         facts = self.facts
         return {"name": facts.name, "run": facts.run, "address": facts.address, "pid": facts.pid, "shift": facts.shift, "images": facts.images,
-                "had": self.seen.archived, "kept": self.is_kept}  # fmt: skip
+                "had": self.seen.archived, "kept": self.is_kept, "database": self.database}  # fmt: skip
 
 
 class Asides:
@@ -34,6 +37,8 @@ class Asides:
     def __init__(self, folder: Path) -> None:
         self._folder = folder
         self._facts: list[Facts] = []
+        self._databases: dict[str, str] = {}
+        """Of which database each run is."""
 
     def begin(self) -> None:
         """Those of its earlier lives."""
@@ -49,8 +54,17 @@ class Asides:
     def report(self, others: Iterable[Aside] = ()) -> dict[str, list[dict[str, Any]]]:
         """What the keeper says of those that still run, and of `others`, which it has not set aside."""
         self._facts = [facts for facts in self._facts if is_running(facts)]
-        found = [*(Aside(facts, seen_of(self._folder, facts)) for facts in self._facts), *others]
+        found = [*(Aside(facts, seen_of(self._folder, facts), database=self._database_of(facts)) for facts in self._facts), *others]
         return {ASIDE: [each.report() for each in found]} if found else {}
+
+    def _database_of(self, facts: Facts) -> str:
+        """Its process is asked until it has answered."""
+        if facts.run not in self._databases:
+            try:
+                self._databases[facts.run] = database_of(self._folder, facts)
+            except RunnerError:
+                return ""  # it is asked again
+        return self._databases[facts.run]
 
 
 def asides_of(look: Look) -> list[dict[str, Any]]:

@@ -13,10 +13,12 @@ import os
 import sys
 from dataclasses import asdict, dataclass
 from pathlib import Path
+from typing import Any
 
 from pagelog.errors import PagelogError
 from pagelog.keeper.bases import Bases, make_base
 from pagelog.keeper.referee import KeeperError, Referee
+from pagelog.store.settings import StoreSettings
 
 SMALL = 4096
 """Blocks after the last base that are replayed in a thread, and for which a succession makes no newer one."""
@@ -31,6 +33,19 @@ class Wish:
     archived: int
     chain: str
     keep: str | int | None
+    store: StoreSettings | None = None
+
+    @property
+    def line(self) -> str:
+        """As the process reads it."""
+        return json.dumps({**vars(self), "store": None if self.store is None else self.store.json})
+
+    @classmethod
+    def read(cls, line: str) -> Wish:
+        """Of the line."""
+        found: dict[str, Any] = json.loads(line)
+        found["store"] = None if found["store"] is None else StoreSettings(**found["store"])
+        return cls(**found)
 
 
 @dataclass(frozen=True)
@@ -48,7 +63,7 @@ class NoBase(KeeperError):
 
 def make(wish: Wish) -> Made:
     """Makes it here."""
-    referee = Referee(wish.url, "of a base")
+    referee = Referee(wish.url, "of a base", store=wish.store)
     try:
         base = make_base(referee, wish.log, wish.archived, bytes.fromhex(wish.chain))
         bases, pruned = Bases(referee, wish.log), 0
@@ -69,7 +84,7 @@ async def made_of(wish: Wish, blocks: int) -> Made:
         env={**os.environ, "PYTHONPATH": os.pathsep.join(filter(None, (source, os.environ.get("PYTHONPATH"))))},
     )  # fmt: skip
     try:
-        said, _ = await process.communicate(json.dumps(asdict(wish)).encode())
+        said, _ = await process.communicate(wish.line.encode())
     finally:
         if process.returncode is None:
             process.kill()
@@ -85,7 +100,7 @@ async def made_of(wish: Wish, blocks: int) -> Made:
 def main() -> int:
     """Does it."""
     try:
-        found: dict[str, object] = asdict(make(Wish(**json.load(sys.stdin))))
+        found: dict[str, object] = asdict(make(Wish.read(sys.stdin.read())))
     except PagelogError as error:
         found = {"error": str(error)}
     print(json.dumps(found))

@@ -17,27 +17,17 @@ def array_of(numbers: Iterable[int]) -> str:
 
 def statement_of(batches: Sequence[Batch]) -> str:
     """The statement that keeps these batches: with lines only where there are some, since trails have tables of their own."""
-    has_lines = any(batch.lines is not None for batch in batches)
-    if len(batches) > 1:
-        return statements.KEEP_WITH_LINES if has_lines else statements.KEEP
-    return statements.KEEP_ONE_WITH_LINES if has_lines else statements.KEEP_ONE
-
-
-def values_of(batches: Sequence[Batch]) -> Mapping[str, Any]:
-    """The values of the statement that keeps these batches."""
-    if len(batches) > 1:
-        return values_of_many(batches)
-    return values_of_one(batches[0] if batches else Batch(0, "", 0, 0, b"", ()))  # there is no database 0
+    return statements.KEEP_WITH_LINES if any(batch.lines is not None for batch in batches) else statements.KEEP
 
 
 def values_of_one(batch: Batch) -> dict[str, Any]:
-    """Those of one batch."""
+    """Those of one batch, which a statement has with something else."""
     return {"id": batch.log, "run": batch.run, "generation": batch.generation, "old": batch.old, "new": batch.new, "chain": batch.chain,
             **values_of_blocks(batch.blocks), **values_of_lines([(batch.log, batch.lines)])}  # fmt: skip
 
 
-def values_of_many(batches: Sequence[Batch]) -> dict[str, Any]:
-    """Those of many, column by column."""
+def values_of(batches: Sequence[Batch]) -> dict[str, Any]:
+    """The values of the statement that keeps these batches, column by column."""
     return {
         "logs": array_of(batch.log for batch in batches), "runs": [batch.run for batch in batches],
         "generations": array_of(batch.generation for batch in batches),

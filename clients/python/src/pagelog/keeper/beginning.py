@@ -27,7 +27,7 @@ def continued_from_images(referee: Referee, served: Served, row: Row, beat: int 
     with transaction(referee):
         kept = referee.continue_run(row, served.run, beat, served.where, least, start, served.table_number)
         if kept is not None:
-            Bases(referee, row.id).keep_all(start[0], list(replay.images()), start[1])
+            Bases(referee, row.id).keep_all(start[0], replay, start[1])
     return kept
 
 
@@ -66,7 +66,7 @@ class Beginning:
         served.kind, served.generation, database.served = Kind.HOLDER, kept.generation, served
         served.is_after_release = row.run is None and row.generation not in (0, database.let_go)
         database.row = replace(row, generation=kept.generation, run=served.run, holder=self._shared.settings.name, address=where.address,
-                           archived=kept.archived, base=kept.archived, shift=served.shift, images=served.images, chain=kept.chain,
+                           secure=where.secure, archived=kept.archived, base=kept.archived, shift=served.shift, images=served.images, chain=kept.chain,
                            wanted=None, next_generation=kept.generation + 1, run_table=served.table_number)  # fmt: skip
         return True
 
@@ -114,7 +114,7 @@ class Beginning:
             return False
         if not database.holds:
             return True  # a look has shown meanwhile that another has it
-        database.row = replace(database.row, address=where.address, shift=served.shift, images=served.images)
+        database.row = replace(database.row, address=where.address, secure=where.secure, shift=served.shift, images=served.images)
         self._shared.changed(row.name)
         return True
 
@@ -146,7 +146,7 @@ class Beginning:
         served.kind, served.generation, served.went_back, served.back_since = Kind.HOLDER, kept.generation, False, None
         served.reached, served.chain = kept.archived, kept.chain
         database.row = replace(row, generation=kept.generation, run=served.run, holder=self._shared.settings.name, address=served.where.address,
-                               archived=kept.archived, chain=kept.chain, base=kept.archived, shift=served.shift, images=served.images,
+                               secure=served.where.secure, archived=kept.archived, chain=kept.chain, base=kept.archived, shift=served.shift, images=served.images,
                                wanted=None, succeed=False, next_generation=kept.generation + 1, run_table=served.table_number)  # fmt: skip
         return await self.fill()
 
@@ -155,7 +155,8 @@ class Beginning:
         if start[0] == row.archived:
             return await self._shared.ask(self._shared.referee.continue_run, row, served.run, beat, served.where, least, start, served.table_number)  # type: ignore[no-any-return]
         settings = self._shared.settings
-        referee = Referee(settings.url, settings.name, self._shared.life, requires_standby=settings.require_standby)
+        referee = Referee(settings.url, settings.name, self._shared.life, requires_standby=settings.require_standby,
+                           store=settings.store)  # fmt: skip
         try:
             return await asyncio.to_thread(continued_from_images, referee, served, row, beat, least, start)
         finally:
@@ -191,10 +192,12 @@ class Beginning:
         archived, chain = (row.archived, row.chain) if kept is None else (kept.archived, kept.chain)
         served.adopt(process, archived, chain, shift=shift, images=images)
         served.generation, served.table_number = row.generation, row.run_table
+        await database.lead(served)
         database.served = served
         database.watch(served)
         if kept is None:
             return False  # it holds the database no more: what is to become of it the next look shows
+        await asyncio.to_thread(served.remember)  # where an older keeper has started it
         try:
             await asyncio.to_thread(served.open)  # it may have been closed in its earlier life
         except PagelogError as error:

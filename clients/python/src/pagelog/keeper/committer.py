@@ -7,13 +7,14 @@ from dataclasses import dataclass, field
 from functools import partial
 from typing import Callable, Sequence
 
-from pagelog.keeper.quick import SMALL
 from pagelog.keeper.referee import KeeperError, OneDisk
 from pagelog.keeper.refusal import line_of
 from pagelog.keeper.rows import Batch, Kept
 from pagelog.keeper.session import Session
 from pagelog.repeating import Backoff, Repeats
 
+SMALL = 1 << 16
+"""The most bytes of blocks that are kept over the connection of the looks: a look waits no longer for them."""
 MOST = 16 << 20
 """The most bytes of one statement, unless one batch alone has more."""
 

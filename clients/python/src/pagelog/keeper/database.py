@@ -11,11 +11,13 @@ from pagelog.keeper.beginning import Beginning
 from pagelog.keeper.ending import Ending
 from pagelog.keeper.fates import Moves
 from pagelog.keeper.fate import Of
+from pagelog.keeper.haproxy import FrontError
 from pagelog.keeper.lines import Line, of_word
 from pagelog.keeper.machine import Action, Decision, Facts, Kind, Own, Rival, State, Stillness, decide, is_only_copy, state_of, went_back
 from pagelog.keeper.referee import Away, Doubt, KeeperError, Refused
 from pagelog.keeper.rows import Row, StandbyRow
 from pagelog.keeper.run import Seen, is_there
+from pagelog.keeper.runner import RunnerError
 from pagelog.keeper.served import Served, seconds
 from pagelog.keeper.shared import LONGEST_REST, Shared
 from pagelog.keeper.standing import Standing
@@ -117,6 +119,7 @@ class Database:
         if served is not None and served.kind is Kind.STANDBY and row.wanted in ("*", self.shared.settings.name):
             self.shared.spawn(self.shared.committer.warm(), row.name)
         self.note_seen()
+        self._see_way(row)
         if self.served is not None and self.served.table_number > row.table_number and self.served.identity == row.identity:
             self.shared.spawn(self._put_table_back(self.served), row.name)
         self.kick()
@@ -176,7 +179,7 @@ class Database:
         back_for = 0.0 if served.back_since is None else seconds() - served.back_since
         return Own(served.run, served.kind, served.generation, served.reached, served.is_alive, served.silent, share, served.went_back,
                    served.is_open, served.was_closed, served.is_full and self._may_be_asked_for_more, is_known, served.is_apart,
-                   back_for, served.table_number)  # fmt: skip
+                   back_for, served.table_number, served.unreached)  # fmt: skip
 
     @property
     def _may_be_asked_for_more(self) -> bool:
@@ -187,10 +190,12 @@ class Database:
         """All that is known, for a decision."""
         settings, own = self.shared.settings, self._own()
         # Also where another keeper has failed at a later one meanwhile: two that fail would go on by turns without a rest.
+        front = self.shared.front
+        is_unreached = front is not None and not front.tls.plain and front.away > 0  # what it would fill nobody could come to
         failed = self.row.generation if seconds() - self._failed_at < self._rest else -1
         return Facts(settings.name, settings.ttl, self.row if self.is_known else None, own, self.still_for, self._others,
                      self.is_noted, settings.standby, self.shared.ending, self.let_go, failed, self._rest, settings.succeed or 1.0,
-                     self.succession.stage, self._rival(), self._further(), self._settles())  # fmt: skip
+                     self.succession.stage, self._rival(), self._further(), self._settles(), is_unreached)  # fmt: skip
 
     # What others have, where PostgreSQL went back.
 
@@ -249,7 +254,8 @@ class Database:
         """Whether this standby is noted of this keeper, and is the one that is here, if there is one: PostgreSQL may have gone back to
         another."""
         is_other = self.served is not None and self.served.kind is Kind.STANDBY and self.served.run != standby.run
-        return standby.keeper == self.shared.settings.name and not is_other
+        is_elsewhere = self.served is not None and self.served.process is not None and self.served.where.secure != standby.secure
+        return standby.keeper == self.shared.settings.name and not is_other and not is_elsewhere
 
     @property
     def should_stand_by(self) -> bool:
@@ -297,7 +303,7 @@ class Database:
             self.doing = decision.action
             try:
                 goes_on = await self._do(decision.action)
-            except (Away, Doubt, Refused) as error:
+            except (Away, Doubt, Refused, RunnerError) as error:
                 self.shared.repeats.say(self.row.name, f"{decision.action.value}: {error}")
                 goes_on = False  # the next look shows what became of it
             finally:
@@ -365,10 +371,30 @@ class Database:
 
     async def new_served(self, run: str) -> Served:
         """What is to be the service of this run."""
-        text, secret, number = await self.shared.ask(self.shared.referee.table, self.row.id)
+        text, secret, number, _ = await self.shared.ask(self.shared.referee.table, self.row.id)
         made = Served(self.row.name, run, text, secret, timeout=self.shared.settings.ttl, is_read_only=self.row.read_only, table_number=number)
-        made.identity = self.row.identity
+        made.identity, made.ancestor, made.front = self.row.identity, self.row.ancestor, self.shared.front
         return made
+
+    async def lead(self, served: Served) -> None:
+        """Has the front lead to a service that was adopted. Where it cannot, it does as soon as it can, and a look publishes it then."""
+        try:
+            await asyncio.to_thread(served.lead)
+        except FrontError as error:
+            self.shared.repeats.say(self.row.name, f"nobody reaches the service: {error}")
+
+    def _see_way(self, row: Row) -> None:
+        """Publishes another way to its service, as of a front that had to take another port."""
+        served = self.served
+        if served is None or served.process is None or not self.holds or row.address is None or self.doing is not Action.NOTHING:
+            return
+        if served.where.secure != row.secure and served.is_open:
+            self.shared.spawn(self._publish_way(served), row.name)
+
+    async def _publish_way(self, served: Served) -> None:
+        with suppress(KeeperError):  # the next look shows it again
+            if self.holds and self.served is served and served.process is not None:
+                await self.shared.ask(self.shared.referee.publish, self.row.id, served.run, served.where)
 
     async def filled(self, served: Served, archived: int, chain: bytes) -> None:
         """Fills it with what it lacks of the archive, up to this position."""
@@ -391,7 +417,7 @@ class Database:
         self.leaving.add(before.run)
         self.work.stop()
         successor.kind, successor.generation, self.served = Kind.HOLDER, generation, successor
-        self.row = replace(self.row, generation=generation, run=successor.run, address=switch.address, base=switch.end,
+        self.row = replace(self.row, generation=generation, run=successor.run, address=switch.address, secure=switch.secure, base=switch.end,
                            archived=switch.end, shift=switch.shift, images=switch.images, chain=switch.chain, succeed=False,
                            run_table=successor.table_number,
                            next_generation=max(self.row.next_generation, generation + 1))  # fmt: skip
@@ -444,6 +470,14 @@ class Database:
         """The word of this run."""
         return Of(self.row.identity, served.run)
 
+    def confirmed(self, line: Line, position: int) -> None:
+        """Answers `confirmed`, at once or later."""
+        served = self.served
+        if served is None or not self.holds:
+            return line.say("elsewhere", self.row.name, position, *of_word(Of(self.row.identity)))
+        self.work.refresh()
+        self.waits.confirmations.ask(line, position, self.of(served), served.reached, served.chain)
+
     def wait(self, line: Line, generation: int, position: int, of: Of | None = None) -> None:
         """Answers `durable`, at once or later. An older client names no run: a number that two may have had tells it nothing."""
         served = self.served
@@ -452,7 +486,7 @@ class Database:
             if of is not None and of.run in self._ends:
                 line.say("over", self.row.name, generation, self._ends[of.run], *of_word(of))
             else:
-                self.shared.spawn(self.shared.tell_fate(line, self.row.name, generation, of), self.row.name)
+                self.shared.spawn(self.shared.tell_fate(line, self.row.name, generation, of, self), self.row.name)
             return
         self.waits.of = self.of(served)
         if position <= served.reached:

@@ -121,6 +121,7 @@ class Ending:
         if process is None:
             return
         asyncio.get_running_loop().remove_reader(process.descriptor)
+        await asyncio.to_thread(served.lead_away)
         if not served.went_back:
             if not await asyncio.to_thread(process.end):
                 self._say(f"process {process.facts.pid} was killed, and does not end")

@@ -3,10 +3,11 @@ is no cancel."""
 
 from __future__ import annotations
 
+import ipaddress
 import os
 import select
 import socket
-from typing import Any, TypeVar
+from typing import Any, Mapping, TypeVar
 
 import psycopg
 from psycopg import waiting
@@ -44,6 +45,37 @@ def turn_hosts(options: dict[str, Any]) -> None:
         first, comma, rest = str(options.get(key) or "").partition(",")
         if comma:
             options[key] = f"{rest},{first}"
+
+
+def is_loopback(host: str) -> bool:
+    """Whether nobody of another machine reaches this host."""
+    try:
+        return ipaddress.ip_address(host.strip("[]")).is_loopback
+    except ValueError:
+        return host == "localhost"
+
+
+def unverified(options: Mapping[str, Any]) -> list[str]:
+    """The hosts of other machines to which a connection with these options is not encrypted for certain, or not to the right one. It may
+    ask DNS."""
+    if (options.get("sslmode") or os.environ.get("PGSSLMODE")) == "verify-full":
+        return []
+    hosts = str(options.get("host") or options.get("hostaddr") or os.environ.get("PGHOST") or "").split(",")
+    return [host for host in hosts if not _is_own(host)]
+
+
+def _is_own(host: str) -> bool:
+    """Whether it is a socket, or an address of this machine."""
+    if not host or host.startswith(("/", "@")) or is_loopback(host):
+        return True
+    try:
+        found = socket.getaddrinfo(host, 0, type=socket.SOCK_STREAM)
+        for family, kind, _, _, address in found:
+            with socket.socket(family, kind) as tried:
+                tried.bind(address)  # as no other machine's can be
+    except OSError:
+        return False
+    return True
 
 
 def shut_down(connection: psycopg.Connection[Any] | None) -> None:

@@ -14,26 +14,34 @@ from dataclasses import replace
 from functools import partial
 from typing import TYPE_CHECKING, Any, Mapping
 
+from pagelog.errors import CredentialsError, PagelogError
 from pagelog.keeper.aside import Aside
+from pagelog.keeper.certificate import Shown
 from pagelog.keeper.committer import Committer
 from pagelog.keeper.database import Database
 from pagelog.keeper.fate import Of
-from pagelog.keeper.fates import tell_block
 from pagelog.keeper.folder import Folder
+from pagelog.keeper.front import end_fronts
+from pagelog.keeper.front_care import FrontCare
+from pagelog.keeper.haproxy import FrontError
+from pagelog.keeper.hosts import unverified
 from pagelog.keeper.lines import Key, Line, Server, of_word
 from pagelog.keeper.machine import Stillness
 from pagelog.keeper.notify import notify
-from pagelog.keeper.orphans import Fate, seen_to
+from pagelog.keeper.orphans import Fate, close_left, seen_to
+from pagelog.keeper.page_servers import LivingPages
 from pagelog.keeper.places import Places
-from pagelog.keeper.quick import QuickReferee, QuickSession
-from pagelog.keeper.quick_way import QuickPool, QuickWays
+from pagelog.keeper.quick import QuickReferee
+from pagelog.keeper.quick_plane import QuickPlane
 from pagelog.keeper.quota import Quota
-from pagelog.keeper.referee import NAME, KeeperError, NameInUse, Referee, Superseded
-from pagelog.keeper.rows import Look, Named, Row, StandbyRow, Synchronous
+from pagelog.keeper.referee import NAME, KeeperError, NameInUse, Referee, Superseded, options_of
+from pagelog.keeper.rows import KeeperRow, Look, Named, Row, StandbyRow, Synchronous
 from pagelog.keeper.run import Run, Seen, has_services, orphans_of
+from pagelog.keeper.runner import RunnerError
 from pagelog.keeper.served import Served, seconds
 from pagelog.keeper.session import Session
 from pagelog.keeper.schema import NUMBERS
+from pagelog.keeper.sealed import KEYS
 from pagelog.keeper.settings import Settings
 from pagelog.keeper.shared import Shared
 from pagelog.keeper.turns import AllTurns
@@ -41,6 +49,7 @@ from pagelog.repeating import Backoff, Repeats
 
 if TYPE_CHECKING:
     from pagelog.keeper.recorder import Trails
+    from pagelog.keeper.storing import Storing
 
 HELD_BACK = 1.0
 """Seconds for which the answer to a `where` may wait for the next generation."""
@@ -68,18 +77,21 @@ class Keeper:
         self._by_name: dict[str, Database] = {}
         """Those that the last look has shown, and that were not dropped."""
         self.look = Look()
-        self.lines = settings.lines
-        self._session = Session(Referee(settings.url, settings.name, self.life, listens=True, requires_standby=settings.require_standby),
-                                settings.ttl)  # fmt: skip
-        self._writer = QuickSession(QuickReferee(settings.url, settings.name, self.life, requires_standby=settings.require_standby),
-                                    2 * settings.ttl)  # fmt: skip
+        self.lines = settings.lines if settings.tls is None or settings.tls.plain else settings.tls.lines
+        self._session = Session(Referee(settings.url, settings.name, self.life, listens=True, requires_standby=settings.require_standby,
+                                        keys=settings.keys, store=settings.store), settings.ttl)  # fmt: skip
+        self._writer = Session(QuickReferee(settings.url, settings.name, self.life, requires_standby=settings.require_standby), 2 * settings.ttl)
         committer = Committer(self._writer, settings.ttl, partial(self._say, "the archive"), beside=self._session)
         self._shared = Shared(settings, self.life, self._session, committer, self._say, self._changed, self._trails(), self._ways())
         self._server = Server(self)
+        self._care = None if settings.tls is None else FrontCare(
+            settings.tls, self._folder.path, partial(self._repeats.say, "the front"), self._shared.spawn)  # fmt: skip
+        self._shared.front = None if self._care is None else self._care.front
         self._places = Places(self.where)
         self._moving = Quota(EACH_WHERE, ALL_WHERE)
         """The answers to `where` that wait."""
         self._turns = AllTurns(ttl=settings.ttl)
+        self._storing = self._new_storing()
         self._rival: Named | None = None
         """Who had the name when it was asked for last."""
         self._rival_stillness, self._rival_still = Stillness(settings.ttl), 0.0
@@ -87,6 +99,7 @@ class Keeper:
         """Whether a keeper of another folder has the name."""
         self._lives: dict[str, Stillness] = {}
         self._living: set[str] = set()
+        self._pages = LivingPages(settings.ttl)
         self._beats: dict[str, int] = {}
         self._rose: dict[str, float] = {}
         """When a look showed that the beat of a keeper had risen: that one was alive since, and knew this PostgreSQL."""
@@ -112,16 +125,18 @@ class Keeper:
 
         return Trails(self.settings.url, self.settings.trail, self.settings.ttl)
 
-    def _ways(self) -> QuickPool | None:
+    def _new_storing(self) -> Storing | None:
+        if self.settings.store is None:
+            return None
+        from pagelog.keeper.storing import Storing, check_libraries
+
+        check_libraries(self.settings.store)
+        return Storing(self.settings, self._repeats.say)
+
+    def _ways(self) -> QuickPlane:
         settings = self.settings
-        if settings.trail:
-            return None  # each statement has lines of an audit list with it
-
-        def make() -> QuickWays:
-            return QuickWays(QuickReferee(settings.url, settings.name, self.life), idle=settings.ttl, deadline=2 * settings.ttl,
-                             confirms=settings.require_standby, say=partial(self._repeats.say, "the quick way"))  # fmt: skip
-
-        ways = QuickPool(make)
+        ways = QuickPlane(lambda: QuickReferee(settings.url, settings.name, self.life), idle=settings.ttl, deadline=2 * settings.ttl,
+                          confirms=settings.require_standby, has_trails=bool(settings.trail), say=partial(self._repeats.say, "the quick way"))  # fmt: skip
         if not ways.is_there:
             self._say("the keeper", "the quick way is not built: durable commits take longer")
         return ways
@@ -133,6 +148,11 @@ class Keeper:
         """A line for each change, and where it changes again and again once a minute."""
         if sentence != self._said and self._repeats.try_to_say("the referee", sentence):
             self._said = sentence
+
+    async def _say_of_encryption(self) -> None:
+        if hosts := await asyncio.to_thread(unverified, options_of(self.settings.url)):
+            self._say("the referee", f"tokens and pages go to {', '.join(hosts)}, whoever that is, and may go there in the clear: "
+                      "the url has no sslmode=verify-full (docs/SECURITY.md)")  # fmt: skip
 
     # Its life.
 
@@ -149,10 +169,14 @@ class Keeper:
         if not self._folder.take() and self._folder.owner != self.settings.name:
             raise KeeperError(f"keeper {self._folder.owner or 'another'} has the folder {self._folder.path}")
         self._may_have = has_services(self._folder.path)
-        self.lines = await self._server.start(self.settings.lines)
+        self._shared.spawn(self._say_of_encryption(), "the referee")
+        if self.settings.tls is None or self.settings.tls.plain:
+            self.lines = await self._server.start(self.settings.lines)
         notify("READY=1")  # PostgreSQL may be away still
         self._shared.spawn(self._live(), "the watchdog")
         committing = self._shared.spawn(self._shared.committer.run(), "the committer")
+        if self._storing is not None:
+            self._shared.spawn(self._storing.run(), "the store")
         try:
             await self._begin()
             await self._look()
@@ -191,7 +215,7 @@ class Keeper:
         """The last report of a keeper that has handed over names no run that has ended."""
         if not self._stops:
             with suppress(KeeperError):
-                await self._session.ask(self._session.referee.look, {}, self._report())
+                await self._session.ask(self._session.referee.look, {}, self._report())  # its lines are told nobody any more
 
     def _is_over(self) -> bool:
         has_handed_over = not self._may_have and all(each.is_at_rest for each in self.databases.values())
@@ -218,11 +242,19 @@ class Keeper:
                 continue
             await asyncio.to_thread(self._shared.numbers.begin)
             self._folder.settle(self.life)
+            await self._begin_front()
             wanted = {row.run for row in look.rows if row.run is not None and row.holder == self.settings.name}
             self._shared.asides.begin()
             self._left = await asyncio.to_thread(orphans_of, self._folder.path, wanted)
             await self._see_to_orphans(look)
             return
+
+    async def _begin_front(self) -> None:
+        """Before anything is led to: it is adopted with what it leads to. Of one that is not wanted any more nothing is left."""
+        if self._care is None:
+            await asyncio.to_thread(end_fronts, self._folder.path)
+        else:
+            await self._care.begin(self._server)
 
     async def _see_to_orphans(self, look: Look, *, has_name: bool = True) -> None:
         """What an earlier life has left and nobody holds is ended where it holds nothing. Else it continues as soon as its database is
@@ -232,7 +264,7 @@ class Keeper:
             process = self._left[-1]
             try:
                 orphan = await self._session.ask(seen_to, self._session.referee, look, process, self.settings.ttl, has_name)
-            except KeeperError as error:
+            except (KeeperError, RunnerError) as error:
                 self._say_of_referee(str(error))
                 if not has_name:
                     return  # the next life in this folder sees to it
@@ -242,14 +274,26 @@ class Keeper:
             goes_on = has_name and orphan.fate is Fate.CONTINUE and orphan.database not in self._orphans
             fate = orphan.fate if goes_on or orphan.fate is Fate.END else Fate.SET_ASIDE
             self._say(process.facts.name, f"the service of run {process.name}, which an earlier life left, is {fate.value}: {orphan.why}")
+            if self._shared.front is not None and fate is not Fate.CONTINUE:
+                await asyncio.to_thread(self._shared.front.drop, process.name)
             if fate is Fate.END:
                 await asyncio.to_thread(process.end)
             elif goes_on and orphan.served is not None:
+                orphan.served.front, orphan.served.identity = self._shared.front, orphan.database
+                await self._lead(orphan.served)
                 self._orphans[orphan.database] = orphan.served
             else:
                 await self._set_aside(process)
 
+    async def _lead(self, served: Served) -> None:
+        with suppress(FrontError):  # it does as soon as it can
+            await asyncio.to_thread(served.lead)
+
     async def _set_aside(self, process: Run) -> None:
+        try:
+            await asyncio.to_thread(close_left, process, self.settings.ttl)
+        except PagelogError as error:
+            self._say(process.facts.name, f"the service that is set aside could not be closed, so that clients may still write to it: {error}")
         while True:
             try:
                 await asyncio.to_thread(process.set_aside, process.facts.shift, process.facts.images)
@@ -339,6 +383,8 @@ class Keeper:
             await self._shared.ways.close()
         if self._is_disowned:
             await self._end_services()
+        if self._care is not None:
+            await self._care.stop()
         self._folder.leave()
 
     # Looking.
@@ -360,7 +406,7 @@ class Keeper:
         self._see_next_look()
         began = seconds()
         try:
-            self.look = await self._session.ask(self._session.referee.look, reached, self._report())
+            self.look = await self._session.ask(self._session.referee.look, reached, self._report(), self._see_front())
         except Superseded:
             raise
         except KeeperError as error:
@@ -375,6 +421,7 @@ class Keeper:
         self._note_numbers()
         self._say_of_referee(self.synchronous.meaning)
         self._see_lives()
+        self._pages.see(self.look.pages, seconds())
         for row in self.look.rows:
             if row.identity not in self.databases and not row.dropped:
                 self.databases[row.identity] = Database(self._shared, row, self._orphans.pop(row.identity, None))
@@ -386,11 +433,19 @@ class Keeper:
             is_noted = any(map(database.has_noted, self.look.standbys_of(row.id)))
             database.see(row, None if holder is None else holder.beat, self._others(row.id), is_noted=is_noted, began=began,
                          reports=self._reports_of(row.name), rose=self._rose.get(row.holder or "", float("-inf")))  # fmt: skip
+            self._shared.proving.see(database)
             self._changed(row.name)
         for identity in self.databases.keys() - {row.identity for row in self.look.rows}:
             self.databases[identity].lose()
         self._may_have = False
         self._turns.look(self._held)
+
+    def _see_front(self) -> str | None:
+        """Looks at the front, and returns where the lines are reached by TLS, as the column has it."""
+        if self._care is None:
+            return None
+        self._care.look()
+        return self._care.secure_lines(self.life)
 
     def _note_numbers(self) -> None:
         """Those of the look, for a later life too. A look waits for no file."""
@@ -436,7 +491,8 @@ class Keeper:
             if each.back is not None and each.served is not None and each.served.process is not None:
                 served, process = each.served, each.served.process
                 facts = replace(process.facts, shift=served.shift, images=served.images)
-                found.append(Aside(facts, Seen(served.generation, max(served.reached, process.seen.archived)), is_kept=False))
+                seen = Seen(served.generation, max(served.reached, process.seen.archived))
+                found.append(Aside(facts, seen, is_kept=False, database=each.row.identity))
         return found
 
     def _report(self) -> str:
@@ -444,6 +500,7 @@ class Keeper:
         decided of them, and of what nobody has."""
         audit, limit, report = self.settings.program.audit, self.settings.memory, dict[str, Any](self._shared.asides.report(self._lost()))
         report[NUMBERS] = {}  # as of a database: an older tool goes through them
+        report[KEYS] = {"ids": self._key_ids()}
         for each in self.databases.values():
             if each.row.dropped or (each.served is None and not each.leaving and each.row.holder not in (None, self.settings.name)):
                 continue
@@ -455,39 +512,67 @@ class Keeper:
                 said.update(run=each.served.run, back=each.back, table=each.served.table_number)
                 memory = each.served.measure()
                 said.update(entries_left=audit - each.served.entries, memory=memory >> 20,
-                            memory_left=max(0, limit - memory) >> 20 if limit else None, hard=each.served.hard)  # fmt: skip
+                            memory_left=max(0, limit - memory) >> 20 if limit else None, hard=each.served.hard,
+                            stored=self._stored(each)["stored"])  # fmt: skip
         return json.dumps(report)
+
+    def _key_ids(self) -> list[str]:
+        """Of the keys that this keeper has."""
+        try:
+            return self.settings.keys.ids
+        except CredentialsError as error:
+            self._repeats.say("the keys", str(error))
+            return []
 
     # Answering.
 
     def _named(self, name: str) -> Database | None:
         return self._by_name.get(name)
 
-    def where(self, name: str) -> tuple[object, ...]:
-        """Where a database is, as the last look has shown it, or as it is here."""
+    def where(self, name: str, is_secure: bool = False) -> tuple[object, ...]:
+        """Where a database is, as the last look has shown it, or as it is here, for who came by TLS or without."""
         database = self._named(name)
         if database is None:
             return ("unknown" if self.look.keepers else "nowhere", name)  # before its first look it knows of none
         row, served = database.row, database.served
         holder = self.look.keeper(row.holder)
         is_closed = database.holds and served is not None and not served.is_open
-        if row.address is None or is_closed or (holder is None and not database.holds):
+        address, lines = row.told(is_secure), self._lines_of(None if database.holds else holder, is_secure)
+        if address is None or lines is None or is_closed or (holder is None and not database.holds):
             return ("nowhere", name)
         database.work.refresh()
         archived = served.reached if served is not None and database.holds else row.archived
-        lines = self.lines if database.holds or holder is None else holder.lines
         keys = of_word(Of(row.identity, row.run or ""))
         if row.ancestor is not None:
             keys += (Key(f"ancestor={row.ancestor}"),)
+        if row.copied:
+            keys += (Key(f"copied={row.copied}"),)
         if database.after is not None and database.after[0] == row.generation:
             keys += (Key(f"after={database.after[1]}"),)
-        return ("at", name, row.generation, row.run, row.address, archived, lines, row.images, row.shift, row.base, *keys)
+        keys += () if is_secure else self._pages.key(row)
+        return ("at", name, row.generation, row.run, address, archived, lines, row.images, row.shift, row.base, *keys)
+
+    def _lines_of(self, holder: KeeperRow | None, is_secure: bool) -> str | None:
+        """Where a keeper's lines are for such a client; None is this one."""
+        if holder is not None:
+            return holder.told(is_secure)
+        return self.lines if self._care is None or not is_secure else self._care.front.lines
+
+    @property
+    def wants_certificates(self) -> bool:
+        """Whether who comes by TLS needs a certificate of the database that is asked of. Before its first look it knows nothing to tell."""
+        return self.settings.tls is not None and self.settings.tls.clients is not None and bool(self.look.keepers)
+
+    def identity_of(self, name: str) -> str | None:
+        """That of the database of this name, as the last look has shown it."""
+        database = self._named(name)
+        return None if database is None else database.row.identity
 
     def where_next(self, line: Line, name: str, least: int) -> None:
         """Says where it is, and waits for a generation that is about to be published here."""
         database = self._named(name)
         if database is None or not database.is_moving or not self._moving.acquire(line):
-            line.say(*self.where(name))
+            line.say(*self.where(name, line.is_secure))
         else:
             self._shared.spawn(self._say_next(database, line, least), name)
 
@@ -500,7 +585,7 @@ class Keeper:
                 await database.moves.wait(left)
         finally:
             self._moving.release(line)
-        line.say(*self.where(database.row.name))
+        line.say(*self.where(database.row.name, line.is_secure))
 
     def next_place(self, line: Line, name: str, least: int) -> None:
         """Answers now or later."""
@@ -510,33 +595,57 @@ class Keeper:
         self._places.changed(name)
         self._turns.changed(name, self._held(name))
 
-    def standby(self, name: str) -> tuple[object, ...]:
+    def standby(self, name: str, is_secure: bool = False) -> tuple[object, ...]:
         """A standby of it, whichever keeper has it: the last look says how far it is, and of an own one what it has."""
         database = self._named(name)
         known = () if database is None else self.look.standbys_of(database.row.id)
-        found = next((each for each in known if each.keeper in self._living), None)
+        found = next((each for each in known if each.keeper in self._living and each.told(is_secure) is not None), None)
         if database is None or found is None:
             return ("standby", name, "-", "-", "-", "-", "-")
         own, follows = database.served, database.follows
         reached = follows if own is not None and own.run == found.run and follows is not None else found.reached
         keeper = self.look.keeper(found.keeper)
-        keys = of_word(Of(database.row.identity, found.run)) + (() if keeper is None else (Key(f"lines={keeper.lines}"),))
-        return ("standby", name, found.address, found.run, reached, found.images, found.shift, *keys)
+        lines = None if keeper is None else keeper.told(is_secure)
+        keys = of_word(Of(database.row.identity, found.run)) + (() if lines is None else (Key(f"lines={lines}"),))
+        return ("standby", name, found.told(is_secure), found.run, reached, found.images, found.shift, *keys)
+
+    def pages(self, name: str, of: Of | None, is_secure: bool = False) -> tuple[object, ...]:
+        """Its page servers that live, if it is the database that is meant: none to who came by TLS, which they have not."""
+        database = self._named(name)
+        if is_secure or database is None or (of is not None and of.database != database.row.identity):
+            return ("pages", name)
+        return self._pages.words(database.row, of)
+
+    def confirmed(self, line: Line, name: str, position: int, of: Of | None) -> None:
+        """Answers now or later, if it is the database that is meant."""
+        database = self._named(name)
+        if database is None or of is None or of.database != database.row.identity:
+            line.say("elsewhere", name, position, *of_word(of))
+        else:
+            database.confirmed(line, position)
 
     def durable(self, line: Line, name: str, generation: int, position: int, of: Of | None = None) -> None:
         """Answers now or later. Of a database that has the name no more PostgreSQL knows what became."""
         database = self._named(name)
         if database is not None and (of is None or of.database == database.row.identity):
+            held = self._held(name)
+            line.may_ring = generation == held and self._may(line, database)
+            if held is not None and generation < held and self._may(line, database):
+                self._turns.expect(name, held)
             database.wait(line, generation, position, of)
         elif of is not None and self.look.keepers:
             self._shared.spawn(self._shared.tell_fate(line, name, generation, of), name)
         else:
             line.say("unknown", name)
 
-    def ring(self, name: str, generation: int, of: Of | None = None) -> None:
+    def _may(self, line: Line, database: Database) -> bool:
+        """Whether it is done what costs or tells: not for who is nobody of this database."""
+        return self._shared.proving.refusal(line, database) is None
+
+    def ring(self, line: Line, name: str, generation: int, of: Of | None = None) -> None:
         """Looks for new blocks, if it is held here; of a standby here it looks at the archive, which that follows."""
         database = self._named(name)
-        if database is None or not self._is_of(database, of):
+        if database is None or not self._is_of(database, of) or not self._may(line, database):
             return
         if generation == self._held(name):
             database.work.ring()
@@ -553,11 +662,11 @@ class Keeper:
         """Whether this run of it is held here; an older client says none."""
         return of is None or (database.served is not None and of == database.of(database.served))
 
-    def full(self, name: str, generation: int, of: Of | None = None) -> None:
+    def full(self, line: Line, name: str, generation: int, of: Of | None = None) -> None:
         """Begins the next generation, if it is held here, once in each."""
         database = self._named(name)
         is_meant = database is not None and self._is_of(database, of) and database.holds and database.own.generation == generation
-        if database is not None and is_meant and not database.own.is_full:
+        if database is not None and is_meant and not database.own.is_full and self._may(line, database):
             database.own.is_full = True
             database.kick()
 
@@ -565,20 +674,26 @@ class Keeper:
         """Answers from the archive, once PostgreSQL has. For what is no name it is not asked: it would end the connection."""
         if NAME.fullmatch(name) is None:
             return line.say("block", name, position, "-", *of_word(of))
-        self._shared.spawn(tell_block(self._shared.block_questions, line, name, position, of), name)
+        database = self._named(name)
+        is_another = database is not None and of is not None and of.database != database.row.identity
+        self._shared.spawn(self._shared.tell_block(line, name, position, of, None if is_another else database), name)
 
     def _held(self, name: str) -> int | None:
         """The generation of it that is held here."""
         database = self._named(name)
         return database.served.generation if database is not None and database.holds and database.served is not None else None
 
-    def turn(self, line: Line, words: list[str], of: Of | None = None) -> None:
+    def turn(self, line: Line, words: list[str], of: Of | None = None, epoch: int | None = None) -> None:
         """Answers now or later. Who asks of another run gets no turn here, and ends nobody's."""
-        database = self._named(words[1])
-        if database is None or self._is_of(database, of):
-            self._turns.take(line, words, self._held(words[1]))
-        elif words[0] == "turn":
-            line.say("elsewhere", words[1], *of_word(of))
+        word, name = words[:2]
+        database, held = self._named(name), self._held(name)
+        is_of_another = database is not None and not self._is_of(database, of)
+        is_free = word == "back" or held is None  # to give back costs nobody anything
+        why = None if database is None or is_of_another or is_free else self._shared.proving.refusal(line, database)
+        if not is_of_another and why is None:
+            self._turns.take(line, words, held, epoch)
+        elif word == "turn":
+            line.say(*(("elsewhere", name) if why is None else ("denied", name, why.value)), *of_word(of))
 
     def awaits(self, line: Line) -> bool:
         """Whether it has a turn, or anything is waited for over it."""
@@ -592,14 +707,15 @@ class Keeper:
         self._turns.gone(line)
         for database in self.databases.values():
             database.waits.gone(line)
+            database.waits.confirmations.gone(line)
 
     def states(self) -> list[dict[str, Any]]:
         """What is known of each database, for the metrics."""
         return [
             {"name": each.row.name, "state": each.state.value, "generation": each.row.generation, "archived": each.row.archived,
              "behind": 0 if each.served is None else max(0, each.served.hard - each.served.reached), "waits": len(each.waits),
-             "quick": int(each.work.is_quick), "standby": int(each.is_noted) if each.should_stand_by else None,
-             **self._shares(each.served)}
+             "unproved": self._shared.proving.unproved[each.row.name], "quick": int(each.work.is_quick), "standby": int(each.is_noted) if each.should_stand_by else None,
+             **self._shares(each.served), **self._stored(each), **self._pages.states(each.row)}
             for each in list(self.databases.values()) if not each.row.dropped
         ]  # fmt: skip
 
@@ -610,6 +726,26 @@ class Keeper:
             return {"list_share": None, "memory_share": None}
         return {"list_share": served.entries / audit, "memory_share": served.held / limit if limit else None}
 
-    def itself(self) -> dict[str, int]:
+    def _stored(self, database: Database) -> dict[str, float | None]:
+        """Up to where it is in the store, as the mover has said, and what is wrong there; None where it is not held here. Of a mover that says
+        nothing something is wrong."""
+        if not database.holds:
+            return dict.fromkeys(("stored", "store_behind", "store_foreign", "store_broken"))
+        if self._storing is None:
+            return {"stored": None, "store_behind": 0, "store_foreign": 0, "store_broken": 0}
+        report = self._storing.report(database.row.name)
+        return {"stored": report.get("stored"), "store_behind": report.get("behind"), "store_foreign": report.get("foreign"),
+                "store_broken": int(not report or report["broken"] is not None)}  # fmt: skip
+
+    def itself(self) -> dict[str, float]:
         """What is known of the keeper, for the metrics."""
-        return {"looks": self._looks, "synchronous_standbys": self.synchronous.count or 0, "set_aside": len(self._shared.asides)}
+        plain, plain_ever = self._server.plain
+        pair = None if self._care is None else self._care.front.certificate.now
+        return {"looks": self._looks, "synchronous_standbys": self.synchronous.count or 0, "set_aside": len(self._shared.asides),
+                "plain_lines": plain, "plain_connections": plain_ever,
+                **({} if pair is None else {"certificate_ends": pair.ends})}  # fmt: skip
+
+    @property
+    def shown(self) -> Shown | None:
+        """What servers of this process show to who reaches them from other machines; None where it has no certificate."""
+        return None if self._care is None else self._care.front.shown

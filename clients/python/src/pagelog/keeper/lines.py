@@ -12,6 +12,7 @@ import errno
 import logging
 import os
 import resource
+import secrets
 import socket
 import time
 from contextlib import suppress
@@ -19,6 +20,7 @@ from itertools import islice
 from typing import Any, Callable, Mapping, Protocol
 
 from pagelog.keeper.fate import Of
+from pagelog.keeper.proving import Asker, Proof
 
 VERSION = 2
 """Of the lines. Version 1 has no greeting, and no keys."""
@@ -48,12 +50,15 @@ class OpenLines:
         """`awaits` says whether a client has something, or waits for something."""
         self._awaits = awaits
         self._lines: dict[Line, None] = {}
+        self.plain_ever = 0
+        """How many have come without TLS."""
 
     def add(self, line: Line) -> None:
         """Another one, in place of an idle one where there are too many. Where none is found, it is closed itself."""
         if len(self._lines) >= most_lines() and not self.drop_idle():
             line.close()
         self._lines[line] = None
+        self.plain_ever += not line.is_secure
 
     def heard(self, line: Line) -> None:
         """It is not idle now."""
@@ -75,6 +80,11 @@ class OpenLines:
             self.heard(line)
         return False
 
+    @property
+    def plain(self) -> int:
+        """How many came without TLS."""
+        return sum(not line.is_secure for line in self._lines)
+
     def close(self) -> None:
         """Ends them all."""
         for line in list(self._lines):
@@ -93,11 +103,24 @@ def of_word(of: Of | None) -> tuple[Key, ...]:
 class Line(asyncio.Protocol):
     """One connection of a client. Its lines are answered in the order in which they come; nothing is read of a client that does not read."""
 
+    is_secure = False
+    """Whether it came by TLS."""
+    client: str | None = None
+    """The name in the client's certificate."""
+
     def __init__(self, answers: Answers, open: OpenLines) -> None:
         self._answers, self._open = answers, open
         self._transport: asyncio.Transport | None = None
         self._left = b""
         self._is_full = self._is_lent = self._is_behind = False
+        self.nonce = secrets.token_hex(16)
+        """What the client proves something with, over this connection alone."""
+        self.proof: Proof | None = None
+        """What it has said last to prove it."""
+        self.asker: Asker = None
+        """Who that is, as it was judged last."""
+        self.may_ring = False
+        """Whether who reads it in place of this may take a `ring` from it."""
         self.version = 1
         """Of the client, as it has said."""
 
@@ -196,8 +219,8 @@ class Line(asyncio.Protocol):
 
     def lend(self) -> int | None:
         """A descriptor of its socket, for one who reads it in place of this, and closes it; until `take_back`. None where something is left
-        to be read or written, or there is no descriptor to be had."""
-        transport = self._transport
+        to be read or written, or may not be done, or there is no descriptor to be had."""
+        transport = self._transport if self.may_ring else None
         if transport is None or transport.is_closing() or self._is_lent or self._is_full or self._left or transport.get_write_buffer_size():
             return None
         try:
@@ -217,8 +240,15 @@ class Line(asyncio.Protocol):
 class Answers(Protocol):
     """Who answers the lines."""
 
-    def where(self, name: str) -> tuple[object, ...]:
-        """The words of the answer to `where`."""
+    @property
+    def wants_certificates(self) -> bool:
+        """Whether who comes by TLS needs a certificate of the database that is asked of."""
+
+    def identity_of(self, name: str) -> str | None:
+        """That of the database of this name; None where there is none, or it is not known yet."""
+
+    def where(self, name: str, is_secure: bool) -> tuple[object, ...]:
+        """The words of the answer to `where`, for who came by TLS or without."""
 
     def where_next(self, line: Line, name: str, least: int) -> None:
         """Writes the answer to `where` once this generation or a later one is published, or nobody here is about to."""
@@ -226,23 +256,29 @@ class Answers(Protocol):
     def next_place(self, line: Line, name: str, least: int) -> None:
         """Writes the answer to `next` once there is a place of this generation or a later one, or after a while."""
 
-    def standby(self, name: str) -> tuple[object, ...]:
+    def standby(self, name: str, is_secure: bool) -> tuple[object, ...]:
         """The words of the answer to `standby`."""
+
+    def pages(self, name: str, of: Of | None, is_secure: bool) -> tuple[object, ...]:
+        """The words of the answer to `pages`."""
 
     def durable(self, line: Line, name: str, generation: int, position: int, of: Of | None) -> None:
         """Writes the answer to `durable` once there is one."""
 
-    def ring(self, name: str, generation: int, of: Of | None) -> None:
+    def confirmed(self, line: Line, name: str, position: int, of: Of | None) -> None:
+        """Writes the answer to `confirmed` once more than this position is archived, or after a while."""
+
+    def ring(self, line: Line, name: str, generation: int, of: Of | None) -> None:
         """There will be new blocks."""
 
-    def full(self, name: str, generation: int, of: Of | None) -> None:
+    def full(self, line: Line, name: str, generation: int, of: Of | None) -> None:
         """A service had no memory for a writer."""
 
     def block(self, line: Line, name: str, position: int, of: Of | None) -> None:
         """Writes the answer to `block`."""
 
-    def turn(self, line: Line, words: list[str], of: Of | None) -> None:
-        """Answers the lines of turns, at once or later."""
+    def turn(self, line: Line, words: list[str], of: Of | None, epoch: int | None) -> None:
+        """Answers the lines of turns, at once or later. `epoch`: in which who gives one back has written."""
 
     def awaits(self, line: Line) -> bool:
         """Whether the client has a turn, or waits for an answer."""
@@ -271,25 +307,31 @@ def answer(answers: Answers, line: Line, words: list[str]) -> None:
     match asked:
         case ["hello", version]:
             line.version = _number(version)
-            line.say("hello", VERSION)
+            line.say("hello", VERSION, Key(f"nonce={line.nonce}"))
+        case ["prove", name, principal, code] if of is not None:
+            line.proof = Proof(name, _number(principal), code, of)
         case ["where", name]:
-            line.say(*answers.where(name))
+            line.say(*answers.where(name, line.is_secure))
         case ["where", name, least]:
             answers.where_next(line, name, _number(least))
         case ["next", name, least]:
             answers.next_place(line, name, _number(least))
         case ["standby", name]:
-            line.say(*answers.standby(name))
+            line.say(*answers.standby(name, line.is_secure))
+        case ["pages", name]:
+            line.say(*answers.pages(name, of, line.is_secure))
         case ["durable", name, generation, position]:
             answers.durable(line, name, _number(generation), _number(position), of)
+        case ["confirmed", name, position]:
+            answers.confirmed(line, name, _number(position), of)
         case ["ring", name, generation]:
-            answers.ring(name, _number(generation), of)
+            answers.ring(line, name, _number(generation), of)
         case ["full", name, generation]:
-            answers.full(name, _number(generation), of)
+            answers.full(line, name, _number(generation), of)
         case ["block", name, position]:
             answers.block(line, name, _number(position), of)
         case ["turn" | "back" | "hold", _, *_]:
-            answers.turn(line, asked, of)
+            answers.turn(line, asked, of, _number(keys["epoch"]) if "epoch" in keys else None)
         case _:
             line.say("what", *asked[:1])
 
@@ -300,6 +342,7 @@ class Server:
     def __init__(self, answers: Answers) -> None:
         self._answers = answers
         self._server: asyncio.base_events.Server | None = None
+        self._behind: asyncio.base_events.Server | None = None
         self._open = OpenLines(answers.awaits)
         self._said_at = float("-inf")
         """When it was logged that there is no descriptor."""
@@ -312,11 +355,25 @@ class Server:
         self._server = await loop.create_server(lambda: Line(self._answers, self._open), host.strip("[]"), int(port))
         return f"{host}:{self._server.sockets[0].getsockname()[1]}"
 
+    async def start_behind(self, listener: socket.socket) -> None:
+        """Hears the lines that come through the keeper's front: it alone reaches this socket."""
+        from pagelog.keeper.fronted import FrontedLine
+
+        loop = asyncio.get_running_loop()
+        loop.set_exception_handler(self._hear_of_fault)
+        self._behind = await loop.create_unix_server(lambda: FrontedLine(self._answers, self._open), sock=listener)
+
     async def stop(self) -> None:
         """Ends all connections."""
-        if self._server is not None:
-            self._server.close()
+        for server in (self._server, self._behind):
+            if server is not None:
+                server.close()
         self._open.close()
+
+    @property
+    def plain(self) -> tuple[int, int]:
+        """How many connections that came without TLS are open, and how many have come."""
+        return self._open.plain, self._open.plain_ever
 
     def _hear_of_fault(self, loop: asyncio.AbstractEventLoop, context: dict[str, Any]) -> None:
         """Where no connection can be accepted, some that are idle go. The loop tries again each second, and would log a traceback each time."""

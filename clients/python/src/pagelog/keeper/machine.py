@@ -100,6 +100,8 @@ class Own:
     """For how many seconds it has been known that PostgreSQL went back."""
     table_number: int = 1
     """That of the table that it was started with."""
+    unreached: float = 0.0
+    """For how many seconds no client has reached it, whose only way is a front that is not there."""
 
     def has_old_table(self, row: Row) -> bool:
         """Whether a newer one was set."""
@@ -145,6 +147,8 @@ class Facts:
     """A keeper that is alive, and has a run with more of what PostgreSQL has lost than this one."""
     settles: bool = False
     """Whether PostgreSQL was seen to go back less than a ttl ago, so that others may still say what they have."""
+    is_unreached: bool = False
+    """Whether no client would reach a service here, whose only way is a front that is not there."""
 
 
 @dataclass(frozen=True)
@@ -182,6 +186,8 @@ def went_back(row: Row | None, own: Own) -> bool:
 def decide(facts: Facts) -> Decision:
     """What to do now. A service that may be the only copy of something is not ended, unless the database was dropped."""
     decision = _decide(facts)
+    if decision.action is Action.TAKE and facts.is_unreached:
+        return Decision(Action.NOTHING, "no client would reach its service here: the front is away")
     if decision.action in (Action.END, Action.TAKE) and is_only_copy(facts):
         return Decision(Action.SET_ASIDE, f"{decision.why}; PostgreSQL went back, and the service is kept", decision.detail)
     return decision
@@ -200,8 +206,8 @@ def _decide(facts: Facts) -> Decision:
     if row is None:
         if own is None:
             return Decision(Action.NOTHING, "the referee has no such database")
-        if facts.ending:
-            return Decision(Action.END, "the keeper ends")
+        if facts.ending or not own.alive:
+            return Decision(Action.END, "the keeper ends" if facts.ending else "the service ended, of which the referee knows no database")
         return Decision(Action.NOTHING, "the referee knows nothing of the database: PostgreSQL went back, and the service is kept")
     if own is None and facts.is_noted:
         return Decision(Action.STAND_DOWN, "a standby is noted that is not there any more")
@@ -237,6 +243,8 @@ def _of_the_holder(facts: Facts, row: Row, own: Own) -> Decision:
         return Decision(Action.RELEASE, "the service has not answered for {} s", f"{own.silent:.1f}")
     if facts.ending:
         return Decision(Action.CLOSE, "the keeper ends")
+    if own.unreached >= facts.ttl and not row.paused:
+        return Decision(Action.CLOSE, "no client reaches the service: its front has been away for {} s", f"{own.unreached:.1f}")
     has_old_table = own.has_old_table(row)
     if row.paused and not has_old_table:
         return Decision(Action.NOTHING, "serves; paused")

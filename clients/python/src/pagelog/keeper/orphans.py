@@ -7,6 +7,7 @@ from dataclasses import dataclass
 from enum import Enum
 
 from pagelog.errors import PagelogError
+from pagelog.keeper.definition import Definition
 from pagelog.keeper.machine import Kind
 from pagelog.keeper.referee import BrokenArchive, KeeperError, Referee
 from pagelog.keeper.rows import Look, Origin, Row
@@ -79,15 +80,18 @@ def seen_to(referee: Referee, look: Look, process: Run, timeout: float, has_name
         return Orphan(process, Fate.END, "it did not come to listen")
     name, seen = process.facts.name, process.seen
     origin, row = referee.origin(process.name, has_name=has_name), look.row(name)
-    was_dropped = any(each.dropped and each.name.startswith(f"{name}!") for each in look.rows)
+    definition = process.definition
+    if row is not None and not _is_of(row, name, definition):
+        row = None  # the name is another one's by now
+    was_dropped = any(each.dropped and _is_of(each, name, definition) for each in look.rows)
     found = Found(seen, origin, row, was_dropped)
     if row is None or (origin is not None and (origin.dropped or origin.ended is not None)):
         return Orphan(process, *fate_of(found))
-    text, secret, _ = referee.table(row.id)
+    text, secret, *_ = referee.table(row.id)
     served = Served(name, process.name, text, secret, timeout=timeout, is_read_only=row.read_only)
     shift, images = process.facts.shift, process.facts.images
     chain = referee.chain_of_base(row.id, images) if images else b""
-    served.kind, served.generation = Kind.HOLDER, seen.generation
+    served.kind, served.generation, served.identity, served.ancestor = Kind.HOLDER, seen.generation, row.identity, row.ancestor
     served.adopt(process, images, _NO_DIGEST if chain is None else chain, shift=shift, images=images)
     try:
         was_written, is_behind = served.was_written(), chain is not None and _is_behind(referee, row, served)
@@ -97,6 +101,21 @@ def seen_to(referee: Referee, look: Look, process: Run, timeout: float, has_name
         return Orphan(process, *fate_of(Found(seen, origin, row, was_dropped, answers=False)))
     fate, why = fate_of(Found(seen, origin, row, was_dropped, True, was_written, is_behind))
     return Orphan(process, fate, why, served if fate is Fate.CONTINUE else None, row.identity)
+
+
+def close_left(process: Run, timeout: float) -> None:
+    """Lets nobody write any more to a service that is set aside: who writes is to find the run that holds the database. One that does not
+    remember the secret of its keepers stays as it is."""
+    definition = process.definition
+    if definition is not None:
+        served = Served(process.facts.name, process.name, definition.text, definition.secret, timeout=timeout)
+        served.serve(process)
+        served.close()
+
+
+def _is_of(row: Row, name: str, definition: Definition | None) -> bool:
+    """Whether a service of this name is of that database; of one that does not remember it the name decides."""
+    return row.plain_name == name if definition is None else row.identity == definition.identity
 
 
 def _is_behind(referee: Referee, row: Row, served: Served) -> bool:

@@ -26,7 +26,7 @@ class _Waiting:
 class Places:
     """The questions for a place of some generation or a later one that have no answer yet: one of each name for each connection."""
 
-    def __init__(self, where: Callable[[str], tuple[object, ...]]) -> None:
+    def __init__(self, where: Callable[[str, bool], tuple[object, ...]]) -> None:
         """`where` has the words of the answer as it is now."""
         self._where = where
         self._of_name: dict[str, dict[Line, _Waiting]] = {}
@@ -42,7 +42,7 @@ class Places:
         question for the same name that still waits is answered first, with what there is."""
         if (before := self._of_line.get(line, {}).get(name)) is not None:
             self._give_up(before)
-        words = self._where(name)
+        words = self._where(name, line.is_secure)
         if words[0] == "unknown" or _is_of(words, least) or not self._quota.acquire(line):
             line.say(*words)
             return
@@ -54,10 +54,11 @@ class Places:
     def changed(self, name: str) -> None:
         """There may be another place now."""
         if name in self._of_name:
-            words = self._where(name)
-            for waiting in [waiting for waiting in self._of_name[name].values() if _is_of(words, waiting.least)]:
-                self._leave(waiting)
-                waiting.line.say(*words)
+            words = {is_secure: self._where(name, is_secure) for is_secure in (False, True)}
+            for waiting in list(self._of_name[name].values()):
+                if _is_of(words[waiting.line.is_secure], waiting.least):
+                    self._leave(waiting)
+                    waiting.line.say(*words[waiting.line.is_secure])
 
     def gone(self, line: Line) -> None:
         """Nobody waits over it any more."""
@@ -66,7 +67,7 @@ class Places:
 
     def _give_up(self, waiting: _Waiting) -> None:
         self._leave(waiting)
-        waiting.line.say(*self._where(waiting.name))
+        waiting.line.say(*self._where(waiting.name, waiting.line.is_secure))
 
     def _leave(self, waiting: _Waiting) -> None:
         waiting.timer.cancel()

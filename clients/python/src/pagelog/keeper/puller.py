@@ -89,6 +89,10 @@ class Puller:
         """A pull as a frame, in this epoch or a later one that it was told of. It ends with the LSN and how many blocks."""
         return self._frame(Role.SECONDARY, max(epoch, self._epoch), Pull(1))
 
+    def audit_frame(self, epoch: int) -> bytes:
+        """A question for lines as a frame. It ends with the number of the first one and how many."""
+        return self._frame(Role.OPERATOR, max(epoch, self._epoch), Audit(1, AUDIT_MAX))
+
     def _frame(self, role: Role, epoch: int, act: Act) -> bytes:
         body = Request(Head(self._credentials.id, self._credentials.token, role, 0, epoch), act).encode()
         return len(body).to_bytes(4, "big") + body

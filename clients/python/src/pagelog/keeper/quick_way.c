@@ -1,151 +1,273 @@
 #include "quick_way_parts.h"
 
 #include <string.h>
-#include <sys/eventfd.h>
 
-/* Its beginning and its end. */
+/* One database: its beginning, what it waits for, and its end. */
 
-struct way *way_new(const struct way_start *start) {
-    struct way *way = calloc(1, sizeof *way);
-    if (way == NULL) {
-        return NULL;
+static bool copy_list(struct way *way, const struct way_start *start) {
+    if (start->list.id == NULL) {
+        return true;
     }
-    way->start = *start;
+    way->list = strdup(start->list.id);
+    way->list_of = strdup(start->list.of);
+    memcpy(way->asks + start->pull_len, start->audit, start->audit_len);
+    way->trail.is_kept = true;
+    way->trail.kept = start->list.kept;
+    way->trail.seen = start->list.seen;
+    memcpy(way->trail.digest, start->list.digest, WAY_SHA);
+    return way->list != NULL && way->list_of != NULL;
+}
+
+static bool copy(struct way *way, const struct way_start *start) {
     way->name = strdup(start->name);
     way->of = strdup(start->of);
     way->log = strdup(start->log);
     way->run = strdup(start->run);
-    way->keep_one = strdup(start->keep_one);
-    way->keep_block = strdup(start->keep_block);
-    way->flushed = start->flushed == NULL ? NULL : strdup(start->flushed);
-    way->pull = malloc(start->pull_len);
-    way->control = eventfd(0, EFD_NONBLOCK | EFD_CLOEXEC);
-    pthread_mutex_init(&way->lock, NULL);
-    if (way->name == NULL || way->of == NULL || way->log == NULL || way->run == NULL || way->keep_one == NULL || way->keep_block == NULL ||
-        (way->flushed == NULL) != (start->flushed == NULL) || way->pull == NULL || way->control < 0) {
-        way_free(way);
-        return NULL;
+    way->asks = start->pull_len <= FRAME_MOST && start->audit_len <= FRAME_MOST ? malloc(start->pull_len + start->audit_len) : NULL;
+    if (way->name == NULL || way->of == NULL || way->log == NULL || way->run == NULL || way->asks == NULL || !copy_list(way, start)) {
+        return false;
     }
-    memcpy(way->pull, start->pull, start->pull_len);
+    memcpy(way->asks, start->pull, start->pull_len);
     way->reached = start->reached;
     way->chain_len = start->chain_len;
     memcpy(way->chain, start->chain, start->chain_len);
+    return true;
+}
+
+/* Puts it among those that have orders. The lock is the caller's. */
+static void touch(struct way *way) {
+    if (!way->is_touched && !way->takes_none) {
+        way->is_touched = true;
+        way->next_touched = way->plane->touched;
+        way->plane->touched = way;
+    }
+}
+
+struct way *way_new(struct plane *plane, const struct way_start *start) {
+    struct way *way = calloc(1, sizeof *way);
+    if (way == NULL) {
+        return NULL;
+    }
+    way->kind = SERVICE;
+    way->plane = plane;
+    way->start = *start;
+    if (!copy(way, start)) {
+        way_free(way);
+        return NULL;
+    }
+    pthread_mutex_lock(&plane->lock);
+    bool takes = !plane->takes_none;
+    if (takes) {
+        way->is_new = true;
+        touch(way);
+    }
+    pthread_mutex_unlock(&plane->lock);
+    if (!takes) {
+        way_free(way);
+        return NULL;
+    }
+    wake(plane->control);
     return way;
 }
 
-static void free_lines(struct line *line) {
-    while (line != NULL) {
-        struct line *next = line->next;
-        free(line);
-        line = next;
-    }
-}
-
 void way_free(struct way *way) {
-    free_lines(way->added);
-    free_lines(way->back);
-    free_lines(way->lines);
-    if (way->control >= 0) {
-        close(way->control);
-    }
-    pthread_mutex_destroy(&way->lock);
     free(way->name);
     free(way->of);
     free(way->log);
     free(way->run);
-    free(way->keep_one);
-    free(way->keep_block);
-    free(way->flushed);
-    free(way->pull);
-    free(way->polled);
+    free(way->list);
+    free(way->list_of);
+    free(way->asks);
     free(way->batch.bytes);
+    free(way->trail.lines);
+    free(way->trail.data);
     free(way->in);
     free(way);
 }
 
-/* How long it may be as it is. */
-static int64_t until(const struct way *way) {
-    return way->phase == READY ? way->asked_at + way->start.idle_ms : way->due;
+/* What other threads call. */
+
+static struct line *new_line(struct way *way, int descriptor, uint64_t position, bool is_named) {
+    struct line *line = calloc(1, sizeof *line);
+    if (line != NULL) {
+        line->kind = LINE;
+        line->way = way;
+        line->descriptor = descriptor;
+        line->position = position;
+        line->is_named = is_named;
+    }
+    return line;
 }
 
-/* How long it may sleep. */
-static int sleep_ms(const struct way *way) {
-    int64_t wakes = until(way);
-    if (way->phase == CONFIRMING && way->confirm_at != 0 && way->confirm_at < wakes) {
-        wakes = way->confirm_at;
+int way_add(struct way *way, int descriptor, uint64_t position, int is_named) {
+    struct line *line = new_line(way, descriptor, position, is_named != 0);
+    if (line == NULL) {
+        return 0;
     }
-    int64_t left = wakes - now_ms();
-    return left > 0 ? (int)left : 0;
+    pthread_mutex_lock(&way->plane->lock);
+    bool takes = !way->takes_none;
+    if (takes) {
+        line->next = way->added;
+        way->added = line;
+        touch(way);
+    }
+    pthread_mutex_unlock(&way->plane->lock);
+    if (!takes) {
+        free(line);
+        return 0;
+    }
+    wake(way->plane->control);
+    return 1;
 }
 
-/* Waits for what comes first. Returns how many descriptors are ready; below 0 without memory. */
-static int wait_for_any(struct way *way) {
-    size_t most = way->count + 2;
-    if (most > way->polled_room) {
-        struct pollfd *grown = realloc(way->polled, 2 * most * sizeof *grown);
-        if (grown == NULL) {
-            return -1;
-        }
-        way->polled = grown;
-        way->polled_room = 2 * most;
-    }
-    way->polled[0] = (struct pollfd){.fd = way->control, .events = POLLIN};
-    int side = way->phase == PULLING ? way->start.service : has_statement(way) ? PQsocket(way->start.referee) : -1;
-    short events = POLLIN;
-    if (has_statement(way) && PQflush(way->start.referee) > 0) {
-        events |= POLLOUT;
-    }
-    way->polled[1] = (struct pollfd){.fd = side, .events = events};
-    size_t at = 2;
-    for (struct line *line = way->lines; line != NULL; line = line->next) {
-        way->polled[at++] = (struct pollfd){.fd = line->descriptor, .events = POLLIN};
-    }
-    int ready = poll(way->polled, at, sleep_ms(way));
-    return ready < 0 ? 1 : ready;
+static void set(struct way *way, bool *flag) {
+    pthread_mutex_lock(&way->plane->lock);
+    *flag = true;
+    touch(way);
+    pthread_mutex_unlock(&way->plane->lock);
+    wake(way->plane->control);
 }
 
-/* The time is over. */
-static enum way_end late(const struct way *way) {
-    return way->phase == READY ? WAY_IDLE : way->phase == PULLING ? WAY_SERVICE : WAY_DOUBT;
+void way_kick(struct way *way) {
+    set(way, &way->kicked);
 }
 
-/* A turn. Returns whether it goes on; if not, `end` says why. */
-static bool turn(struct way *way, enum way_end *end) {
-    bool goes_on = take_orders(way);
-    tell_all(way); /* who came with a question may ask for what is archived by now */
-    *end = WAY_STOPPED;
-    if (!goes_on && !has_statement(way)) {
-        return false;
-    }
-    if (way->phase == READY && is_wanted(way) && !begin(way)) {
-        *end = WAY_SERVICE;
-        return false;
-    }
-    int ready = confirm_again(way) ? wait_for_any(way) : -1;
-    if (ready < 0) {
-        *end = has_statement(way) ? WAY_DOUBT : WAY_NO_MEMORY;
-        return false;
-    }
-    hear_all(way);
-    if (way->polled[1].revents != 0) {
-        *end = way->phase == PULLING ? go_on_pulling(way) : go_on_keeping(way);
-    }
-    bool may_be_late = way->phase != READY || ready == 0; /* lines with something to say lengthen no other wait */
-    if (*end == WAY_STOPPED && may_be_late && now_ms() >= until(way)) {
-        *end = late(way);
-        return false;
-    }
-    return *end == WAY_STOPPED;
+void way_watch(struct way *way, int is_watched) {
+    pthread_mutex_lock(&way->plane->lock);
+    way->is_watched = is_watched != 0;
+    pthread_mutex_unlock(&way->plane->lock);
 }
 
-enum way_end way_run(struct way *way) {
-    enum way_end end;
-    PQsetnonblocking(way->start.referee, 1);
-    PQsetNoticeReceiver(way->start.referee, count_warning, way);
+void way_stop(struct way *way) {
+    set(way, &way->stops);
+}
+
+uint64_t way_reached(struct way *way, uint8_t chain[WAY_DIGEST], size_t *chain_len) {
+    pthread_mutex_lock(&way->plane->lock);
+    uint64_t reached = way->reached;
+    *chain_len = way->chain_len;
+    memcpy(chain, way->chain, way->chain_len);
+    pthread_mutex_unlock(&way->plane->lock);
+    return reached;
+}
+
+void way_list_of(const struct way *way, struct way_list *list) {
+    *list = (struct way_list){.kept = way->trail.kept, .seen = way->trail.seen};
+    memcpy(list->digest, way->trail.digest, WAY_SHA);
+}
+
+/* In the thread. */
+
+bool begin_way(struct way *way) {
+    struct plane *plane = way->plane;
+    way->next = plane->ways;
+    way->place = &plane->ways;
+    if (way->next != NULL) {
+        way->next->place = &way->next;
+    }
+    plane->ways = way;
     way->asked_at = now_ms();
-    while (turn(way, &end)) {
+    wake_by(plane, until(way));
+    return watch(plane, way->start.service, way);
+}
+
+static void take_line(struct way *way, struct line *line) {
+    line->next = way->lines;
+    line->place = &way->lines;
+    if (line->next != NULL) {
+        line->next->place = &line->next;
     }
-    PQsetNoticeReceiver(way->start.referee, count_warning, NULL);
-    leave(way);
-    return end;
+    way->lines = line;
+    way->asked_at = now_ms();
+    if (way->has_ended || !watch(way->plane, line->descriptor, line)) {
+        give_back(line);
+    }
+}
+
+void take_order(struct way *way, struct line *added, bool stops, bool kicked) {
+    while (added != NULL) {
+        struct line *next = added->next;
+        take_line(way, added);
+        added = next;
+    }
+    way->is_over |= stops;
+    if (kicked) {
+        way->rung = way->news_wanted = true;
+        way->asked_at = now_ms();
+    }
+    if (!way->has_ended) {
+        tell_all(way); /* who came with a question may ask for what is archived by now */
+        set_active(way);
+    }
+}
+
+void set_active(struct way *way) {
+    if (!way->is_active) {
+        way->is_active = true;
+        way->next_active = way->plane->active;
+        way->plane->active = way;
+    }
+}
+
+void advance(struct way *way) {
+    if (way->is_over && way->phase != KEEPING) {
+        end_way(way, WAY_STOPPED);
+    } else if (way->phase == READY && way->is_gone) {
+        end_way(way, WAY_SERVICE);
+    } else if (way->phase == READY && is_wanted(way)) {
+        begin_pull(way);
+    }
+}
+
+int64_t until(const struct way *way) {
+    bool is_at_it = way->phase == KEEPING || (way->phase == READY && way->rung);
+    return is_at_it ? INT64_MAX : way->phase == READY ? way->asked_at + way->start.idle_ms : way->due;
+}
+
+enum way_end late(const struct way *way) {
+    return way->phase == READY ? WAY_IDLE : way->phase == PULLING ? WAY_SERVICE : WAY_AWAY;
+}
+
+/* Takes nothing more from other threads. Returns the lines that they have given it. */
+static struct line *taken_last(struct way *way) {
+    struct plane *plane = way->plane;
+    pthread_mutex_lock(&plane->lock);
+    way->takes_none = true;
+    struct way **place = &plane->touched;
+    while (*place != NULL && *place != way) {
+        place = &(*place)->next_touched;
+    }
+    if (*place != NULL) {
+        *place = way->next_touched;
+    }
+    struct line *added = way->added;
+    way->added = NULL;
+    pthread_mutex_unlock(&plane->lock);
+    return added;
+}
+
+void end_way(struct way *way, enum way_end end) {
+    if (way->has_ended) {
+        return;
+    }
+    way->has_ended = true;
+    way->end = end;
+    watch_no_more(way->plane, way->start.service);
+    *way->place = way->next;
+    if (way->next != NULL) {
+        way->next->place = way->place;
+    }
+    if (way->phase == DUE) {
+        take_from_due(way);
+    }
+    struct line *added = taken_last(way);
+    while (way->lines != NULL) {
+        give_back(way->lines);
+    }
+    while (added != NULL) {
+        struct line *next = added->next;
+        take_line(way, added); /* and gives it back */
+        added = next;
+    }
+    say(way->plane, &way->ended, WAY_ENDED, way);
 }

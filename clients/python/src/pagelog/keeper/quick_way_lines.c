@@ -6,116 +6,15 @@
 #include <string.h>
 #include <sys/socket.h>
 
-/* What other threads call. */
-
-int way_add(struct way *way, int descriptor, uint64_t position, int is_named) {
-    struct line *line = calloc(1, sizeof *line);
-    if (line == NULL) {
-        return 0;
+void give_back(struct line *line) {
+    struct way *way = line->way;
+    watch_no_more(way->plane, line->descriptor);
+    *line->place = line->next;
+    if (line->next != NULL) {
+        line->next->place = line->place;
     }
-    line->descriptor = descriptor;
-    line->position = position;
-    line->is_named = is_named != 0;
-    pthread_mutex_lock(&way->lock);
-    bool takes = !way->ended;
-    if (takes) {
-        line->next = way->added;
-        way->added = line;
-    }
-    pthread_mutex_unlock(&way->lock);
-    if (!takes) {
-        free(line);
-        return 0;
-    }
-    wake(way->control);
-    return 1;
-}
-
-static void set(struct way *way, bool *flag) {
-    pthread_mutex_lock(&way->lock);
-    *flag = true;
-    pthread_mutex_unlock(&way->lock);
-    wake(way->control);
-}
-
-void way_kick(struct way *way) {
-    set(way, &way->kicked);
-}
-
-void way_stop(struct way *way) {
-    set(way, &way->stops);
-}
-
-uint64_t way_reached(struct way *way, uint8_t chain[WAY_DIGEST], size_t *chain_len) {
-    pthread_mutex_lock(&way->lock);
-    uint64_t reached = way->reached;
-    *chain_len = way->chain_len;
-    memcpy(chain, way->chain, way->chain_len);
-    pthread_mutex_unlock(&way->lock);
-    return reached;
-}
-
-int way_take(struct way *way, struct way_line *taken) {
-    pthread_mutex_lock(&way->lock);
-    struct line *line = way->back;
-    if (line != NULL) {
-        way->back = line->next;
-    }
-    pthread_mutex_unlock(&way->lock);
-    if (line == NULL) {
-        return 0;
-    }
-    taken->descriptor = line->descriptor;
-    taken->position = line->position;
-    taken->len = line->len;
-    memcpy(taken->data, line->data, line->len);
-    free(line);
-    return 1;
-}
-
-/* Lines. */
-
-/* Takes what other threads have left. Returns whether it goes on. */
-bool take_orders(struct way *way) {
-    bool is_woken = way->polled_room == 0 || way->polled[0].revents != 0;
-    if (!is_woken) {
-        return !way->is_over;
-    }
-    uint64_t count;
-    ssize_t got = read(way->control, &count, sizeof count);
-    (void)got;
-    pthread_mutex_lock(&way->lock);
-    struct line *added = way->added;
-    way->added = NULL;
-    way->is_over = way->stops;
-    if (way->kicked) {
-        way->kicked = false;
-        way->rung = way->news_wanted = true;
-    }
-    pthread_mutex_unlock(&way->lock);
-    if (added != NULL) {
-        way->asked_at = now_ms();
-    }
-    while (added != NULL) {
-        struct line *next = added->next;
-        added->next = way->lines;
-        way->lines = added;
-        way->count++;
-        added = next;
-    }
-    return !way->is_over;
-}
-
-/* Leaves the line at this place of the list to the keeper. */
-void give_back(struct way *way, struct line **place) {
-    struct line *line = *place;
-    *place = line->next;
-    way->count--;
-    pthread_mutex_lock(&way->lock);
-    line->next = way->back;
-    way->back = line;
-    pthread_mutex_unlock(&way->lock);
-    wake(way->start.news);
+    line->is_back = true;
+    say(way->plane, &line->event, WAY_LINE_BACK, line);
 }
 
 /* Says how far all is durable. False where the client takes no answer: then it is the keeper's, and so is its question. */
@@ -134,15 +33,12 @@ static bool tell(struct way *way, struct line *line) {
     return false;
 }
 
-/* Tells all who wait for something that is archived. Of a batch that is on its way nothing is. */
 void tell_all(struct way *way) {
-    for (struct line **place = &way->lines; *place != NULL;) {
-        struct line *line = *place;
+    for (struct line *line = way->lines, *next; line != NULL; line = next) {
+        next = line->next;
         bool is_due = line->position != 0 && line->position <= way->reached;
         if (is_due && !tell(way, line)) {
-            give_back(way, place);
-        } else {
-            place = &line->next;
+            give_back(line);
         }
     }
 }
@@ -221,24 +117,31 @@ static bool hear(struct way *way, struct line *line) {
     return line->len < sizeof line->data;
 }
 
+void hear_line(struct line *line) {
+    if (line->is_back) {
+        return;
+    }
+    set_active(line->way);
+    if (!hear(line->way, line)) {
+        give_back(line);
+    }
+}
+
 /* Going on. */
 
-/* Who waited before a pull that found nothing waits for what is not there: the keeper says so. */
 void leave_waits(struct way *way) {
-    for (struct line **place = &way->lines; *place != NULL;) {
-        if ((*place)->asked && (*place)->position != 0) {
-            give_back(way, place);
-        } else {
-            place = &(*place)->next;
+    for (struct line *line = way->lines, *next; line != NULL; line = next) {
+        next = line->next;
+        if (line->asked && line->position != 0) {
+            give_back(line);
         }
     }
 }
 
-/* What it was kicked for before the last pull is archived, or is not there. */
 void tell_news(struct way *way) {
     if (way->news_due) {
         way->news_due = false;
-        wake(way->start.news);
+        say(way->plane, &way->archived, WAY_ARCHIVED, way);
     }
 }
 
@@ -249,34 +152,4 @@ bool is_wanted(const struct way *way) {
         }
     }
     return way->rung;
-}
-
-/* Hears the lines that have something to say. They are in the order in which they were polled. */
-void hear_all(struct way *way) {
-    size_t at = 2;
-    for (struct line **place = &way->lines; *place != NULL; at++) {
-        if (way->polled[at].revents != 0 && !hear(way, *place)) {
-            give_back(way, place);
-        } else {
-            place = &(*place)->next;
-        }
-    }
-}
-
-/* All lines are the keeper's from now on. */
-void leave(struct way *way) {
-    pthread_mutex_lock(&way->lock);
-    way->ended = true;
-    struct line **place = &way->back;
-    while (*place != NULL) {
-        place = &(*place)->next;
-    }
-    *place = way->lines;
-    while (*place != NULL) {
-        place = &(*place)->next;
-    }
-    *place = way->added;
-    way->lines = way->added = NULL;
-    way->count = 0;
-    pthread_mutex_unlock(&way->lock);
 }

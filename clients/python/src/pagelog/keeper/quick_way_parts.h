@@ -6,24 +6,45 @@
 #include "quick_way.h"
 
 #include <libpq-fe.h>
-#include <poll.h>
 #include <pthread.h>
+#include <stdatomic.h>
 #include <stdbool.h>
 #include <stdlib.h>
 #include <time.h>
 #include <unistd.h>
 
-enum { NUMBER = 24 /* the room for a number as text */ };
+enum {
+    NUMBER = 24,                /* the room for a number as text */
+    SESSION_WAYS = 256,         /* the most databases of one statement */
+    SESSION_BYTES = 1 << 22,    /* the most bytes of one statement's blocks, but for those of one database more */
+    FEW = 64,                   /* batches of more blocks go alone, over the first session: what is behind holds up nobody */
+    PULL_MOST = 16,             /* blocks of one pull */
+    PULLS = 64,                 /* pulls in flight */
+    FRAME_MOST = 256,           /* the longest request, in bytes */
+    SESSION_VALUES = 24,
+};
 
-/* What it waits for. */
-enum phase { READY, PULLING, KEEPING, CONFIRMING };
+/* What epoll has is one of these; it begins with its kind. */
+enum kind { CONTROL, SERVICE, LINE, SESSION };
+
+/* Something that is said once the turn is over: until then nothing that was given back is freed. */
+struct event {
+    struct event *next;
+    enum way_news news;
+    void *owner;
+    bool is_queued;
+};
 
 struct line {
-    struct line *next;
+    enum kind kind;
+    struct event event;
+    struct line *next, **place;         /* in the list of its way */
+    struct way *way;
     int descriptor;
     uint64_t position;
     bool is_named;                      /* its client knows `of` */
     bool asked;                         /* it has waited since before the pull that is on its way */
+    bool is_back;                       /* it is the keeper's */
     size_t len;
     char data[WAY_LINE];
 };
@@ -38,31 +59,96 @@ struct batch {
     size_t chain_len;
 };
 
-struct way {
-    struct way_start start;
-    char *name, *of, *log, *run, *keep_one, *keep_block, *flushed;
-    uint8_t *pull;
-    int control;                        /* an eventfd: wakes `way_run` */
+/* Lines of the audit list, on their way into the trail. */
+struct trail {
+    bool is_kept;                       /* whether they are */
+    uint64_t kept, seen;                /* of those that are there */
+    uint8_t digest[WAY_SHA];
+    size_t count, questions;            /* of those that come with the batch */
+    uint8_t *lines;                     /* behind what is digested with them */
+    size_t lines_room;
+    uint64_t next_seen;
+    uint8_t next_digest[WAY_SHA];
+    char day[16];
+    uint8_t *data;                      /* the lines, packed */
+    size_t data_len, data_room;
+};
 
-    pthread_mutex_t lock;               /* for these */
-    bool stops, kicked, ended;
-    struct line *added, *back;
+/* What a way waits for: nothing, its service, a session, or the answer of one. */
+enum phase { READY, PULLING, DUE, KEEPING };
+
+struct way {
+    enum kind kind;
+    struct plane *plane;
+    struct way_start start;
+    char *name, *of, *log, *run, *list, *list_of;
+    uint8_t *asks;                      /* a pull, and behind it a question for lines */
+    struct way *next, **place;          /* of all */
+    struct way *next_due;
+    struct way *next_active;
+    struct event archived, ended;
+
+    /* Under the plane's lock. */
+    struct way *next_touched;
+    bool is_touched, is_new, stops, kicked, takes_none, is_watched;
+    struct line *added;
     uint64_t reached;
     uint8_t chain[WAY_DIGEST];
     size_t chain_len;
 
     enum phase phase;
     struct line *lines;
-    size_t count;
-    struct pollfd *polled;
-    size_t polled_room;
-    bool is_over, rung, news_wanted, news_due, warned, has_row;
+    bool is_over, is_gone, rung, news_wanted, news_due, is_active, has_ended;
+    enum way_end end;
     int64_t due, asked_at;
-    int64_t confirm_at;                 /* when a standby is asked for again that had not flushed all; 0: it is being asked for */
-    uint64_t wanted, standby;           /* how far one has to have flushed; how far it had; 0: not known */
     struct batch batch;
+    struct trail trail;
+    size_t pulls;                       /* whose replies are to come of the service */
+    size_t depth;                       /* how many the next ones may be */
+    size_t pulled;                      /* blocks of the last one; below the most where it has come to the end */
+    bool awaits_lines;
     uint8_t *in;
     size_t in_len, in_room;
+};
+
+enum answer { FREE, ANSWERING, CONFIRMING };
+
+struct session {
+    enum kind kind;
+    struct plane *plane;
+    struct session *next, **place;
+    struct event back;
+    uint64_t key;
+    PGconn *connection;
+    char *keep, *keep_block, *keep_lines, *flushed;
+    bool is_retracted;                  /* under the plane's lock */
+
+    enum answer answer;
+    bool warned, has_row, wants_out, leaves, is_unclean, is_back;
+    int64_t due;
+    int64_t confirm_at;                 /* when a standby is asked for again that had not flushed all; 0: it is being asked for */
+    uint64_t wanted, standby;           /* how far one has to have flushed; how far it had; 0: not known */
+    struct way *ways[SESSION_WAYS];     /* whose batches are on their way */
+    bool kept[SESSION_WAYS];
+    size_t count;
+    uint8_t *text;                      /* the values of the statement */
+    size_t len, room;
+};
+
+struct plane {
+    int epoll, control, news;
+
+    pthread_mutex_t lock;               /* for these */
+    bool stops, takes_none;
+    struct way *touched;
+    struct session *lent, *sessions;    /* those that come, and those that are there */
+    struct event *said, **last_said;
+
+    struct event *events, **last_event; /* of this turn */
+    struct way *ways, *active, *first_due, **last_due;
+    atomic_size_t due;                  /* how many there are of those */
+    int64_t wakes_at;
+    bool is_over;
 };
 
 static inline int64_t now_ms(void) {
@@ -91,17 +177,12 @@ static inline void wake(int descriptor) {
     (void)written; /* full: it is awake */
 }
 
-/* Whether a statement is on its way, or what became of it is not known for sure. */
-static inline bool has_statement(const struct way *way) {
-    return way->phase == KEEPING || way->phase == CONFIRMING;
-}
-
 /* Room for `len` bytes, of which some are kept. */
 static inline bool grow(uint8_t **bytes, size_t *room, size_t len) {
     if (len <= *room) {
         return true;
     }
-    size_t wanted = len < 65536 ? 65536 : len * 2;
+    size_t wanted = len < 2048 ? 4096 : len * 2;
     uint8_t *grown = realloc(*bytes, wanted);
     if (grown == NULL) {
         return false;
@@ -111,19 +192,52 @@ static inline bool grow(uint8_t **bytes, size_t *room, size_t len) {
     return true;
 }
 
+/* Looks at the clocks at this time at the latest. */
+static inline void wake_by(struct plane *plane, int64_t at) {
+    if (at < plane->wakes_at) {
+        plane->wakes_at = at;
+    }
+}
+
+/* quick_way_plane.c */
+
+/* Has epoll tell of a descriptor, or of it no more. */
+bool watch(struct plane *plane, int descriptor, void *of);
+void watch_no_more(struct plane *plane, int descriptor);
+
+/* Says so once the turn is over. */
+void say(struct plane *plane, struct event *event, enum way_news news, void *owner);
+
+/* quick_way.c */
+
+/* A way that was begun. False without memory. */
+bool begin_way(struct way *way);
+
+/* Takes what other threads have left of it. They have given it these lines. */
+void take_order(struct way *way, struct line *added, bool stops, bool kicked);
+
+/* Sees to it before the turn is over. */
+void set_active(struct way *way);
+
+/* Goes on where it waits for nothing. */
+void advance(struct way *way);
+
+void end_way(struct way *way, enum way_end end);
+
+/* How long it may be as it is, and why it ends then. */
+int64_t until(const struct way *way);
+enum way_end late(const struct way *way);
+
 /* quick_way_lines.c */
 
-/* Takes what other threads have left. Returns whether it goes on. */
-bool take_orders(struct way *way);
-
-/* Leaves the line at this place of the list to the keeper. */
-void give_back(struct way *way, struct line **place);
+/* Leaves the line to the keeper. */
+void give_back(struct line *line);
 
 /* Tells all who wait for something that is archived. Of a batch that is on its way nothing is. */
 void tell_all(struct way *way);
 
-/* Hears the lines that have something to say. They are in the order in which they were polled. */
-void hear_all(struct way *way);
+/* Hears a line that has something to say. */
+void hear_line(struct line *line);
 
 /* Who waited before a pull that found nothing waits for what is not there: the keeper says so. */
 void leave_waits(struct way *way);
@@ -133,26 +247,58 @@ void tell_news(struct way *way);
 
 bool is_wanted(const struct way *way);
 
-/* All lines are the keeper's from now on. */
-void leave(struct way *way);
-
 /* quick_way_service.c */
 
-bool begin(struct way *way);
+/* Asks for new blocks. */
+void begin_pull(struct way *way);
 
-/* What has come of the service. Returns WAY_STOPPED where it goes on. */
-enum way_end go_on_pulling(struct way *way);
+/* What has come of the service. */
+void go_on_pulling(struct way *way);
+
+/* quick_way_trail.c */
+
+/* None are there of a batch. */
+void forget_lines(struct trail *trail);
+
+/* Takes a reply with lines, which come behind those that are there. False where it is something else, or there are too many; `is_more`
+ * where there may be more. */
+bool take_lines(struct way *way, const uint8_t *body, size_t len, bool *is_more);
+
+/* Makes what is kept of them. */
+bool pack_lines(struct trail *trail);
+
+/* They are kept. */
+void enter_lines(struct trail *trail);
 
 /* quick_way_referee.c */
 
-/* Has the batch kept. */
-bool keep(struct way *way);
+/* One that was lent. */
+void begin_session(struct session *session);
 
-enum way_end go_on_keeping(struct way *way);
+/* Has a batch kept that is due, once a session is free. */
+void set_due(struct way *way);
 
-/* Asks for the standby again, if it is time to. False where that cannot be. */
-bool confirm_again(struct way *way);
+/* It is not due any more. */
+void take_from_due(struct way *way);
 
-void count_warning(void *argument, const PGresult *notice);
+/* Gives those that are due to the sessions that are free. */
+void keep_due(struct plane *plane);
+
+/* What has come of the answer, or that more of the statement can be sent. */
+void go_on_keeping(struct session *session);
+
+/* Gives it to the keeper if it is free. */
+void leave_if_free(struct session *session);
+
+/* Sees whether its time is over. Returns when it is to be seen next. */
+int64_t see_clock(struct session *session, int64_t now);
+
+void free_session(struct session *session);
+
+/* quick_way_statement.c */
+
+/* Sends the statement that keeps the batches of a session's ways. False where not all of it can be sent; it `is_asked` where some may
+ * have been. */
+bool send_batches(struct session *session, bool *is_asked);
 
 #endif

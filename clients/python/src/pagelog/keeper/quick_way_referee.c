@@ -1,25 +1,26 @@
 #include "quick_way_parts.h"
 
-#include <inttypes.h>
-#include <stdio.h>
 #include <string.h>
+#include <sys/epoll.h>
+
+/* Sessions of PostgreSQL: which statement is on its way over each, and what became of it. */
 
 enum {
-    ARRAY = WAY_BLOCKS * 11 + 3, /* the text of an array of numbers below 2^32 */
-    COMMON = 6,                  /* values that both statements begin with */
-    VALUES = COMMON + 4,
-    CONFIRM_MS = 2,              /* between two questions for the standby */
+    CONFIRM_MS = 2,     /* between two questions for the standby */
+    TRIMMED = 1 << 16,  /* bytes that a way may keep */
 };
 
-/* A value of a statement: bytes of this length, or where that is 0 a text. */
-struct value {
-    const char *text;
-    int len;
-};
+void free_session(struct session *session) {
+    free(session->keep);
+    free(session->keep_block);
+    free(session->keep_lines);
+    free(session->flushed);
+    free(session->text);
+    free(session);
+}
 
-/* Keeping. */
-
-void count_warning(void *argument, const PGresult *notice) {
+/* A warning puts in doubt what was asked, as where the wait for the standby was cancelled: it is committed here alone. */
+static void count_warning(void *argument, const PGresult *notice) {
     static const char *const harmless[] = {"NOTICE", "INFO", "LOG", "DEBUG"};
     const char *severity = PQresultErrorField(notice, PG_DIAG_SEVERITY_NONLOCALIZED);
     for (size_t at = 0; severity != NULL && at < sizeof harmless / sizeof *harmless; at++) {
@@ -28,143 +29,296 @@ void count_warning(void *argument, const PGresult *notice) {
         }
     }
     if (argument != NULL) {
-        ((struct way *)argument)->warned = true; /* as where the wait for the standby was cancelled: it is committed here alone */
+        ((struct session *)argument)->warned = true;
     }
 }
 
-static void put_array(char *text, const uint32_t *numbers, size_t count) {
-    char separator = '{';
-    for (size_t at = 0; at < count; at++) {
-        text += sprintf(text, "%c%" PRIu32, separator, numbers[at]);
-        separator = ',';
+/* It is the keeper's again. */
+static void leave(struct session *session) {
+    struct plane *plane = session->plane;
+    watch_no_more(plane, PQsocket(session->connection));
+    PQsetNoticeReceiver(session->connection, count_warning, NULL);
+    pthread_mutex_lock(&plane->lock);
+    *session->place = session->next;
+    if (session->next != NULL) {
+        session->next->place = session->place;
     }
-    strcpy(text, "}");
+    pthread_mutex_unlock(&plane->lock);
+    session->is_back = true;
+    say(plane, &session->back, WAY_SESSION_BACK, session);
 }
 
-/* Sends a statement, with the values that each has and then some of its own. False where not all of it can be sent. */
-static bool send_statement(struct way *way, const char *statement, size_t count, const struct value *own) {
-    struct batch *batch = &way->batch;
-    char reached[NUMBER], old[NUMBER], generation[NUMBER];
-    snprintf(reached, sizeof reached, "%" PRIu64, batch->reached);
-    snprintf(old, sizeof old, "%" PRIu64, way->reached);
-    snprintf(generation, sizeof generation, "%" PRIu64, way->start.generation);
-    const char *values[VALUES] = {reached, (char *)batch->chain, way->log, way->run, generation, old};
-    int lengths[VALUES] = {[1] = WAY_DIGEST}, formats[VALUES] = {[1] = 1};
-    for (size_t at = 0; at < count; at++) {
-        values[COMMON + at] = own[at].text;
-        lengths[COMMON + at] = own[at].len;
-        formats[COMMON + at] = own[at].len > 0;
+void leave_if_free(struct session *session) {
+    if (session->answer == FREE && (session->leaves || session->is_unclean)) {
+        leave(session);
     }
-    way->phase = KEEPING;
+}
+
+/* It cannot be known what became of its statement, or it is of no use any more. */
+static void lose(struct session *session) {
+    for (size_t at = 0; at < session->count; at++) {
+        end_way(session->ways[at], WAY_DOUBT);
+    }
+    session->count = 0;
+    session->answer = FREE;
+    session->is_unclean = true;
+}
+
+void begin_session(struct session *session) {
+    PQsetnonblocking(session->connection, 1);
+    PQsetNoticeReceiver(session->connection, count_warning, session);
+    session->is_unclean = !watch(session->plane, PQsocket(session->connection), session);
+}
+
+/* Has epoll tell when more can be sent, if there is more. False where the connection is of no use. */
+static bool flush(struct session *session) {
+    int left = PQflush(session->connection);
+    if (left >= 0 && (left > 0) != session->wants_out) {
+        session->wants_out = left > 0;
+        struct epoll_event event = {.events = EPOLLIN | (left > 0 ? EPOLLOUT : 0), .data.ptr = session};
+        return epoll_ctl(session->plane->epoll, EPOLL_CTL_MOD, PQsocket(session->connection), &event) == 0;
+    }
+    return left >= 0;
+}
+
+/* Those that are due. */
+
+void set_due(struct way *way) {
+    struct plane *plane = way->plane;
+    way->phase = DUE;
     way->due = now_ms() + way->start.referee_ms;
-    way->warned = way->has_row = false;
-    return PQsendQueryPrepared(way->start.referee, statement, COMMON + (int)count, values, lengths, formats, 0) == 1 &&
-           PQflush(way->start.referee) >= 0;
+    wake_by(plane, way->due);
+    way->next_due = NULL;
+    *plane->last_due = way;
+    plane->last_due = &way->next_due;
+    plane->due++;
 }
 
-/* Has the batch kept. */
-bool keep(struct way *way) {
-    struct batch *batch = &way->batch;
-    const struct value bytes = {(char *)batch->bytes, (int)batch->len};
-    char crcs[ARRAY], starts[ARRAY], lengths[ARRAY];
-    if (batch->blocks == 1) {
-        snprintf(crcs, sizeof crcs, "%" PRIu32, batch->crcs[0]);
-        return send_statement(way, way->keep_block, 2, (struct value[]){{crcs, 0}, bytes});
+void take_from_due(struct way *way) {
+    struct plane *plane = way->plane;
+    struct way **place = &plane->first_due;
+    while (*place != way) {
+        place = &(*place)->next_due;
     }
-    uint32_t start[WAY_BLOCKS], at = 1;
-    for (size_t block = 0; block < batch->blocks; block++) {
-        start[block] = at;
-        at += batch->lengths[block];
+    *place = way->next_due;
+    if (*place == NULL) {
+        plane->last_due = place;
     }
-    put_array(crcs, batch->crcs, batch->blocks);
-    put_array(starts, start, batch->blocks);
-    put_array(lengths, batch->lengths, batch->blocks);
-    return send_statement(way, way->keep_one, 4, (struct value[]){bytes, {crcs, 0}, {starts, 0}, {lengths, 0}});
+    plane->due--;
 }
 
-static uint64_t value_of(const PGresult *result, int column) {
-    return PQgetisnull(result, 0, column) ? 0 : strtoull(PQgetvalue(result, 0, column), NULL, 10);
+/* Gives it what is due: few blocks of each, or what one has that is behind. */
+static void take_due(struct session *session) {
+    struct plane *plane = session->plane;
+    bool takes_many = session == plane->sessions, has_many = false;
+    size_t bytes = 0;
+    session->count = 0;
+    for (struct way *way = plane->first_due, *next; way != NULL && !has_many; way = next) {
+        next = way->next_due;
+        bool is_many = way->batch.blocks > FEW;
+        if (session->count == SESSION_WAYS || bytes >= SESSION_BYTES || (is_many && (!takes_many || session->count > 0))) {
+            continue;
+        }
+        has_many = is_many;
+        take_from_due(way);
+        way->phase = KEEPING;
+        bytes += way->batch.len;
+        session->kept[session->count] = false;
+        session->ways[session->count++] = way;
+    }
 }
 
-/* Takes a result. Returns WAY_STOPPED where nothing stands against it. */
-static enum way_end take_result(struct way *way, const PGresult *result) {
-    if (PQresultStatus(result) != PGRES_TUPLES_OK || way->has_row) {
-        return WAY_DOUBT;
+/* Asks for what is due, if something is. */
+static void ask(struct session *session) {
+    struct plane *plane = session->plane;
+    take_due(session);
+    if (session->count == 0) {
+        return;
     }
-    if (PQntuples(result) == 0) {
-        return WAY_NOT_KEPT;
+    session->answer = ANSWERING;
+    session->due = now_ms() + session->ways[0]->start.referee_ms;
+    wake_by(plane, session->due);
+    session->warned = session->has_row = false;
+    bool is_asked = false;
+    if (send_batches(session, &is_asked) && flush(session)) {
+        return;
     }
-    way->has_row = true;
-    if (way->phase == CONFIRMING) {
-        way->wanted = way->wanted == 0 ? value_of(result, 0) : way->wanted;
-        way->standby = value_of(result, 1);
+    if (is_asked) {
+        lose(session);
+        return;
     }
-    return WAY_STOPPED;
+    for (size_t at = 0; at < session->count; at++) {
+        end_way(session->ways[at], WAY_NO_MEMORY);
+    }
+    session->count = 0;
+    session->answer = FREE;
 }
 
-/* Takes what has come of the answer. Returns WAY_STOPPED while nothing stands against it; `is_whole` once all has come. */
-static enum way_end take_answer(struct way *way, bool *is_whole) {
-    PGconn *referee = way->start.referee;
+void keep_due(struct plane *plane) {
+    for (struct session *session = plane->sessions; session != NULL && plane->first_due != NULL; session = session->next) {
+        if (session->answer == FREE && !session->leaves && !session->is_unclean) {
+            ask(session);
+        }
+    }
+}
+
+/* Answers. */
+
+static uint64_t value_of(const PGresult *result, int row, int column) {
+    return PQgetisnull(result, row, column) ? 0 : strtoull(PQgetvalue(result, row, column), NULL, 10);
+}
+
+static bool take_flushed(struct session *session, const PGresult *result) {
+    if (PQntuples(result) != 1) {
+        return false;
+    }
+    session->wanted = session->wanted == 0 ? value_of(result, 0, 0) : session->wanted;
+    session->standby = value_of(result, 0, 1);
+    return true;
+}
+
+/* Takes a result. False where it leaves in doubt what became of the statement. */
+static bool take_result(struct session *session, const PGresult *result) {
+    if (PQresultStatus(result) != PGRES_TUPLES_OK || session->has_row) {
+        return false;
+    }
+    session->has_row = true;
+    if (session->answer == CONFIRMING) {
+        return take_flushed(session, result);
+    }
+    for (int row = 0; row < PQntuples(result); row++) {
+        uint64_t number = value_of(result, row, 1);
+        if (number == 0 || number > session->count) {
+            return false;
+        }
+        session->kept[number - 1] = true;
+    }
+    return true;
+}
+
+/* Takes what has come of the answer. False where it leaves a doubt; `is_whole` once all has come. */
+static bool take_answer(struct session *session, bool *is_whole) {
+    PGconn *connection = session->connection;
     *is_whole = false;
-    if (PQconsumeInput(referee) == 0 || PQflush(referee) < 0) {
-        return WAY_DOUBT;
+    if (PQconsumeInput(connection) == 0 || !flush(session)) {
+        return false;
     }
-    while (PQisBusy(referee) == 0) {
-        PGresult *result = PQgetResult(referee);
+    while (session->answer != FREE && PQisBusy(connection) == 0) {
+        PGresult *result = PQgetResult(connection);
         if (result == NULL) { /* only now it is committed, and replicated */
-            *is_whole = way->has_row && !way->warned;
-            return *is_whole ? WAY_STOPPED : WAY_DOUBT;
+            *is_whole = true;
+            return session->has_row && !session->warned;
         }
-        enum way_end end = take_result(way, result);
+        bool goes_on = take_result(session, result);
         PQclear(result);
-        if (end != WAY_STOPPED) {
-            return end;
+        if (!goes_on) {
+            return false;
         }
     }
-    return WAY_STOPPED;
+    return true;
 }
 
 /* Asks how far a synchronous standby has flushed. False where that cannot be. */
-static bool confirm(struct way *way) {
-    way->phase = CONFIRMING;
-    way->confirm_at = 0;
-    way->warned = way->has_row = false;
-    return PQsendQueryPrepared(way->start.referee, way->flushed, 0, NULL, NULL, NULL, 0) == 1 && PQflush(way->start.referee) >= 0;
+static bool confirm(struct session *session) {
+    session->answer = CONFIRMING;
+    session->confirm_at = 0;
+    session->warned = session->has_row = false;
+    return PQsendQueryPrepared(session->connection, session->flushed, 0, NULL, NULL, NULL, 0) == 1 && flush(session);
 }
 
-bool confirm_again(struct way *way) {
-    return way->phase != CONFIRMING || way->confirm_at == 0 || now_ms() < way->confirm_at || confirm(way);
+/* Gives back what much has taken. */
+static void trim(struct way *way) {
+    if (way->batch.room > TRIMMED && !way->rung) {
+        free(way->batch.bytes);
+        free(way->in);
+        way->batch.bytes = way->in = NULL;
+        way->batch.room = way->in_room = 0;
+    }
+    if (way->trail.lines_room > TRIMMED) {
+        free(way->trail.lines);
+        way->trail.lines = NULL;
+        way->trail.lines_room = 0;
+    }
 }
 
 /* The batch is archived. */
 static void enter(struct way *way) {
-    pthread_mutex_lock(&way->lock);
+    pthread_mutex_lock(&way->plane->lock);
     way->reached = way->batch.reached;
     way->chain_len = way->batch.chain_len;
     memcpy(way->chain, way->batch.chain, way->batch.chain_len);
-    pthread_mutex_unlock(&way->lock);
+    way->news_due |= way->is_watched;
+    pthread_mutex_unlock(&way->plane->lock);
+    if (way->trail.count > 0) {
+        enter_lines(&way->trail);
+    }
     way->phase = READY;
+    way->rung |= way->pulled == PULL_MOST; /* there may be more */
+    trim(way);
+    wake_by(way->plane, until(way));
     if (way->start.noted != NULL && *way->start.noted < way->reached) {
         *way->start.noted = way->reached;
     }
     tell_all(way);
+    tell_news(way);
+    set_active(way);
 }
 
-enum way_end go_on_keeping(struct way *way) {
+/* All is known of the statement. Where a batch was not kept, the server may be an old leader, which has not heard of its run. */
+static void finish(struct session *session) {
+    for (size_t at = 0; at < session->count; at++) {
+        if (session->kept[at]) {
+            enter(session->ways[at]);
+        } else {
+            end_way(session->ways[at], WAY_NOT_KEPT);
+            session->is_unclean = true;
+        }
+    }
+    session->count = 0;
+    session->answer = FREE;
+}
+
+static bool has_kept(const struct session *session) {
+    for (size_t at = 0; at < session->count; at++) {
+        if (session->kept[at]) {
+            return true;
+        }
+    }
+    return false;
+}
+
+void go_on_keeping(struct session *session) {
     bool is_whole;
-    enum way_end end = take_answer(way, &is_whole);
-    if (!is_whole) {
-        return end;
+    if (session->is_back) {
+        return;
     }
-    if (way->phase == KEEPING && way->flushed != NULL) {
-        way->wanted = 0;
-        return confirm(way) ? WAY_STOPPED : WAY_DOUBT;
+    if (!take_answer(session, &is_whole)) {
+        lose(session);
+    } else if (is_whole && session->answer == ANSWERING && session->flushed != NULL && has_kept(session)) {
+        session->wanted = 0;
+        if (!confirm(session)) {
+            lose(session);
+        }
+    } else if (is_whole && session->answer == CONFIRMING && session->standby < session->wanted) {
+        session->confirm_at = now_ms() + CONFIRM_MS; /* others have written meanwhile; or there is no standby */
+        wake_by(session->plane, session->confirm_at);
+        if (session->standby == 0) {
+            lose(session);
+        }
+    } else if (is_whole) {
+        finish(session);
     }
-    if (way->phase == CONFIRMING && way->standby < way->wanted) { /* others have written meanwhile; or there is no standby */
-        way->confirm_at = now_ms() + CONFIRM_MS;
-        return way->standby == 0 ? WAY_DOUBT : WAY_STOPPED;
+}
+
+int64_t see_clock(struct session *session, int64_t now) {
+    if (session->answer == FREE) {
+        return INT64_MAX;
     }
-    enter(way);
-    tell_news(way);
-    return WAY_STOPPED;
+    bool asks_again = session->answer == CONFIRMING && session->confirm_at != 0 && now >= session->confirm_at;
+    if (now >= session->due || (asks_again && !confirm(session))) {
+        lose(session);
+        return INT64_MAX;
+    }
+    bool is_first = session->answer == CONFIRMING && session->confirm_at != 0 && session->confirm_at < session->due;
+    return is_first ? session->confirm_at : session->due;
 }

@@ -7,26 +7,59 @@
 #include <zlib.h>
 
 enum {
-    PULL_MOST = 16,  /* blocks of one reply */
     BLOCKS = 1,      /* the kind of such a reply */
     DENIED = 5,      /* that of a denial: its section, its row, and a value of 8 bytes */
     DENIED_LEN = 12,
     REPLY_HEAD = 11, /* its kind, the next LSN, and how many blocks */
     REPLY_MOST = 524363,
+    READ_MANY = 1 << 16, /* bytes that are read at once of many replies */
 };
 
 /* Pulling. */
 
-/* Asks for the blocks behind those of the batch. */
-static bool ask(struct way *way) {
-    put_number(way->pull + way->start.pull_len - 10, way->batch.reached + 1 - way->start.shift);
-    way->in_len = 0;
+/* Sends questions, and waits for the replies. False where the service does not take them. */
+static bool send_questions(struct way *way, const uint8_t *from, size_t len) {
     way->phase = PULLING;
     way->due = now_ms() + way->start.service_ms;
-    return send(way->start.service, way->pull, way->start.pull_len, MSG_NOSIGNAL) == (ssize_t)way->start.pull_len;
+    wake_by(way->plane, way->due);
+    return send(way->start.service, from, len, MSG_NOSIGNAL) == (ssize_t)len;
 }
 
-bool begin(struct way *way) {
+/* Puts the question for the lines behind those that are there. */
+static size_t put_audit(const struct way *way, uint8_t *to) {
+    memcpy(to, way->asks + way->start.pull_len, way->start.audit_len);
+    put_number(to + way->start.audit_len - 10, way->trail.kept + way->trail.count + 1);
+    return way->start.audit_len;
+}
+
+/* Asks for the blocks behind those of the batch, by several pulls where there may be many; and for the lines that speak of them in the same
+ * message: most batches are of one pull. False where the service takes no request. */
+static bool ask(struct way *way) {
+    uint8_t questions[(PULLS + 1) * FRAME_MOST];
+    size_t len = 0, room = (WAY_BLOCKS - way->batch.blocks) / PULL_MOST;
+    way->pulls = way->depth < room ? way->depth : room;
+    for (size_t pull = 0; pull < way->pulls; pull++) {
+        memcpy(questions + len, way->asks, way->start.pull_len);
+        len += way->start.pull_len;
+        put_number(questions + len - 10, way->batch.reached + 1 + pull * PULL_MOST - way->start.shift);
+    }
+    forget_lines(&way->trail);
+    way->awaits_lines = way->trail.is_kept;
+    if (way->awaits_lines) {
+        len += put_audit(way, questions + len);
+    }
+    way->pulled = PULL_MOST;
+    return send_questions(way, questions, len);
+}
+
+/* Asks for more lines. */
+static bool ask_lines(struct way *way) {
+    uint8_t question[FRAME_MOST];
+    way->awaits_lines = true;
+    return send_questions(way, question, put_audit(way, question));
+}
+
+void begin_pull(struct way *way) {
     for (struct line *line = way->lines; line != NULL; line = line->next) {
         line->asked = line->position != 0;
     }
@@ -37,7 +70,11 @@ bool begin(struct way *way) {
     way->batch.reached = way->reached;
     way->batch.chain_len = way->chain_len;
     memcpy(way->batch.chain, way->chain, way->chain_len);
-    return ask(way);
+    way->in_len = 0;
+    way->depth = 1;
+    if (!ask(way)) {
+        end_way(way, WAY_SERVICE);
+    }
 }
 
 /* Takes a block, whose LSN is the next one, under its position. */
@@ -94,11 +131,11 @@ static bool is_the_end(const struct way *way, const uint8_t *body, size_t len) {
            number_in(body + sizeof no_such_block, 8) == way->batch.reached - way->start.shift;
 }
 
-/* Reads what has come of a reply. False where the service is of no use, or `lacks_memory`; `is_whole` once it is. */
-static bool receive(struct way *way, bool *is_whole, bool *lacks_memory) {
+/* Reads what has come. False where the service is of no use, or `lacks_memory`. */
+static bool receive(struct way *way, bool *lacks_memory) {
     size_t wanted = way->in_len < 4 ? 4096 : 4 + (size_t)number_in(way->in, 4);
-    *is_whole = false;
-    if (!grow(&way->in, &way->in_room, wanted)) {
+    wanted = way->depth > 1 && wanted < READ_MANY ? READ_MANY : wanted;
+    if (!grow(&way->in, &way->in_room, wanted > way->in_len ? wanted : way->in_len + 1)) {
         *lacks_memory = true;
         return false;
     }
@@ -110,37 +147,104 @@ static bool receive(struct way *way, bool *is_whole, bool *lacks_memory) {
         return false;
     }
     way->in_len += (size_t)got;
-    size_t len = way->in_len < 4 ? REPLY_MOST : (size_t)number_in(way->in, 4);
-    *is_whole = way->in_len >= 4 + len;
-    return len <= REPLY_MOST;
+    return way->in_len < 4 || (size_t)number_in(way->in, 4) <= REPLY_MOST;
 }
 
-/* What has come of the service. Returns WAY_STOPPED where it goes on. */
-enum way_end go_on_pulling(struct way *way) {
+/* Takes a reply with blocks, or that of the end of the log. What was asked behind the end is passed over: it is asked for again. */
+static enum way_end take_pulled(struct way *way, const uint8_t *body, size_t len) {
     struct batch *batch = &way->batch;
-    bool is_whole, lacks_memory = false;
-    if (!receive(way, &is_whole, &lacks_memory)) {
-        return lacks_memory ? WAY_NO_MEMORY : WAY_SERVICE;
-    }
-    if (!is_whole) {
+    way->pulls--;
+    if (way->pulled < PULL_MOST) {
         return WAY_STOPPED;
     }
-    size_t count = 0, len = way->in_len - 4;
     if (!grow(&batch->bytes, &batch->room, batch->len + len)) {
         return WAY_NO_MEMORY;
     }
-    const uint8_t *body = way->in + 4;
-    if (len != (size_t)number_in(way->in, 4) || (!is_the_end(way, body, len) && !take_blocks(way, body, len, &count))) {
-        return WAY_SERVICE;
-    }
-    if (count == PULL_MOST && batch->blocks + PULL_MOST <= WAY_BLOCKS && batch->len < WAY_BYTES) {
-        return ask(way) ? WAY_STOPPED : WAY_SERVICE;
-    }
-    if (batch->blocks > 0) {
-        return keep(way) ? WAY_STOPPED : WAY_DOUBT;
-    }
+    way->pulled = 0;
+    size_t fits = len < WAY_BYTES / PULLS ? PULLS : WAY_BYTES / len;
+    way->depth = 4 * way->depth < fits ? 4 * way->depth : fits > 0 ? fits : 1;
+    return is_the_end(way, body, len) || take_blocks(way, body, len, &way->pulled) ? WAY_STOPPED : WAY_SERVICE;
+}
+
+/* Nothing was there. */
+static void rest(struct way *way) {
     way->phase = READY;
+    wake_by(way->plane, until(way));
     leave_waits(way);
     tell_news(way);
+    set_active(way);
+}
+
+/* Whether there may be more blocks, and room for them. */
+static bool pulls_on(const struct way *way) {
+    return way->pulled == PULL_MOST && way->batch.blocks + PULL_MOST <= WAY_BLOCKS && way->batch.len < WAY_BYTES;
+}
+
+/* Goes on once all has come that was asked for. Returns WAY_STOPPED where nothing stands against it. */
+static enum way_end go_on(struct way *way) {
+    if (way->in_len > 0) {
+        return WAY_SERVICE; /* more than was asked for */
+    }
+    if (pulls_on(way)) {
+        return ask(way) ? WAY_STOPPED : WAY_SERVICE;
+    }
+    if (way->batch.blocks == 0) {
+        rest(way);
+    } else if (way->trail.is_kept && !pack_lines(&way->trail)) {
+        return WAY_NO_MEMORY;
+    } else {
+        set_due(way);
+    }
     return WAY_STOPPED;
+}
+
+static enum way_end take_listed(struct way *way, const uint8_t *body, size_t len) {
+    bool is_more = false;
+    way->awaits_lines = false;
+    if (!take_lines(way, body, len, &is_more)) {
+        return WAY_LINES;
+    }
+    bool is_needed = way->batch.blocks > 0 && !pulls_on(way);
+    return !is_more || !is_needed || ask_lines(way) ? WAY_STOPPED : WAY_SERVICE;
+}
+
+/* Takes the replies that are whole. */
+static enum way_end take_replies(struct way *way) {
+    enum way_end end = WAY_STOPPED;
+    size_t at = 0;
+    while (end == WAY_STOPPED && (way->pulls > 0 || way->awaits_lines) && way->in_len - at >= 4) {
+        const uint8_t *body = way->in + at + 4;
+        size_t len = (size_t)number_in(way->in + at, 4);
+        if (way->in_len - at - 4 < len) {
+            break;
+        }
+        end = way->pulls > 0 ? take_pulled(way, body, len) : take_listed(way, body, len);
+        at += 4 + len;
+    }
+    way->in_len -= at;
+    memmove(way->in, way->in + at, way->in_len);
+    bool is_all = way->pulls == 0 && !way->awaits_lines;
+    return end == WAY_STOPPED && is_all ? go_on(way) : end;
+}
+
+/* Its service is gone, or has said what nobody asked. What is on its way is kept before the way ends. */
+static void leave_service(struct way *way) {
+    way->is_gone = true;
+    watch_no_more(way->plane, way->start.service);
+    set_active(way);
+}
+
+void go_on_pulling(struct way *way) {
+    bool lacks_memory = false;
+    if (way->has_ended) {
+        return;
+    }
+    if (way->phase != PULLING) {
+        leave_service(way);
+        return;
+    }
+    enum way_end end = receive(way, &lacks_memory) ? take_replies(way) : lacks_memory ? WAY_NO_MEMORY : WAY_SERVICE;
+    if (end != WAY_STOPPED) {
+        end_way(way, end);
+    }
 }

@@ -116,6 +116,8 @@ class Recorder:
         self._kept, self._last, self._pruned = 0, float("-inf"), 0
         self._said = ""
         self._is_over = self._met_other = self._is_without = False
+        self._wanted: Callable[[], None] | None = None
+        """How the list is asked back from one who keeps its lines in place of this."""
         self._tried_first = asyncio.Event()
         self._waited_until = time.monotonic() + (_PATIENCE * trails.ttl if is_waited_for else 0)
         self.is_ready = False
@@ -123,7 +125,11 @@ class Recorder:
 
     def look(self, entries: int) -> None:
         """The list is known to have so many entries."""
-        if entries - self._kept > FEW or time.monotonic() - self._last >= self._trails.while_few:
+        if self._wanted is not None:
+            if now() // DAY != self._pruned:
+                self._due.set()
+                self._wanted()
+        elif entries - self._kept > FEW or time.monotonic() - self._last >= self._trails.while_few:
             self._due.set()
 
     async def run(self) -> None:
@@ -194,6 +200,21 @@ class Recorder:
             self._keeper.resume(lines.one if is_kept else None)
         self._kept = lines.one.kept if is_kept else 0
         self._is_without = self._is_without and not is_kept
+
+    def lend(self, wanted: Callable[[], None]) -> TrailList | None:
+        """The list, for one who keeps its lines with the blocks in place of this, until `take_back`; None where that cannot be. `wanted` is
+        called once it is needed here, as once a day to prune. The turn is the caller's until then."""
+        one = None if self._is_over or self._keeper is None else self._keeper.list
+        self._wanted = None if one is None else wanted
+        return one
+
+    def take_back(self, one: TrailList | None) -> None:
+        """The list as it is by now; where that is not known, the trail is asked next time."""
+        self._wanted = None
+        if self._keeper is not None:
+            self._keeper.resume(one)
+        self._kept = 0 if one is None else one.kept
+        self._is_without = self._is_without and one is None
 
     async def end(self, why: str) -> None:
         """The list gets no more lines, for this reason."""

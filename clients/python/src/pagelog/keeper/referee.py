@@ -12,12 +12,13 @@ import re
 import threading
 import time
 import zlib
-from typing import Any, Iterable, Iterator, Mapping, Sequence
+from typing import TYPE_CHECKING, Any, Iterable, Iterator, Mapping, Sequence
+from uuid import uuid4
 
 import psycopg
 from psycopg.conninfo import conninfo_to_dict, make_conninfo
 
-from pagelog.errors import PagelogError
+from pagelog.errors import CredentialsError, PagelogError
 from pagelog.keeper import statements
 from pagelog.keeper.batches import array_of, statement_of, values_of
 from pagelog.keeper.hosts import shut_down, turn_hosts
@@ -25,6 +26,11 @@ from pagelog.keeper.fate import Fate, FateRow, Of, fate_of_rows
 from pagelog.keeper.refusal import is_refusal, line_of
 from pagelog.keeper.rows import Batch, Kept, Look, Named, Origin, Row, TableOf, Where, look_of
 from pagelog.keeper.schema import CHANNEL, FORMAT, FOUND, NUMBERED, VERSION, script
+from pagelog.keeper.sealed import Keys, NoKey, Stored
+
+if TYPE_CHECKING:
+    from pagelog.store.settings import StoreSettings
+    from pagelog.store.through import Through
 
 PIECE = 2048
 """How many blocks are read from the archive at once."""
@@ -48,6 +54,10 @@ class Refused(KeeperError):
     """PostgreSQL refused the statement, as for want of room on its disk. Nothing was changed."""
 
 
+class Sealed(Refused):
+    """A table of principals cannot be read here, or not be written: this process has not the key."""
+
+
 class Doubt(KeeperError):
     """It is not known whether the statement was committed and replicated. Another statement that writes finds out."""
 
@@ -68,6 +78,14 @@ class NameInUse(KeeperError):
 
 class BrokenArchive(KeeperError):
     """A block of the archive is missing or damaged; or all of them together are not those that were archived."""
+
+
+class BrokenBase(BrokenArchive):
+    """Images of a base are missing or damaged: an older base may do."""
+
+
+class Pruned(BrokenArchive):
+    """What was read was pruned meanwhile: who needs it begins again with a newer base."""
 
 
 def digest(chain: bytes, blocks: Iterable[bytes]) -> bytes:
@@ -98,18 +116,22 @@ class Referee:
     """One connection to PostgreSQL, made when it is needed. It is for one thread at a time, but for `cut`."""
 
     def __init__(self, url: str, me: str = "", run: str = "", *, patience: int = 5, listens: bool = False,
-                 requires_standby: bool = False) -> None:  # fmt: skip
-        """`me` and `run` are the name of the keeper and of its present life. `patience` is for a connect, in seconds.
+                 requires_standby: bool = False, keys: Keys = Keys(), store: StoreSettings | None = None) -> None:  # fmt: skip
+        """`me` and `run` are the name of the keeper and of its present life. `patience` is for a connect, in seconds. By `keys` tables of
+        principals are sealed.
 
         With `listens` the notifications of releases and wishes come, too. With `requires_standby` a statement raises `OneDisk`
-        unless a synchronous standby has flushed it.
+        unless a synchronous standby has flushed it. `store` is where blocks are that PostgreSQL has no more.
         """
         self.me = me
         self.run = run
-        self._options = options_of(url)
+        self._url, self._options = url, options_of(url)
         self._patience = patience
         self._listens = listens
         self._requires_standby = requires_standby
+        self.keys = keys
+        self._store = store
+        self._through: Through | None = None
         self._lines, self._beat = "", -1
         """What was registered, and the last beat that is known of this life."""
         self._connection: psycopg.Connection[Any] | None = None
@@ -124,6 +146,8 @@ class Referee:
         if self._connection is not None:
             self._connection.close()
         self._connection = None
+        if self._through is not None:
+            self._through.close()
 
     def cut(self) -> None:
         """Ends a statement that hangs in another thread: its connection is shut down. A cancel would let a commit pass."""
@@ -280,14 +304,14 @@ class Referee:
                           "WHERE pagelog_keeper.beat <= %s RETURNING beat", (self.me, self.run, lines, most))  # fmt: skip
         self._lines, self._beat = lines, found[0][0] if found else self._beat
 
-    def look(self, reached: Mapping[int, int] = {}, report: str | None = None) -> Look:
-        """Raises the own beat, says how far the own standbys are, and returns all there is.
+    def look(self, reached: Mapping[int, int] = {}, report: str | None = None, secure: str | None = None) -> Look:
+        """Raises the own beat, says how far the own standbys are, and `secure` of the own lines, and returns all there is.
 
         Raises `Superseded` where another keeper has the name by now: a later life's beat is above all of this one. An old primary that
         goes on knows an earlier life at most, or none, and says so at once, since it has nothing to wait for: another host is asked.
         Where all know no more, PostgreSQL went back, and the name is taken again.
         """
-        values = {"me": self.me, "run": self.run, "report": report, "logs": array_of(reached), "reached": array_of(reached.values())}
+        values = {"me": self.me, "run": self.run, "report": report, "secure": secure, "logs": array_of(reached), "reached": array_of(reached.values())}
         for _ in range(self._hosts):
             for beat, *found in self._ask(statements.LOOK, {**values, "beat": self._beat}):
                 if beat is None:
@@ -302,7 +326,7 @@ class Referee:
     def everything(self) -> Look:
         """What a look returns, for who is no keeper."""
         try:
-            [[_, *found]] = self._ask(statements.LOOK, {"me": "", "run": "", "report": None, "logs": "{}", "reached": "{}", "beat": 0})
+            [[_, *found]] = self._ask(statements.EVERYTHING)
         except Refused as error:
             if isinstance(error.__cause__, (psycopg.errors.UndefinedColumn, psycopg.errors.UndefinedTable)):
                 raise Refused(_older_tables(self._version())) from error
@@ -311,10 +335,32 @@ class Referee:
 
     def table(self, log: int) -> TableOf:
         """The newest table of a database, with its number."""
-        found = self._ask(statements.TABLE, (log,))
-        if not found:
+        found = self._table_row(log)
+        if found is None:
             raise Refused(f"the referee has no table of database {log}: it was dropped")
-        return TableOf(str(found[0][0]), bytes(found[0][1]), int(found[0][2]))
+        identity, number, text, secret, sealed, key = found
+        stored = Stored(str(text), bytes(secret), None if sealed is None else bytes(sealed), key)
+        try:
+            return TableOf(*self.keys.open(str(identity), stored), int(number), key)
+        except (NoKey, CredentialsError) as error:
+            raise Sealed(str(error)) from error
+
+    def _table_row(self, log: int) -> Sequence[Any] | None:
+        return next(iter(self._ask(statements.TABLE, (log,))), None)
+
+    def stored(self, identity: str, text: str, secret: bytes) -> dict[str, Any]:
+        """The columns of a table of principals, as they are written. Raises `Sealed`."""
+        try:
+            return vars(self.keys.store(identity, text, secret))
+        except CredentialsError as error:
+            raise Sealed(str(error)) from error
+
+    def seal(self, row: Row) -> bool:
+        """Writes the newest table of a database anew, by the first key. False where it is sealed by that already, or was changed."""
+        table = self.table(row.id)
+        stored = self.stored(row.identity, table.text, table.secret)
+        values = {"id": row.id, "identity": row.identity, "number": table.number, "seen_key": table.key, **stored}
+        return stored["key"] != table.key and bool(self._ask(statements.SEAL, values))
 
     # Who holds a database.
 
@@ -358,7 +404,7 @@ class Referee:
         """As `take`, with a service that has more than is archived, and is archived again from `start` on, a position with its digest.
         Its generation is `least` at least."""
         values = {"id": seen.id, "generation": seen.generation, "archived": seen.archived, "chain": seen.chain, "seen_run": seen.run,
-                  "run": run, "me": self.me, "beat": beat, "least": least, "address": where.address, "shift": where.shift,
+                  "run": run, "me": self.me, "beat": beat, "least": least, "address": where.address, "shift": where.shift, "secure": where.secure,
                   "images": where.images, "start": start[0], "start_chain": start[1], "table_number": table_number}  # fmt: skip
         found = self._ask(statements.CONTINUE, values)
         return Kept(found[0][1], bytes(found[0][2]), found[0][0]) if found else None
@@ -410,6 +456,11 @@ class Referee:
         found = self._ask("UPDATE pagelog_log SET archived = archived WHERE id = %s RETURNING archived, chain, generation, run", (log,))
         return Kept(found[0][0], bytes(found[0][1]), found[0][2]) if found and found[0][3] == run else None
 
+    def lacks(self, row: Row) -> bool:
+        """Whether PostgreSQL has no more what a look has shown of a database: it went back meanwhile."""
+        found = self._ask("SELECT archived, chain FROM pagelog_log WHERE id = %s AND identity = %s::uuid AND NOT dropped", (row.id, row.identity))
+        return not found or not (found[0][0] > row.archived or (found[0][0], bytes(found[0][1])) == (row.archived, row.chain))
+
     def fate(self, name: str, generation: int) -> int | None:
         """The position at which a generation ended. All up to it is durable, and nothing above it will ever be.
 
@@ -431,22 +482,57 @@ class Referee:
         for start in range(first, last + 1, PIECE):
             yield self._piece(log, start, min(last, start + PIECE - 1))
 
-    def few_blocks(self, log: int, first: int, last: int) -> list[bytes]:
-        """The same, at most `PIECE`, for one whom another cuts: a take waits for no thread that would have to be begun for that."""
-        return _checked(self._ask(statements.PIECE, (log, first, last), binary=True), first, last)
+    def few_blocks(self, log: int, first: int, last: int) -> list[bytes] | None:
+        """The same, at most `PIECE`, for one whom another cuts: a take waits for no thread that would have to be begun for that. None where
+        the store has some of them."""
+        rows = self._ask(statements.PIECE, (log, first, last), binary=True)
+        if rows[0][0] <= last - first and self._ask(statements.STORED, (log, first)):
+            return None
+        return _checked(rows, first, last)
 
     def _piece(self, log: int, first: int, last: int) -> list[bytes]:
-        return _checked(self._ask_bounded(statements.PIECE, (log, first, last), binary=True), first, last)
+        rows = self._ask_bounded(statements.PIECE, (log, first, last), binary=True)
+        try:
+            if rows[0][0] <= last - first and self.has_stored(log, first):
+                return self.through.blocks(log, first, last)
+            return _checked(rows, first, last)
+        except BrokenArchive as error:
+            if self._ask_bounded(statements.PRUNED, {"log": log, "first": first}):
+                raise Pruned(f"the archived blocks {first} to {last} were pruned meanwhile") from error
+            raise
+
+    def piece_here(self, log: int, first: int, last: int) -> list[bytes] | None:
+        """What PostgreSQL has of these blocks; None where it has not all of them."""
+        rows = self._ask_bounded(statements.PIECE, (log, first, last), binary=True)
+        return _checked(rows, first, last) if rows[0][0] > last - first else None
+
+    def has_stored(self, log: int, position: int = 0) -> bool:
+        """Whether the store has blocks from this position on that PostgreSQL may have no more."""
+        return bool(self._ask_bounded(statements.STORED, (log, position)))
+
+    def another(self) -> Referee:
+        """One with a connection of its own, which reads what this does."""
+        return Referee(self._url, self.me, self.run, patience=self._patience, store=self._store)
+
+    @property
+    def through(self) -> Through:
+        """What this reads of the store."""
+        if self._through is None:
+            from pagelog.store.through import Through  # which needs zstd
+
+            self._through = Through(self, self._store)
+        return self._through
 
     # Standbys.
 
-    def stand_by(self, log: int, address: str, run: str, reached: int, shift: int = 0, images: int = 0, table_number: int = 1) -> None:
+    def stand_by(self, log: int, address: str, run: str, reached: int, shift: int = 0, images: int = 0, table_number: int = 1,
+                 secure: str | None = None) -> None:  # fmt: skip
         """Says where this keeper has a standby, where positions are there, and which table it has."""
-        self._ask("INSERT INTO pagelog_standby (log, keeper, address, run, reached, shift, images, table_number) "
-                  "VALUES (%s, %s, %s, %s, %s, %s, %s, %s) "
+        self._ask("INSERT INTO pagelog_standby (log, keeper, address, run, reached, shift, images, table_number, secure) "
+                  "VALUES (%s, %s, %s, %s, %s, %s, %s, %s, %s) "
                   "ON CONFLICT (log, keeper) DO UPDATE SET address = excluded.address, run = excluded.run, reached = excluded.reached, "
-                  "shift = excluded.shift, images = excluded.images, table_number = excluded.table_number RETURNING log",
-                  (log, self.me, address, run, reached, shift, images, table_number))  # fmt: skip
+                  "shift = excluded.shift, images = excluded.images, table_number = excluded.table_number, secure = excluded.secure "
+                  "RETURNING log", (log, self.me, address, run, reached, shift, images, table_number, secure))  # fmt: skip
 
     def stand_down(self, log: int) -> None:
         """Says that this keeper has no standby any more."""
@@ -458,13 +544,8 @@ class Referee:
         """A new named database with this table. False where there is one of this name. Its generations go on above those of the dropped
         ones of its name, behind a gap: a number is never given twice, and to a client of version 1 the next one says that its own run has
         ended there."""
-        made = self._ask(
-            "WITH made AS (INSERT INTO pagelog_log (name, format, archived, epoch, next_generation) VALUES (%s, %s, 0, 1, "
-            "COALESCE((SELECT max(d.next_generation) + 1 FROM pagelog_log d WHERE d.dropped AND d.name = %s || '!' || d.id), 1)) "
-            "ON CONFLICT (name) DO NOTHING RETURNING id, name) "
-            "INSERT INTO pagelog_table (log, text, secret) SELECT id, %s, %s FROM made "
-            f"RETURNING log, pg_notify('{CHANNEL}', '')", (name, FORMAT, name, table, secret))  # fmt: skip
-        return bool(made)
+        identity = str(uuid4())
+        return bool(self._ask(statements.CREATE, {"name": name, "identity": identity, **self.stored(identity, table, secret)}))
 
     def keep_strangers_out(self) -> bool:
         """Takes from PUBLIC the right to connect to the database: who has it can send notifications. False where this role may not, or
@@ -488,8 +569,9 @@ class Referee:
         has_trail = self._ask("SELECT to_regclass('pagelog_trail_list') IS NOT NULL") == [(True,)]
         dropped = bool(self._ask(statements.DROP_WITH_TRAIL if has_trail else statements.DROP, {"name": name}))
         old = "SELECT id FROM pagelog_log WHERE dropped AND name = %s || '!' || id"
-        gone = sum(len(self._ask(f"DELETE FROM {table} WHERE log IN ({old}) RETURNING log", (name,)))
-                   for table in ("pagelog_table", "pagelog_base"))  # fmt: skip
+        gone = sum(len(self._ask(f"DELETE FROM {table} WHERE log IN ({old}) RETURNING log", (name,))) for table in ("pagelog_table", "pagelog_store"))
+        for table, key in (("pagelog_base", "manifest"), ("pagelog_object", "key"), ("pagelog_pack", "key")):  # behind what a seal needs
+            gone += len(self._ask(statements.DROP_OBJECTS.format(table=table, key=key, old=old), (name,)))
         for table, key, count in (("pagelog_image", "log, range, base", 1000), ("pagelog_block", "log, lsn", 10_000)):
             some = f"SELECT {key} FROM {table} WHERE log IN ({old}) LIMIT {count}"
             while found := self._ask(f"DELETE FROM {table} WHERE ({key}) IN ({some}) RETURNING log", (name,)):
@@ -498,7 +580,10 @@ class Referee:
 
     def set_table(self, row: Row, text: str, seen: int) -> int | None:
         """Gives a database another table, and returns its number; None where that of number `seen` is not the newest any more."""
-        found = self._ask_past(row.holder, statements.SET_TABLE, {"id": row.id, "identity": row.identity, "text": text, "seen": seen})
+        if self._table_row(row.id) is None:
+            return None
+        stored = self.stored(row.identity, text, self.table(row.id).secret)
+        found = self._ask_past(row.holder, statements.SET_TABLE, {"id": row.id, "identity": row.identity, "seen": seen, **stored})
         return int(found[0][0]) if found else None
 
     def end_run(self, row: Row) -> int | None:
@@ -524,7 +609,7 @@ class Referee:
 
     def put_table_back(self, log: int, identity: str, table: TableOf) -> bool:
         """PostgreSQL went back, and has an older table than this. Returns whether it had."""
-        values = {"id": log, "identity": identity, "number": table.number, "text": table.text}
+        values = {"id": log, "identity": identity, "number": table.number, **self.stored(identity, table.text, table.secret)}
         return bool(self._ask(statements.PUT_TABLE_BACK, values))
 
     def pause(self, name: str | None, paused: bool) -> int:

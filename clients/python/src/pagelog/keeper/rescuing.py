@@ -4,23 +4,25 @@ it before all of it is there and was read again."""
 from __future__ import annotations
 
 import secrets
+from uuid import uuid4
 
 import psycopg
 
 from pagelog.keeper.bases import NOTHING, Base, Bases
+from pagelog.keeper.definition import Definition
 from pagelog.keeper.images import Replay
 from pagelog.keeper.referee import BrokenArchive, KeeperError, Referee, Refused, digest
-from pagelog.keeper.rows import Batch, Row
+from pagelog.keeper.rows import Batch
 from pagelog.keeper.schema import CHANNEL, FORMAT
 from pagelog.keeper.served import Served
 
 _MAKE = f"""
 WITH made AS (
-  INSERT INTO pagelog_log (id, name, format, archived, epoch, chain, read_only, dropped, run, ancestor)
-  SELECT n, %(name)s || '!' || n, {FORMAT}, 0, 1, ''::bytea, true, true, %(run)s,
-    (SELECT COALESCE(ancestor, name) FROM pagelog_log WHERE id = %(log)s)
+  INSERT INTO pagelog_log (identity, id, name, format, archived, epoch, chain, read_only, dropped, run, ancestor)
+  SELECT %(identity)s::uuid, n, %(name)s || '!' || n, {FORMAT}, 0, 1, ''::bytea, true, true, %(run)s, %(ancestor)s
   FROM nextval(pg_get_serial_sequence('pagelog_log', 'id')) n RETURNING id)
-INSERT INTO pagelog_table (log, text, secret) SELECT made.id, text, secret FROM made, pagelog_table WHERE log = %(log)s RETURNING log
+INSERT INTO pagelog_table (log, text, secret, sealed, key)
+SELECT made.id, %(text)s, %(secret)s::bytea, %(sealed)s::bytea, %(key)s::text FROM made RETURNING log
 """
 _BASED = "UPDATE pagelog_log SET archived = %(base)s, chain = %(chain)b::bytea WHERE id = %(id)s AND run = %(run)s RETURNING id"
 _SHOW = f"""
@@ -30,8 +32,9 @@ SELECT id, pg_notify('{CHANNEL}', '') FROM shown
 """
 
 
-def saved_as(referee: Referee, row: Row, served: Served, name: str) -> int:
-    """Makes a database of this name of all that the service has, and returns the position at which that ends.
+def saved_as(referee: Referee, of: Definition, served: Served, name: str) -> int:
+    """Makes a database of this name of all that the service has, with the table of what it is `of`, and returns the position at which that
+    ends.
 
     Raises `KeeperError` where there is one of this name, or what was saved is not what the service has. What was begun then goes with
     `drop`, as what a drop has left.
@@ -39,7 +42,9 @@ def saved_as(referee: Referee, row: Row, served: Served, name: str) -> int:
     if referee._ask("SELECT 1 FROM pagelog_log WHERE name = %s", (name,)):
         raise KeeperError(f"there is a database {name}")
     run = f"rescue {secrets.token_hex(8)}"
-    [[log]] = referee._ask(_MAKE, {"name": name, "run": run, "log": row.id})
+    ancestor, identity = served.database if of.ancestor is None else of.ancestor, str(uuid4())
+    [[log]] = referee._ask(_MAKE, {"name": name, "run": run, "ancestor": ancestor, "identity": identity,
+                                   **referee.stored(identity, of.text, of.secret)})  # fmt: skip
     end = served.end_of_log()
     base = _base(referee, served, log, run)
     chain = _blocks(referee, served, Batch(log, run, 0, base.position, base.chain, ()), end)

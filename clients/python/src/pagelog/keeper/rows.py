@@ -5,6 +5,8 @@ from __future__ import annotations
 from dataclasses import dataclass, field
 from typing import TYPE_CHECKING, Any, Mapping, NamedTuple
 
+from pagelog.keeper.ways import address_for, way_of
+
 if TYPE_CHECKING:
     from pagelog.trail.store import TrailList
 
@@ -44,6 +46,14 @@ class Row:
     """That of its newest table."""
     run_table: int = 1
     """That of the table that its run was started with."""
+    copied: int = 0
+    """The position that it began with, as a copy: up to there its pages are those of others."""
+    secure: str | None = None
+    """The way to its run by TLS, as `ways` reads it."""
+
+    def told(self, is_secure: bool) -> str | None:
+        """Its address, as it is told to who came by TLS or without."""
+        return address_for(self.address, way_of(self.secure, self.run), is_secure=is_secure)
 
     @property
     def plain_name(self) -> str:
@@ -65,6 +75,8 @@ class Where:
     shift: int | None = None
     images: int | None = None
     chain: bytes | None = field(default=None, repr=False)
+    secure: str | None = None
+    """The way to it by TLS, as the column has it."""
 
 
 class TableOf(NamedTuple):
@@ -73,6 +85,8 @@ class TableOf(NamedTuple):
     text: str
     secret: bytes
     number: int
+    key: str | None = None
+    """The id of the key by which it is sealed in PostgreSQL; None: it is plain there."""
 
 
 @dataclass(frozen=True)
@@ -84,6 +98,12 @@ class KeeperRow:
     lines: str
     beat: int
     report: Mapping[str, Any] = field(default_factory=dict)
+    secure: str | None = None
+    """The way to its lines by TLS, as `ways` reads it."""
+
+    def told(self, is_secure: bool) -> str | None:
+        """Where its lines are, as it is told to who came by TLS or without."""
+        return address_for(self.lines, way_of(self.secure, self.run), is_secure=is_secure)
 
 
 @dataclass(frozen=True)
@@ -113,6 +133,42 @@ class StandbyRow:
     images: int = 0
     table_number: int = 1
     """That of the table that its service was started with."""
+    secure: str | None = None
+    """The way to it by TLS, as `ways` reads it."""
+
+    def told(self, is_secure: bool) -> str | None:
+        """Its address, as it is told to who came by TLS or without."""
+        return address_for(self.address, way_of(self.secure, self.run), is_secure=is_secure)
+
+
+@dataclass(frozen=True)
+class PagesRow:
+    """A page server of a database, on this machine: it has pages from position `oldest` to `position`. One that has ended in order has no
+    address."""
+
+    run: str
+    log: int
+    machine: str
+    address: str
+    position: int
+    oldest: int
+    table_number: int
+    """That of the table that decides there."""
+    beat: int
+    aside: tuple[Mapping[str, Any], ...] = ()
+    """Stores of the same database that were set aside there: of each its run, the positions `oldest` to `last`, and its folder."""
+    silent: float = 0.0
+    """For how many seconds it has not been heard, by PostgreSQL's clock."""
+
+    @property
+    def is_gone(self) -> bool:
+        """Whether it has not been heard for so long that it is not alive, or cannot reach PostgreSQL: it is heard each second."""
+        return self.silent > 10.0 and not self.has_ended
+
+    @property
+    def has_ended(self) -> bool:
+        """Whether it has ended in order, so that nobody is answered there."""
+        return not self.address
 
 
 @dataclass(frozen=True)
@@ -142,6 +198,7 @@ class Look:
     keepers: tuple[KeeperRow, ...] = ()
     standbys: tuple[StandbyRow, ...] = ()
     synchronous: Synchronous = Synchronous()
+    pages: tuple[PagesRow, ...] = ()
 
     def row(self, name: str) -> Row | None:
         """The database of this name, if it was not dropped."""
@@ -154,6 +211,10 @@ class Look:
     def decisions_of(self, row: Row) -> dict[str, str]:
         """What each keeper has decided of a database, and why, as its last report says; an older keeper reports none."""
         return {keeper.name: found["why"] for keeper in self.keepers if "why" in (found := keeper.report.get(row.name, {}))}
+
+    def pages_of(self, log: int) -> tuple[PagesRow, ...]:
+        """The page servers of a database, those that have gone among them."""
+        return tuple(each for each in self.pages if each.log == log)
 
     def standbys_of(self, log: int) -> tuple[StandbyRow, ...]:
         """The standbys of a database."""
@@ -211,8 +272,9 @@ def told(holder: str | None, why: Mapping[str, str]) -> str:
     return why.get(holder, "") if holder is not None else "; ".join(f"{keeper} says: {why[keeper]}" for keeper in sorted(why))
 
 
-def look_of(keepers: list[Any], rows: list[Any], standbys: list[Any], names: str, count: int | None) -> Look:
+def look_of(keepers: list[Any], rows: list[Any], standbys: list[Any], names: str, count: int | None, pages: list[Any]) -> Look:
     """From the columns of the statement."""
     return Look(tuple(map(Row.of, rows)), tuple(KeeperRow(**found) for found in keepers),
-                tuple(StandbyRow(**found) for found in standbys), Synchronous(names, count))  # fmt: skip
+                tuple(StandbyRow(**found) for found in standbys), Synchronous(names, count),
+                tuple(PagesRow(**found) for found in pages))  # fmt: skip
 

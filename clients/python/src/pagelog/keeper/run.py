@@ -6,21 +6,29 @@ import json
 import os
 import secrets
 import select
-import signal
 import subprocess
-from contextlib import suppress
+from contextlib import contextmanager, suppress
 from dataclasses import dataclass, field, fields, replace
 from pathlib import Path
 from typing import Any, Iterator, Mapping
 
 from pagelog.errors import PagelogError
-from pagelog.keeper.acknowledged import Acknowledged, acknowledged_of, new_memory
+from pagelog.keeper.acknowledged import Acknowledged, acknowledged_of, memory_of, new_memory
+from pagelog.keeper.definition import Definition, Seal
+from pagelog.keeper.runner import Hired, Runner, RunnerError, is_allowed, kill
 from pagelog.keeper.table import KEEPER
 
 WORKERS = 4
 """Threads of a service."""
+FRONT = "~front"
+"""In what is noted of the front of a keeper, in place of a database's name: no database has it. A keeper that knows of no fronts ends it, as
+a service that did not come to listen."""
 _END = 10.0
 """For how many seconds the end of a process that was killed is waited for."""
+
+
+Child = subprocess.Popen[bytes] | Hired
+"""A process that this one has started, or has had started."""
 
 
 class NotStarted(PagelogError):
@@ -29,13 +37,15 @@ class NotStarted(PagelogError):
 
 @dataclass(frozen=True)
 class Program:
-    """How services are started: the program, the host that they listen at, the folder of their files, and the audit list."""
+    """How services are started: the program, the host that they listen at, the folder of their files, the audit list, and by whom: a
+    runner, or None for the keeper itself, as its own user."""
 
     path: str
     host: str
     folder: Path
     audit: int = 1 << 24
     patience: float = 60.0
+    runner: Runner | None = None
 
 
 @dataclass(frozen=True)
@@ -52,6 +62,8 @@ class Facts:
     """Whether it may be the only copy of something, so that no keeper ends it; it has positions as its run had them."""
     shift: int = 0
     images: int = 0
+    runner: str | None = None
+    """The socket of the runner that started it, as another user's process; None of one of the keeper's own user."""
     others: Mapping[str, Any] = field(default_factory=dict)
     """What a later keeper has noted, and this one does not know: it is kept."""
 
@@ -64,8 +76,8 @@ class Facts:
 
     @property
     def text(self) -> str:
-        """That of its file."""
-        known = {key: value for key, value in vars(self).items() if key != "others"}
+        """That of its file. 0.1.0 takes none with a fact that it does not know, and could not end a process of another user."""
+        known = {key: value for key, value in vars(self).items() if key != "others" and (key != "runner" or value is not None)}
         return json.dumps({**self.others, **known})
 
     @property
@@ -91,7 +103,7 @@ class Run:
     """A running service, that this keeper started or adopted. It outlives its keeper."""
 
     def __init__(
-        self, folder: Path, facts: Facts, descriptor: int, child: subprocess.Popen[bytes] | None = None, acknowledged: Acknowledged | None = None
+        self, folder: Path, facts: Facts, descriptor: int, child: Child | None = None, acknowledged: Acknowledged | None = None
     ) -> None:
         self.folder = folder
         self.facts = facts
@@ -102,11 +114,39 @@ class Run:
 
     @property
     def acknowledged(self) -> Acknowledged | None:
-        """Up to where it was acknowledged as archived; None of a process that an older keeper has started."""
+        """Up to where it was acknowledged as archived; None of a process that an older keeper has started. Raises `RunnerError`."""
         if self._acknowledged is None and self.descriptor >= 0:
-            acknowledged = acknowledged_of(self.facts.pid)
-            self._acknowledged = acknowledged if self.is_alive else None  # else its number may be another process's by now
+            with self._memory() as memory:
+                self._acknowledged = acknowledged_of(memory)
         return self._acknowledged
+
+    @property
+    def _runner(self) -> Runner | None:
+        return None if self.facts.runner is None else Runner(Path(self.facts.runner))
+
+    @contextmanager
+    def _memory(self) -> Iterator[int | None]:
+        """A descriptor of the memory that its keepers share with it; None of a process that has none, or has ended. Raises `RunnerError`."""
+        pid, runner = self.facts.pid, self._runner
+        memory = memory_of(pid) if runner is None or is_allowed(pid) else runner.memory_of(pid, self.descriptor)
+        try:
+            yield memory if self.is_alive else None  # else its number may be another process's by now
+        finally:
+            if memory is not None:
+                os.close(memory)
+
+    def remember(self, definition: Definition) -> None:
+        """Has the process remember of which database it is, for `rescue`. Raises `OSError`, and `RunnerError`."""
+        with self._memory() as memory:
+            if memory is not None:
+                definition.note(memory, Seal.made(self.folder, self.name))
+
+    @property
+    def definition(self) -> Definition | None:
+        """What it remembers so; None of a process that an older keeper has started. Raises `RunnerError`."""
+        with self._memory() as memory:
+            seal = Seal.found(self.folder, self.name)
+            return None if memory is None or seal is None else Definition.noted(memory, seal)
 
     @property
     def name(self) -> str:
@@ -125,43 +165,67 @@ class Run:
 
         It waits for its table until it is noted, and ends where its keeper is killed before: nobody would know of it.
         """
-        said = program.folder / _file_of(name, run, "said")
+        said = said_in(program.folder, name, run)
         words = [program.path, "serve", "--listen", listen or f"{program.host}:0", "--table", "/dev/stdin", "--primary", str(KEEPER),
                  "--dbs", "1", "--workers", str(WORKERS), "--connections", str((1 << 32) - 1), "--audit", str(program.audit),
                  "--idle-polls", "0"]  # fmt: skip
         child = None
         descriptor = None
         try:
-            child, acknowledged = _started(words, said)
-            descriptor = os.pidfd_open(child.pid)
-            made = cls(program.folder, _facts_of(name, run, child.pid), descriptor, child, acknowledged)
+            child, acknowledged = _started(words, said, program.runner)
+            descriptor = child.descriptor if isinstance(child, Hired) else os.pidfd_open(child.pid)
+            facts = replace(_facts_of(name, run, child.pid), runner=None if program.runner is None else str(program.runner.path))
+            made = cls(program.folder, facts, descriptor, child, acknowledged)
             made._note()
             _give(child, table)
             made._note(address=_address(child, program.patience))
             return made
-        except (OSError, NotStarted) as error:
+        except (OSError, NotStarted, RunnerError) as error:
             if child is not None:
-                child.kill()
-                with suppress(subprocess.TimeoutExpired):
+                with suppress(subprocess.TimeoutExpired, RunnerError):
+                    child.kill()
                     child.wait(_END)
                 for line in (child.stdin, child.stdout):
                     if line is not None:
                         line.close()
             if descriptor is not None:
                 os.close(descriptor)
-            why = _text_of(said)
+            why = text_of(said)
             _forget(program.folder, name, run)
             raise NotStarted(f"{name}: the service did not start: {why or error}") from error
 
     @classmethod
+    def of_front(cls, folder: Path, run: str, child: subprocess.Popen[bytes]) -> Run:
+        """That of a front, which waits until it is noted. Raises `OSError`, and then it is ended."""
+        descriptor = None
+        try:
+            descriptor = os.pidfd_open(child.pid)
+            made = cls(folder, _facts_of(FRONT, run, child.pid), descriptor, child)
+            made._note()
+        except OSError:
+            child.kill()
+            child.communicate()
+            if descriptor is not None:
+                os.close(descriptor)
+            raise
+        return made
+
+    @classmethod
     def adopt(cls, folder: Path, name: str, run: str) -> Run | None:
-        """The service of this run, if its process is still there. No other note is read: a keeper has thousands."""
+        """The service of this run, if its process is still there. No other note is read: a keeper has thousands. Raises `RunnerError`
+        where it cannot be known up to where it was acknowledged."""
         found = _noted_in(folder / _file_of(name, run, "json"))
         if found is None:
             return None
         facts, descriptor = found
-        if (facts.name, facts.run) == (name, run) and facts.address is not None:
-            return cls(folder, facts, descriptor)
+        try:
+            if (facts.name, facts.run) == (name, run) and facts.address is not None:
+                made = cls(folder, facts, descriptor)
+                made.acknowledged  # now: who asks later may be one who waits for nobody
+                return made
+        except RunnerError:
+            os.close(descriptor)
+            raise
         os.close(descriptor)
         return None
 
@@ -198,7 +262,7 @@ class Run:
     @property
     def is_alive(self) -> bool:
         """Whether the process has not ended."""
-        return not _is_readable(self.descriptor, 0)
+        return not is_readable(self.descriptor, 0)
 
     @property
     def memory(self) -> int:
@@ -212,14 +276,12 @@ class Run:
     def end(self) -> bool:
         """Kills the process, waits for its end, and removes its files. It keeps nothing that would have to be saved.
 
-        False where it has not ended after a while, as one that waits for a disk or was frozen: it answers nobody any more, and its
-        file stays for the keeper's next life.
+        False where it has not ended after a while, as one that waits for a disk or was frozen, or whose runner is away: its file stays
+        for the keeper's next life.
         """
-        try:
-            signal.pidfd_send_signal(self.descriptor, signal.SIGKILL)
-        except ProcessLookupError:
-            pass
-        has_ended = _is_readable(self.descriptor, _END)
+        with suppress(ProcessLookupError, RunnerError):
+            kill(self.descriptor, self._runner)
+        has_ended = is_readable(self.descriptor, _END)
         self.leave()
         if has_ended:
             _forget(self.folder, self.facts.name, self.facts.run)
@@ -236,19 +298,26 @@ class Run:
         os.close(self.descriptor)
 
 
-def _started(words: list[str], said: Path) -> tuple[subprocess.Popen[bytes], Acknowledged]:
+def _started(words: list[str], said: Path, runner: Runner | None) -> tuple[Child, Acknowledged]:
     """The process, which has the number open that says up to where it was acknowledged."""
     memory = new_memory()
     try:
         acknowledged = Acknowledged(memory)
-        with said.open("wb") as errors:
+        with open(said, "wb", opener=_private) as errors:
+            if runner is not None:
+                return runner.start(words, errors.fileno(), memory), acknowledged
             return subprocess.Popen(words, stdin=subprocess.PIPE, stdout=subprocess.PIPE, stderr=errors, start_new_session=True,
-                                    env=_environment(), pass_fds=(memory,)), acknowledged  # fmt: skip
+                                    env=environment(), pass_fds=(memory,)), acknowledged  # fmt: skip
     finally:
         os.close(memory)
 
 
-def _environment() -> dict[str, str]:
+def _private(path: str, flags: int) -> int:
+    """A service of another user has the descriptor, and may open what it is of once more."""
+    return os.open(path, flags, 0o600)
+
+
+def environment() -> dict[str, str]:
     """What a service inherits: it needs nothing, and the keeper's own may have the password of PostgreSQL. The program is found by PATH,
     and may be a script."""
     return {name: value for name in ("PATH", "LANG", "TZ") if (value := os.environ.get(name)) is not None}
@@ -270,6 +339,17 @@ def kept_in(folder: Path) -> list[Facts]:
     return [facts for facts, _ in found if facts.kept]
 
 
+def database_of(folder: Path, facts: Facts) -> str:
+    """The identity of the database of a service that is noted and runs; nothing where its process does not remember it."""
+    process = Run.adopt(folder, facts.name, facts.run)
+    if process is None:
+        return ""
+    try:
+        return "" if (found := process.definition) is None else found.identity
+    finally:
+        process.leave()
+
+
 def seen_of(folder: Path, facts: Facts) -> Seen:
     """What PostgreSQL has had of a run, as its keeper noted it last; nothing where that cannot be read."""
     try:
@@ -285,6 +365,25 @@ def is_running(facts: Facts) -> bool:
     if descriptor is not None:
         os.close(descriptor)
     return descriptor is not None
+
+
+def services_of(folder: Path) -> list[Facts]:
+    """What is noted of the services of this folder that run and listen, also of those that were set aside."""
+    found = list(_noted(folder))
+    for _, descriptor in found:
+        os.close(descriptor)
+    return [facts for facts, _ in found if facts.address is not None]
+
+
+def fronts_of(folder: Path) -> list[Run]:
+    """The fronts of this folder that run."""
+    found = map(_noted_in, sorted(folder.glob(f"{FRONT}.*.json")))
+    return [Run(folder, *each) for each in found if each is not None]
+
+
+def said_in(folder: Path, name: str, run: str) -> Path:
+    """The file of what a process says is wrong."""
+    return folder / _file_of(name, run, "said")
 
 
 def orphans_of(folder: Path, wanted: set[str]) -> list[Run]:
@@ -313,7 +412,7 @@ def is_there(folder: Path, name: str, run: str) -> bool:
 def _noted(folder: Path) -> Iterator[tuple[Facts, int]]:
     """The services that are noted and still run, each with a pidfd. Notes of others are removed."""
     for file in sorted(folder.glob("*.json")):
-        if (found := _noted_in(file)) is not None:
+        if not file.name.startswith(FRONT) and (found := _noted_in(file)) is not None:
             yield found
 
 
@@ -338,7 +437,7 @@ def _opened(facts: Facts) -> int | None:
         return None
     try:
         now = _facts_of(facts.name, facts.run, facts.pid)
-        if (now.started, now.boot) == (facts.started, facts.boot) and not _is_readable(descriptor, 0):
+        if (now.started, now.boot) == (facts.started, facts.boot) and not is_readable(descriptor, 0):
             return descriptor
     except (OSError, ValueError, IndexError):
         pass
@@ -352,23 +451,23 @@ def _facts_of(name: str, run: str, pid: int) -> Facts:
     return Facts(name, run, pid, int(fields[19]), Path("/proc/sys/kernel/random/boot_id").read_text().strip())
 
 
-def _is_readable(descriptor: int, patience: float) -> bool:
-    """Waits for it, in seconds. A `select` would fail where a thousand files are open."""
+def is_readable(descriptor: int, patience: float) -> bool:
+    """Whether it can be read, as a pidfd once its process has ended. Waits for it, in seconds. A `select` would fail where a thousand files are open."""
     poll = select.poll()
     poll.register(descriptor, select.POLLIN)
     return bool(poll.poll(1000 * patience))
 
 
-def _give(child: subprocess.Popen[bytes], table: str) -> None:
+def _give(child: Child, table: str) -> None:
     """A pipe has room for the longest table, so that this waits for nobody."""
     assert child.stdin is not None
     with child.stdin as line:
         line.write(table.encode())
 
 
-def _address(child: subprocess.Popen[bytes], patience: float) -> str:
+def _address(child: Child, patience: float) -> str:
     assert child.stdout is not None
-    if not _is_readable(child.stdout.fileno(), patience):
+    if not is_readable(child.stdout.fileno(), patience):
         raise NotStarted(f"it said nothing in {patience} s")
     line = child.stdout.readline().decode(errors="replace").split()
     if len(line) != 2 or line[0] != "listening":
@@ -376,7 +475,7 @@ def _address(child: subprocess.Popen[bytes], patience: float) -> str:
     return line[1]
 
 
-def _text_of(file: Path) -> str:
+def text_of(file: Path) -> str:
     """What it has, if it can be read: where no file can be opened any more it cannot."""
     try:
         return file.read_text(errors="replace").strip()

@@ -103,7 +103,105 @@ _TABLE_NUMBERS = (
     "ALTER TABLE pagelog_standby ADD COLUMN IF NOT EXISTS table_number bigint NOT NULL DEFAULT 1",
 )
 
-STEPS = (_FIRST, _LIVES, _IDENTITY, _TRAILS, _TABLE_NUMBERS)
+_SEALED = (
+    # sealed: text and secret, encrypted by the key of this id, which keepers have in a file; NULL: they are plain. An older keeper, and
+    # one without the key, finds no table in the text.
+    "ALTER TABLE pagelog_table ADD COLUMN IF NOT EXISTS sealed bytea, ADD COLUMN IF NOT EXISTS key text",
+)
+
+_PAGES = (
+    # A page server of a database, as it says of itself: its run, where it is, up to which position it has pages, what of that a crash
+    # leaves, and from which position on.
+    """CREATE TABLE IF NOT EXISTS pagelog_pages (
+        run text PRIMARY KEY, log integer NOT NULL REFERENCES pagelog_log, machine text NOT NULL, address text NOT NULL,
+        position bigint NOT NULL, persisted bigint NOT NULL, oldest bigint NOT NULL, table_number bigint NOT NULL,
+        beat bigint NOT NULL DEFAULT 0)""",
+)
+
+_STORE = (
+    # folder: under which the objects of a database are. moved: all up to there is in a row of pagelog_object. cut: all up to there is in the
+    # store alone. chain: a digest of all blocks up to `moved`. In a row of their own: each commit rewrites that of pagelog_log.
+    """CREATE TABLE IF NOT EXISTS pagelog_store (
+        log integer PRIMARY KEY REFERENCES pagelog_log, folder text NOT NULL, moved bigint NOT NULL DEFAULT 0,
+        cut bigint NOT NULL DEFAULT 0, chain bytea NOT NULL DEFAULT '')""",
+    # The object `key` has the blocks of these positions, and perhaps more. size, digest: its bytes, and their SHA-256. raw, raw_digest: the
+    # same of its blocks. after: the digest of all blocks up to `last`. came, until: when the first and the latest of its blocks was archived.
+    # state 0: its bytes are to be put. 1: they were read back from the store. 2: the blocks are in the store alone.
+    """CREATE TABLE IF NOT EXISTS pagelog_object (
+        log integer NOT NULL REFERENCES pagelog_log, first bigint NOT NULL, last bigint NOT NULL, key text NOT NULL, size bigint NOT NULL,
+        digest bytea NOT NULL, raw bigint NOT NULL, raw_digest bytea NOT NULL, after bytea NOT NULL, came timestamptz, until timestamptz,
+        state smallint NOT NULL DEFAULT 0, PRIMARY KEY (log, first))""",
+    "CREATE INDEX IF NOT EXISTS pagelog_object_last ON pagelog_object (log, last)",
+    "CREATE INDEX IF NOT EXISTS pagelog_object_open ON pagelog_object (log, first) WHERE state < 2",
+    "CREATE INDEX IF NOT EXISTS pagelog_object_key ON pagelog_object (key)",
+    # Keys that may be deleted once no row has named them for a while. What is in no row and not here is nobody's to delete.
+    "CREATE TABLE IF NOT EXISTS pagelog_gone (key text PRIMARY KEY, since timestamptz NOT NULL DEFAULT now())",
+    # Who may do something with the blocks may do the same with these.
+    """DO $$ DECLARE one record; made text; BEGIN
+      FOR one IN SELECT CASE a.grantee WHEN 0 THEN 'PUBLIC' ELSE a.grantee::regrole::text END AS name, a.privilege_type AS kind
+        FROM pg_class c, aclexplode(c.relacl) a WHERE c.oid = 'pagelog_block'::regclass AND a.grantee <> c.relowner
+      LOOP FOREACH made IN ARRAY ARRAY['pagelog_store', 'pagelog_object', 'pagelog_gone']
+        LOOP EXECUTE format('GRANT %s ON %I TO %s', one.kind, made, one.name); END LOOP; END LOOP;
+    END $$""",
+)
+
+_SECURE = (
+    # secure: the run, or a keeper's life, and its address by TLS, as `RUN HOST:PORT`, with ` only` where there is no other way to it. It
+    # names its run: an older keeper begins another and leaves the column as it is.
+    "ALTER TABLE pagelog_log ADD COLUMN IF NOT EXISTS secure text",
+    "ALTER TABLE pagelog_standby ADD COLUMN IF NOT EXISTS secure text",
+    "ALTER TABLE pagelog_keeper ADD COLUMN IF NOT EXISTS secure text",
+)
+
+_ASIDE = (
+    # aside: the stores of the page server's database that were set aside there, each with its run, positions and folder. seen: when it was
+    # heard of last, by PostgreSQL's clock.
+    """ALTER TABLE pagelog_pages
+        ADD COLUMN IF NOT EXISTS aside jsonb NOT NULL DEFAULT '[]',
+        ADD COLUMN IF NOT EXISTS seen timestamptz NOT NULL DEFAULT now()""",
+)
+
+_PACKS = (
+    # The object `key` has images of a database: their bytes, and their SHA-256. state 0: its bytes are to be put. 1: they were read back from
+    # the store. 2: the images are in the store alone. A branch has rows of its own for the same objects, under the same numbers.
+    """CREATE TABLE IF NOT EXISTS pagelog_pack (
+        log integer NOT NULL REFERENCES pagelog_log, number bigint NOT NULL, key text NOT NULL, size bigint NOT NULL, digest bytea NOT NULL,
+        raw bigint NOT NULL, state smallint NOT NULL DEFAULT 0, PRIMARY KEY (log, number))""",
+    "CREATE INDEX IF NOT EXISTS pagelog_pack_key ON pagelog_pack (key)",
+    "CREATE INDEX IF NOT EXISTS pagelog_pack_open ON pagelog_pack (log, number) WHERE state < 2",
+    # packs: so many numbers were given to packs of the database.
+    "ALTER TABLE pagelog_store ADD COLUMN IF NOT EXISTS packs bigint NOT NULL DEFAULT 0",
+    # pack: the number of the pack that has the image, at this place, with so many bytes; digest: how their SHA-256 begins. Its data is empty
+    # once the pack has state 2.
+    """ALTER TABLE pagelog_image
+        ADD COLUMN IF NOT EXISTS pack bigint,
+        ADD COLUMN IF NOT EXISTS at integer,
+        ADD COLUMN IF NOT EXISTS length integer,
+        ADD COLUMN IF NOT EXISTS digest bytea""",
+    "CREATE INDEX IF NOT EXISTS pagelog_image_here ON pagelog_image (log, base, range) WHERE pack IS NULL",
+    "CREATE INDEX IF NOT EXISTS pagelog_image_pack ON pagelog_image (log, pack) WHERE pack IS NOT NULL",
+    # manifest: the object by which the base can be read without PostgreSQL, and the SHA-256 of its bytes; is_stored: it was read back.
+    # broken: when its images could not be read last.
+    """ALTER TABLE pagelog_base
+        ADD COLUMN IF NOT EXISTS broken timestamptz,
+        ADD COLUMN IF NOT EXISTS manifest text,
+        ADD COLUMN IF NOT EXISTS manifest_digest bytea,
+        ADD COLUMN IF NOT EXISTS is_stored boolean NOT NULL DEFAULT false""",
+    "CREATE INDEX IF NOT EXISTS pagelog_base_manifest ON pagelog_base (manifest) WHERE manifest IS NOT NULL",
+    # Who may do something with objects may do the same with packs.
+    """DO $$ DECLARE one record; BEGIN
+      FOR one IN SELECT CASE a.grantee WHEN 0 THEN 'PUBLIC' ELSE a.grantee::regrole::text END AS name, a.privilege_type AS kind
+        FROM pg_class c, aclexplode(c.relacl) a WHERE c.oid = 'pagelog_object'::regclass AND a.grantee <> c.relowner
+      LOOP EXECUTE format('GRANT %s ON pagelog_pack TO %s', one.kind, one.name); END LOOP;
+    END $$""",
+)
+
+_HELD = (
+    # held: since when nothing of the database may be pruned or dropped; NULL: it may.
+    "ALTER TABLE pagelog_log ADD COLUMN IF NOT EXISTS held timestamptz",
+)
+
+STEPS = (_FIRST, _LIVES, _IDENTITY, _TRAILS, _TABLE_NUMBERS, _SEALED, _SECURE, _PAGES, _STORE, _ASIDE, _PACKS, _HELD)
 """What brings the tables from each version to the next one. Tables of version 1 have no number: they are older than it."""
 VERSION = len(STEPS)
 

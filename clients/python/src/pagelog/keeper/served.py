@@ -4,7 +4,7 @@ from __future__ import annotations
 
 import asyncio
 import time
-from contextlib import nullcontext, suppress
+from contextlib import suppress
 from itertools import islice
 from typing import Iterable, Iterator, Sequence
 
@@ -12,7 +12,10 @@ from pagelog.block import Block
 from pagelog.connection import Address, Connection
 from pagelog.keeper.acknowledged import Acknowledged
 from pagelog.keeper.ahead import ahead, pieces_of
-from pagelog.keeper.bases import NOTHING, Bases, snapshot
+from pagelog.keeper.bases import NOTHING, Bases
+from pagelog.keeper.definition import Definition
+from pagelog.keeper.front import Front
+from pagelog.keeper.haproxy import FrontError
 from pagelog.keeper.images import blocks_of, labelled
 from pagelog.keeper.loading import EPOCH, GROUP, Loader
 from pagelog.keeper.looker import Looker
@@ -20,10 +23,12 @@ from pagelog.keeper.machine import Kind
 from pagelog.keeper.puller import Puller, connected
 from pagelog.keeper.referee import BrokenArchive, Referee, digest
 from pagelog.keeper.rows import TableOf, Where
-from pagelog.keeper.run import Program, Run
+from pagelog.keeper.run import NotStarted, Program, Run
+from pagelog.keeper.runner import RunnerError
 from pagelog.keeper.table import KEEPER, Form, keeper_of, quorum_of, table_of_run
+from pagelog.keeper.ways import NOWHERE, Way
 from pagelog.operator import Operator
-from pagelog.reader import Reader
+from pagelog.reader import Reader, Span
 from pagelog.reply import Entries, State, expect
 from pagelog.request import Audit, Status
 
@@ -89,6 +94,10 @@ class Served:
         """That of the table that it was started with; of a run of which nothing is known the first."""
         self.identity = ""
         """Of the database that it was made for."""
+        self.ancestor: str | None = None
+        """Of a copy the name of what that was made of."""
+        self.front: Front | None = None
+        """That of its keeper."""
         self.timeout = timeout
         """Seconds for which an answer is waited for."""
         self._entries, self._step = 0, FEW
@@ -113,7 +122,15 @@ class Served:
     def where(self) -> Where:
         """Where clients find it, and what is there."""
         assert self.process is not None
-        return Where(self.process.address, self.shift, self.images, self.chain)
+        return Where(self.process.address, self.shift, self.images, self.chain, self._secure)
+
+    @property
+    def _secure(self) -> str | None:
+        """The way to it by TLS, as the column has it."""
+        if self.front is None:
+            return None
+        place, is_only = self.front.place(self.run), not self.front.tls.plain
+        return Way(place or NOWHERE, is_only).text(self.run) if place is not None or is_only else None
 
     @property
     def hangs(self) -> bool:
@@ -136,6 +153,41 @@ class Served:
     def start(self, program: Program) -> None:
         """Starts it, closed. Raises `NotStarted`."""
         self.serve(Run.start(program, self.database, self.run, self._table(Form.READING)))
+        self.remember()
+
+        try:
+            self.lead()
+        except FrontError as error:
+            self.end()
+            self.process = None
+            raise NotStarted(f"{self.database}: nobody would reach the service: {error}") from error
+
+    def remember(self) -> None:
+        """Has its process remember of which database it is, for `rescue`. Want of memory, or of a runner, is no reason to end it."""
+        if self.process is not None and self.identity:
+            with suppress(OSError, RunnerError):
+                self.process.remember(Definition(self.identity, self._text, self._secret, self.ancestor))
+
+    def lead(self) -> None:
+        """Has its keeper's front lead to it, if there is one. Raises `FrontError` where that is the only way to it, and does not now: it
+        will as soon as it can."""
+        if self.front is None or self.process is None:
+            return
+        try:
+            self.front.serve(self.run, self.process.address, self.identity)
+        except FrontError:
+            if not self.front.tls.plain:
+                raise
+
+    @property
+    def unreached(self) -> float:
+        """For how many seconds no client has reached it, as its only way is a front that is not there."""
+        return 0.0 if self.front is None or self.front.tls.plain else self.front.away
+
+    def lead_away(self) -> None:
+        """Nobody comes to it any more through the front."""
+        if self.front is not None:
+            self.front.drop(self.run)
 
     def serve(self, process: Run) -> None:
         """Takes this process for its own."""
@@ -150,6 +202,7 @@ class Served:
 
     def end(self) -> None:
         """Kills it, and removes what is noted of it."""
+        self.lead_away()
         if self.process is not None:
             self.process.end()
 
@@ -176,18 +229,24 @@ class Served:
         `wanted` is the digest that it has returned. Raises `BrokenArchive` where the blocks have another: they are read without a
         write, and a server that was cut off may have others. Nobody reads what is above `reached` meanwhile. A service that has
         nothing begins with the images of the newest base. Where the archive goes away meanwhile, the next call goes on from there.
-        A piece is read while the one before is loaded.
+        A piece is read while the one before is loaded. Nothing is held against pruning: where that comes first, it raises `Pruned`.
         """
         if archived <= self.reached:
             return
         is_fresh = self.loaded == 0
-        with self.loader() as loader, snapshot(referee) if is_fresh else nullcontext():
+        with self.loader() as loader:
             if is_fresh:
                 self._begin(Bases(referee, log), archived, loader)
             with ahead(pieces_of(referee, log, self.loaded + 1, archived), referee.cut) as pieces:
                 self.load(loader, pieces, archived, wanted)
         if is_fresh and self.process is not None:
             self.begun = self.process.memory
+
+    def begin(self, referee: Referee, log: int, archived: int) -> None:
+        """Begins with the images of the newest base, if it has nothing yet."""
+        if self.loaded == 0:
+            with self.loader() as loader:
+                self._begin(Bases(referee, log), archived, loader)
 
     def fill(self, pieces: Iterable[Sequence[bytes]], archived: int, wanted: bytes) -> None:
         """As `follow`, with these blocks of the archive, behind those that it has."""
@@ -294,6 +353,7 @@ class Served:
         self._text, self.was_closed = newest.text, True
         self._operator.set_table(self._table(Form.READING))
         self.table_number = newest.number
+        self.remember()
 
     def close(self) -> int:
         """Lets nobody write any more, and returns the position of its end."""
@@ -367,11 +427,12 @@ class Served:
         self.hard = max(self.hard, position + len(found))
         return labelled(found, position + 1) if self.shift else found
 
-    async def pulling_line(self) -> tuple[int, bytes]:
-        """A descriptor of a connection of its own to the service, which does not block, and a pull as a frame. Raises `OSError`."""
+    async def pulling_line(self) -> tuple[int, bytes, bytes]:
+        """A descriptor of a connection of its own to the service, which does not block, and a pull and a question for lines as frames.
+        Raises `OSError`."""
         assert self.process is not None
         made = await asyncio.to_thread(connected, Address.parse(self.process.address), self.timeout)
-        return made.detach(), self._puller.frame(self._reader.epoch)
+        return made.detach(), self._puller.frame(self._reader.epoch), self._puller.audit_frame(self._reader.epoch)
 
     async def lines_at_once(self, first: int) -> bytes | None:
         """The bytes of the audit list's lines from this number on, without a thread; None where they are not to be had so."""
@@ -387,15 +448,30 @@ class Served:
             at = min(span.last, last)
 
     def pulled(self, position: int) -> list[bytes]:
-        """The next blocks behind this position, at most 1,024. A block without records is served by no pull."""
+        """The next blocks behind this position, at most 1,024."""
         try:
             span = self._reader.span(position + 1 - self.shift, pulls=PULLS)
         finally:
             self.is_full |= self._reader.has_lacked_memory
-        found = {block.lsn: block.data for block in span.blocks}
         self.hard = max(self.hard, span.last + self.shift)
+        return self._blocks_of(span)
+
+    def logged(self, position: int, end: int) -> Iterator[list[bytes]]:
+        """The blocks of its log behind a position, up to another one, over a connection of their own: nobody waits for them."""
+        assert self.process is not None
+        with Reader(self._connection(self.process), keeper_of(self._secret, self.database, self.run)) as reader:
+            while position < end:
+                blocks = self._blocks_of(reader.span(position + 1 - self.shift, pulls=PULLS))[: end - position]
+                if not blocks:
+                    raise BrokenArchive(f"the log of {self.database} ends at {position} in place of {end}")
+                yield blocks
+                position += len(blocks)
+
+    def _blocks_of(self, span: Span) -> list[bytes]:
+        """Those of the archive. A block without records is served by no pull."""
+        found = {block.lsn: block.data for block in span.blocks}
         blocks = [found.get(lsn) or Block.of(lsn).data for lsn in range(span.first, span.last + 1)]
-        return labelled(blocks, position + 1) if self.shift else blocks
+        return labelled(blocks, span.first + self.shift) if self.shift else blocks
 
 
 def _pieces(blocks: Iterator[bytes]) -> Iterator[list[bytes]]:

@@ -40,10 +40,11 @@ class Session:
                 await asyncio.wait({work}, timeout=self._deadline)
             return await work
         finally:
-            if work is None or work.done():
-                self._end_turn()
-            else:
+            if work is not None and not work.done():
                 self._leave(work)
+            else:
+                _look_at(work)  # it may have failed as its asker was cancelled
+                self._end_turn()
 
     def _leave(self, work: asyncio.Future[Any]) -> None:
         """Who asked has given up. The thread has the connection until it ends, and is cut where it hangs."""
@@ -60,8 +61,7 @@ class Session:
 
         def ended(_: asyncio.Future[Any]) -> None:
             timers[0].cancel()
-            if not work.cancelled():
-                work.exception()  # it is told to nobody
+            _look_at(work)
             self._end_turn()
 
         wait()
@@ -115,6 +115,12 @@ class Session:
         """Closes the connection, if no statement is being asked."""
         async with self._turn:
             self.referee.close()
+
+
+def _look_at(work: asyncio.Future[Any] | None) -> None:
+    """What it failed by is told to nobody, and not reported as never retrieved."""
+    if work is not None and not work.cancelled():
+        work.exception()
 
 
 def _copy_of(descriptor: int | None) -> int | None:

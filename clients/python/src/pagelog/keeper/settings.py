@@ -3,13 +3,18 @@
 from __future__ import annotations
 
 import os
-from dataclasses import dataclass
+import re
+from dataclasses import dataclass, field
 from pathlib import Path
 from typing import Any, Mapping
 
 from pagelog.errors import CredentialsError
+from pagelog.keeper.front import PORTS, Tls
 from pagelog.keeper.machine import ROLL_AT, SUCCEED_AT
 from pagelog.keeper.run import Program
+from pagelog.keeper.runner import Runner
+from pagelog.keeper.sealed import Keys
+from pagelog.store.settings import StoreSettings
 
 MEMORY = os.sysconf("SC_PAGE_SIZE") * os.sysconf("SC_PHYS_PAGES") // 4
 """Bytes that a service may hold where nothing else is said: a quarter of the machine's."""
@@ -23,7 +28,8 @@ class Settings:
     list, at which the next generation is made; 0: never. `keep` is what of the archive is kept: so many bases, or a time as
     `7 days`; None: all. `standby`: keeps standbys of all that other keepers hold. `require_standby`: nothing is durable that a
     synchronous standby of PostgreSQL has not. `metrics` and `console` are where it serves its metrics and its page, as HOST:PORT;
-    `console_token` is the file with what a browser has to give."""
+    `console_token` is the file with what a browser has to give. `unproved`: clients that prove no principal are answered all the same, as
+    those of before do."""
 
     name: str
     lines: str
@@ -40,15 +46,25 @@ class Settings:
     """For how many days audit lists are kept; 0 for none."""
     succeed: float = SUCCEED_AT
     keep: str | int | None = None
+    unproved: bool = True
+    keys: Keys = field(default_factory=Keys)
+    """By which tables of principals are sealed."""
+    store: StoreSettings | None = None
+    """Where blocks go that PostgreSQL need not have any more; None: all stay there."""
+    tls: Tls | None = None
+    """How clients reach its lines and services by TLS; None: not at all."""
 
     @classmethod
     def of(
-        cls, name: str, lines: str, serve: str, folder: Path, program: str, url: str, section: Mapping[str, Any], keep: str | int | None = None
+        cls, name: str, lines: str, serve: str, folder: Path, program: str, url: str, section: Mapping[str, Any], keep: str | int | None = None,
+        key_file: Path | None = None,
+        store: StoreSettings | None = None, runner: Path | None = None,
     ) -> Settings:
         """From the options and the section. Raises `CredentialsError` for what the section may not have."""
         kinds: dict[str, type | tuple[type, ...]] = {
             "ttl": (int, float), "standby": bool, "memory": int, "audit": int, "metrics": str, "require_standby": bool,
-            "console": str, "console_token": str, "trail": int, "succeed": (int, float),
+            "console": str, "console_token": str, "trail": int, "succeed": (int, float), "unproved": bool,
+            "tls": str, "tls_lines": str, "tls_clients": str, "tls_ports": (str, int), "plain": bool,
         }  # fmt: skip
         for key, value in section.items():
             if key not in kinds:
@@ -59,6 +75,31 @@ class Settings:
         if ttl <= 0 or not 1 <= audit <= 1 << 24 or section.get("memory", 0) < 0 or section.get("trail", 0) < 0 or not 0 <= share < ROLL_AT:
             raise CredentialsError(f"[keeper]: ttl is above 0, audit 1 to 16777216, memory and trail not below 0, succeed 0 to below {ROLL_AT}")
         token = section.get("console_token")
-        return cls(name, lines, Program(program, serve, folder, audit), url, ttl, section.get("standby", True),
+        tls = _tls_of(serve, section)
+        inner = serve if tls is None or tls.plain else "127.0.0.1"
+        return cls(name, lines, Program(program, inner, folder, audit, runner=None if runner is None else Runner(runner)), url, ttl, section.get("standby", True),
                    section.get("memory", MEMORY), section.get("metrics"), section.get("console"), None if token is None else Path(token),
-                   section.get("require_standby", False), section.get("trail", 0), share, keep)  # fmt: skip
+                   section.get("require_standby", False), section.get("trail", 0), share, keep, section.get("unproved", True), Keys(key_file), store,
+                   tls)  # fmt: skip
+
+
+def _tls_of(serve: str, section: Mapping[str, Any]) -> Tls | None:
+    """What the section says of TLS. Raises `CredentialsError`."""
+    file, lines, ports = section.get("tls"), section.get("tls_lines"), section.get("tls_ports", PORTS)
+    if file is None:
+        if others := [key for key in ("tls_lines", "tls_clients", "tls_ports", "plain") if key in section]:
+            raise CredentialsError(f"[keeper] has {others[0]} without tls, the file with certificate and key")
+        return None
+    if lines is None or not re.fullmatch(r"\S+:[1-9]\d{0,4}", lines):
+        raise CredentialsError("[keeper]: tls_lines is HOST:PORT, where clients reach the lines by TLS")
+    if not _are_ports(ports):
+        raise CredentialsError("[keeper]: tls_ports is FIRST-LAST, or how many of the system's ports, 1 to 16384")
+    clients = section.get("tls_clients")
+    return Tls(Path(file), serve, lines, None if clients is None else Path(clients), section.get("plain", True), ports)
+
+
+def _are_ports(ports: str | int) -> bool:
+    if isinstance(ports, int):
+        return 1 <= ports <= 16384
+    found = re.fullmatch(r"([1-9]\d{0,4})-([1-9]\d{0,4})", ports)
+    return found is not None and int(found[1]) <= int(found[2]) <= 65535

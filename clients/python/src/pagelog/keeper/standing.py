@@ -53,7 +53,8 @@ class Standing:
         except (Away, Doubt):
             raise
         except PagelogError as error:
-            await self.give_up(served, error)
+            if not await self._shared.ask(self._shared.referee.lacks, database.row):  # else it may be the only copy: the next look shows that
+                await self.give_up(served, error)
             return False  # the next look has another made
         if not served.is_noted:
             await self._note_standby(served)
@@ -62,8 +63,8 @@ class Standing:
         return True
 
     async def _note_standby(self, served: Served) -> None:
-        assert served.process is not None
-        place = (served.process.address, served.run, served.reached, served.shift, served.images, served.table_number)
+        where = served.where
+        place = (where.address, served.run, served.reached, served.shift, served.images, served.table_number, where.secure)
         await self._shared.ask(self._shared.referee.stand_by, self._database.row.id, *place)
         served.is_noted = self._database.is_noted = True
         served.note_place()

@@ -2,9 +2,23 @@
 
 from pagelog.keeper.schema import CHANNEL, FORMAT
 
+PAGES_COLUMNS = "run, log, machine, address, position, oldest, table_number, beat, aside, EXTRACT(epoch FROM now() - seen)::float AS silent"
+_ALL = f"""  (SELECT COALESCE(json_agg(k), '[]') FROM (SELECT name, run, lines, beat, report, secure FROM pagelog_keeper) k),
+  (SELECT COALESCE(json_agg(l), '[]') FROM (
+    SELECT id, name, generation, run, holder, address, archived, base, shift, images, encode(chain, 'hex') AS chain, wanted,
+      succeed, read_only, paused, dropped, identity, next_generation, doubted, ancestor, table_number, secure,
+      COALESCE((SELECT g.table_number FROM pagelog_generation g WHERE g.log = o.id AND g.generation = o.generation AND g.run = o.run), 1)
+        AS run_table,
+      COALESCE((SELECT g.base FROM pagelog_generation g WHERE g.log = o.id ORDER BY g.generation LIMIT 1), 0) AS copied
+    FROM pagelog_log o WHERE format = {FORMAT} ORDER BY name) l),
+  (SELECT COALESCE(json_agg(s), '[]') FROM (SELECT log, keeper, address, run, reached, shift, images, table_number, secure FROM pagelog_standby) s),
+  current_setting('synchronous_standby_names'),
+  CASE WHEN pg_has_role('pg_read_all_stats', 'USAGE')
+    THEN (SELECT count(*) FROM pg_stat_replication WHERE sync_state IN ('sync', 'quorum')) END,
+  (SELECT COALESCE(json_agg(p), '[]') FROM (SELECT {PAGES_COLUMNS} FROM pagelog_pages ORDER BY machine, run) p)"""
 LOOK = f"""
 WITH me AS (
-  UPDATE pagelog_keeper SET beat = beat + 1, report = COALESCE(%(report)s::jsonb, report)
+  UPDATE pagelog_keeper SET beat = beat + 1, report = COALESCE(%(report)s::jsonb, report), secure = %(secure)s
   WHERE name = %(me)s AND run = %(run)s RETURNING name, beat),
 later AS (
   UPDATE pagelog_keeper SET beat = beat WHERE name = %(me)s AND run <> %(run)s AND beat > %(beat)s RETURNING name),
@@ -13,19 +27,11 @@ stood AS (
   FROM unnest(%(logs)s::integer[], %(reached)s::bigint[]) AS v(log, reached)
   WHERE s.log = v.log AND s.keeper IN (SELECT name FROM me) AND s.reached <> v.reached RETURNING 1)
 SELECT (SELECT beat FROM me),
-  (SELECT COALESCE(json_agg(k), '[]') FROM (SELECT name, run, lines, beat, report FROM pagelog_keeper) k),
-  (SELECT COALESCE(json_agg(l), '[]') FROM (
-    SELECT id, name, generation, run, holder, address, archived, base, shift, images, encode(chain, 'hex') AS chain, wanted,
-      succeed, read_only, paused, dropped, identity, next_generation, doubted, ancestor, table_number,
-      COALESCE((SELECT g.table_number FROM pagelog_generation g WHERE g.log = o.id AND g.generation = o.generation AND g.run = o.run), 1)
-        AS run_table
-    FROM pagelog_log o WHERE format = {FORMAT} ORDER BY name) l),
-  (SELECT COALESCE(json_agg(s), '[]') FROM (SELECT log, keeper, address, run, reached, shift, images, table_number FROM pagelog_standby) s),
-  current_setting('synchronous_standby_names'),
-  CASE WHEN pg_has_role('pg_read_all_stats', 'USAGE')
-    THEN (SELECT count(*) FROM pg_stat_replication WHERE sync_state IN ('sync', 'quorum')) END
+{_ALL}
 WHERE %(me)s = '' OR EXISTS (SELECT 1 FROM me) OR EXISTS (SELECT 1 FROM later)
 """
+EVERYTHING = f"SELECT NULL::bigint,\n{_ALL}"
+"""What a look returns, of a role that may write nothing."""
 
 CLAIM = """
 INSERT INTO pagelog_keeper (name, run, lines, began) VALUES (%(me)s, %(run)s, %(lines)s, now()) ON CONFLICT (name) DO UPDATE
@@ -66,7 +72,7 @@ TAKE = """
 WITH taken AS (
   UPDATE pagelog_log SET generation = GREATEST(next_generation, %(least)s),
     next_generation = GREATEST(next_generation, %(least)s) + 1, run = %(run)s, holder = %(me)s,
-    address = %(address)s, shift = COALESCE(%(shift)s::bigint, shift), images = COALESCE(%(images)s::bigint, images), base = archived,
+    address = %(address)s, secure = %(secure)s, shift = COALESCE(%(shift)s::bigint, shift), images = COALESCE(%(images)s::bigint, images), base = archived,
     wanted = NULL, succeed = false
   WHERE id = %(id)s AND generation = %(generation)s AND archived = %(archived)s AND run IS NOT DISTINCT FROM %(seen_run)s::text
     AND (%(address)s::text IS NULL OR chain = %(chain)s) AND NOT paused AND NOT dropped
@@ -99,7 +105,7 @@ CONTINUE = """
 WITH taken AS (
   UPDATE pagelog_log SET generation = GREATEST(next_generation, %(least)s::bigint),
     next_generation = GREATEST(next_generation, %(least)s::bigint) + 1, run = %(run)s, holder = %(me)s,
-    address = %(address)s, shift = %(shift)s, images = %(images)s, base = %(start)s, archived = %(start)s, chain = %(start_chain)b::bytea,
+    address = %(address)s, secure = %(secure)s, shift = %(shift)s, images = %(images)s, base = %(start)s, archived = %(start)s, chain = %(start_chain)b::bytea,
     wanted = NULL, succeed = false
   WHERE id = %(id)s AND generation = %(generation)s AND archived = %(archived)s AND run IS NOT DISTINCT FROM %(seen_run)s::text
     AND chain = %(chain)b::bytea AND NOT paused AND NOT dropped AND table_number <= %(table_number)s
@@ -116,40 +122,29 @@ its keeper knows. It starts at the archived position, or where it began with ima
 
 KEEP = """
 WITH due AS (
-  SELECT d.log, d.run, d.generation, d.old, d.new, substring(%(chains)b::bytea FROM (16 * d.n - 15)::integer FOR 16) AS chain
+  SELECT d.log, d.run, d.generation, d.old, d.new, d.n, substring(%(chains)b::bytea FROM (16 * d.n - 15)::integer FOR 16) AS chain
   FROM unnest(%(logs)s::integer[], %(runs)s::text[], %(generations)s::bigint[], %(olds)s::bigint[], %(news)s::bigint[])
     WITH ORDINALITY AS d(log, run, generation, old, new, n)),
 fence AS (
   UPDATE pagelog_log l SET archived = due.new, chain = due.chain FROM due
-  WHERE l.id = due.log AND l.run = due.run AND l.generation = due.generation AND l.archived = due.old RETURNING l.id),
+  WHERE l.id = due.log AND l.run = due.run AND l.generation = due.generation AND l.archived = due.old RETURNING l.id, due.n),
 kept AS (
   INSERT INTO pagelog_block (log, lsn, crc, data)
   SELECT b.log, b.lsn, b.crc, substring(%(bytes)b::bytea FROM b.start FOR b.length)
   FROM unnest(%(owners)s::integer[], %(lsns)s::bigint[], %(crcs)s::bigint[], %(starts)s::integer[], %(lengths)s::integer[])
     AS b(log, lsn, crc, start, length)
   WHERE b.log IN (SELECT id FROM fence))
-SELECT id FROM fence
+SELECT id, n FROM fence
 """
-
-KEEP_ONE = """
-WITH fence AS (
-  UPDATE pagelog_log SET archived = %(new)s, chain = %(chain)b
-  WHERE id = %(id)s AND run = %(run)s AND generation = %(generation)s AND archived = %(old)s RETURNING id),
-kept AS (
-  INSERT INTO pagelog_block (log, lsn, crc, data)
-  SELECT fence.id, %(old)s + b.n, b.crc, substring(%(bytes)b::bytea FROM b.start FOR b.length)
-  FROM fence, unnest(%(crcs)s::bigint[], %(starts)s::integer[], %(lengths)s::integer[]) WITH ORDINALITY AS b(crc, start, length, n))
-SELECT id FROM fence
-"""
-"""As `KEEP`, of one batch, which is the usual case, and takes four fifths of the time."""
+"""Batches of any databases, each under its own condition. Returned is which, and the place of each among them."""
 
 KEEP_BLOCK = """
 WITH fence AS (
   UPDATE pagelog_log SET archived = %(new)s, chain = %(chain)b
   WHERE id = %(id)s AND run = %(run)s AND generation = %(generation)s AND archived = %(old)s RETURNING id)
-INSERT INTO pagelog_block (log, lsn, crc, data) SELECT id, %(new)s, %(crc)s, %(bytes)b FROM fence RETURNING log
+INSERT INTO pagelog_block (log, lsn, crc, data) SELECT id, %(new)s, %(crc)s, %(bytes)b FROM fence RETURNING log, 1
 """
-"""The same of a batch with one block."""
+"""The same of one batch with one block, which is the usual case, and takes two thirds of the time."""
 
 _LINES = """
 lined AS (
@@ -175,7 +170,6 @@ def with_lines(statement: str, held: str) -> str:
 
 
 KEEP_WITH_LINES = with_lines(KEEP, "fence")
-KEEP_ONE_WITH_LINES = with_lines(KEEP_ONE, "fence")
 
 NUMBER = """
 UPDATE pagelog_log SET next_generation = GREATEST(next_generation, %(least)s) + 1
@@ -184,7 +178,7 @@ WHERE id = %(id)s AND run = %(run)s AND generation = %(generation)s AND NOT drop
 
 SUCCEED = """
 WITH begun AS (
-  UPDATE pagelog_log SET generation = %(next)s, run = %(next_run)s, holder = %(me)s, address = %(address)s, shift = %(shift)s,
+  UPDATE pagelog_log SET generation = %(next)s, run = %(next_run)s, holder = %(me)s, address = %(address)s, secure = %(secure)s, shift = %(shift)s,
     images = %(images)s, base = %(new)s, archived = %(new)s, chain = %(chain)b, succeed = false
   WHERE id = %(id)s AND run = %(run)s AND generation = %(generation)s AND archived = %(old)s AND next_generation > %(next)s AND NOT dropped
     AND table_number <= %(table_number)s
@@ -252,10 +246,17 @@ WHERE l.name = %(name)s AND l.identity = COALESCE(%(database)s::uuid, l.identity
   AND b.lsn = %(position)s AND b.lsn <= l.archived AND EXISTS (SELECT 1 FROM me)
 """
 
+STORED_BLOCK = f"""
+SELECT l.id FROM pagelog_log l JOIN pagelog_object o ON o.log = l.id
+WHERE l.name = %(name)s AND l.identity = COALESCE(%(database)s::uuid, l.identity) AND l.format = {FORMAT}
+  AND o.first <= %(position)s AND o.last >= %(position)s AND o.state = 2 AND %(position)s <= l.archived
+"""
+"""The database whose block at a position is in the store alone."""
+
 _DROP = f"""
 WITH gone AS (
   UPDATE pagelog_log SET dropped = true, name = name || '!' || id, run = NULL, holder = NULL, address = NULL
-  WHERE name = %(name)s AND format = {FORMAT} AND NOT dropped RETURNING id, name){{trail}}
+  WHERE name = %(name)s AND format = {FORMAT} AND NOT dropped AND held IS NULL RETURNING id, name){{trail}}
 SELECT id, pg_notify('{CHANNEL}', '') FROM gone
 """
 DROP = _DROP.format(trail="")
@@ -264,29 +265,65 @@ renamed AS (UPDATE pagelog_trail_list t SET log = gone.name FROM gone WHERE t.lo
 
 PUBLISH = """
 WITH told AS (
-  UPDATE pagelog_log SET address = %(address)s, shift = %(shift)s, images = %(images)s
+  UPDATE pagelog_log SET address = %(address)s, secure = %(secure)s, shift = %(shift)s, images = %(images)s
   WHERE id = %(id)s AND run = %(run)s RETURNING id, generation)
 UPDATE pagelog_generation g SET shift = %(shift)s, images = %(images)s FROM told WHERE g.log = told.id AND g.generation = told.generation RETURNING g.log
 """
 
-TABLE = "SELECT t.text, t.secret, l.table_number FROM pagelog_table t JOIN pagelog_log l ON l.id = t.log WHERE t.log = %s"
+TABLE = """
+SELECT l.identity, l.table_number, t.text, t.secret, t.sealed, t.key FROM pagelog_table t JOIN pagelog_log l ON l.id = t.log WHERE t.log = %s
+"""
+_STORED = "text = %(text)s, secret = %(secret)s::bytea, sealed = %(sealed)s::bytea, key = %(key)s::text"
+
+CREATE = f"""
+WITH made AS (
+  INSERT INTO pagelog_log (name, format, archived, epoch, identity, next_generation)
+  VALUES (%(name)s::text, {FORMAT}, 0, 1, %(identity)s::uuid,
+    COALESCE((SELECT max(d.next_generation) + 1 FROM pagelog_log d WHERE d.dropped AND d.name = %(name)s::text || '!' || d.id), 1))
+  ON CONFLICT (name) DO NOTHING RETURNING id, name)
+INSERT INTO pagelog_table (log, text, secret, sealed, key)
+SELECT id, %(text)s, %(secret)s::bytea, %(sealed)s::bytea, %(key)s::text FROM made RETURNING log, pg_notify('{CHANNEL}', '')
+"""
+
+SEAL = f"""
+UPDATE pagelog_table SET {_STORED} WHERE log = %(id)s AND key IS NOT DISTINCT FROM %(seen_key)s::text
+  AND EXISTS (SELECT 1 FROM pagelog_log l WHERE l.id = %(id)s AND l.table_number = %(number)s AND l.identity = %(identity)s::uuid) RETURNING log
+"""
+"""The same table, by another key, if it is the newest still."""
 
 SET_TABLE = f"""
 WITH told AS (
   UPDATE pagelog_log SET table_number = table_number + 1
   WHERE id = %(id)s AND identity = %(identity)s::uuid AND table_number = %(seen)s AND NOT dropped RETURNING id, table_number),
-noted AS (UPDATE pagelog_table SET text = %(text)s FROM told WHERE log = told.id RETURNING log)
+noted AS (UPDATE pagelog_table SET {_STORED} FROM told WHERE log = told.id RETURNING log)
 SELECT table_number, pg_notify('{CHANNEL}', '') FROM told JOIN noted ON noted.log = told.id
 """
 """Another table, and its number, if the one that it was made from is the newest still. From its commit on no run and no standby with an
 older one can take the database, or follow on another run."""
 
-PUT_TABLE_BACK = """
+PUT_TABLE_BACK = f"""
 WITH told AS (
   UPDATE pagelog_log SET table_number = %(number)s
   WHERE id = %(id)s AND identity = %(identity)s::uuid AND table_number < %(number)s AND NOT dropped RETURNING id)
-UPDATE pagelog_table SET text = %(text)s FROM told WHERE log = told.id RETURNING log
+UPDATE pagelog_table SET {_STORED} FROM told WHERE log = told.id RETURNING log
 """
+
+STORED = "SELECT 1 FROM pagelog_object WHERE log = %s AND last >= %s AND state = 2 LIMIT 1"
+"""Whether the store has blocks from this position on that PostgreSQL may have no more."""
+
+PRUNED = """
+SELECT 1 FROM pagelog_base WHERE log = %(log)s
+  AND NOT EXISTS (SELECT 1 FROM pagelog_block WHERE log = %(log)s AND lsn <= %(first)s)
+  AND NOT EXISTS (SELECT 1 FROM pagelog_object WHERE log = %(log)s AND first <= %(first)s) HAVING min(base) >= %(first)s
+"""
+"""Whether a block that is missing was pruned: nothing is kept from there down, and a base above it is."""
+
+DROP_OBJECTS = """
+WITH gone AS (DELETE FROM {table} WHERE log IN ({old}) RETURNING {key} AS key),
+noted AS (INSERT INTO pagelog_gone (key) SELECT DISTINCT key FROM gone WHERE key IS NOT NULL ON CONFLICT (key) DO UPDATE SET since = now())
+SELECT key FROM gone
+"""
+"""No row of them names its object any more. Another's may: it is deleted where none has for a while."""
 
 PIECE = """
 SELECT count(*)::integer, COALESCE(string_agg(data, ''::bytea ORDER BY lsn), ''),

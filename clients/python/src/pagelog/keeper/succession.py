@@ -69,8 +69,9 @@ class Succession:
 
     def tend(self) -> None:
         """Makes a base where there are many blocks after the last one: each takeover has to load them."""
-        served, few = self._database.own, self._few(MANY)
-        many = max(few, 2 * self._pages) if few == MANY else few
+        store = self._shared.settings.store
+        served, few = self._database.own, self._few(MANY * (1 if store is None else store.bases))
+        many = max(few, few // MANY * 2 * self._pages)
         if self._stage is Stage.NONE and served.reached - max(self.base, served.images, self._tried) >= many and (
             self._basing is None or self._basing.done()
         ):  # fmt: skip
@@ -91,7 +92,7 @@ class Succession:
     async def _make_base(self, served: Served) -> None:
         settings, row, began = self._shared.settings, self._database.row, seconds()
         self._tried = served.reached
-        wish = Wish(settings.url, row.id, served.reached, served.chain.hex(), settings.keep)
+        wish = Wish(settings.url, row.id, served.reached, served.chain.hex(), settings.keep, settings.store)
         made = await made_of(wish, served.reached - max(self.base, served.images))
         self.base, self._pages = made.position, made.pages
         pruned = f", and {made.pruned} blocks were pruned" if made.pruned else ""
@@ -118,7 +119,7 @@ class Succession:
         """A service with the images of a base, and the blocks after it but for the last few. The base is a ttl old by then, so that
         who reads at a position of the last ttl can go on in the next generation; but not where the present service may soon be full."""
         settings, began = self._shared.settings, seconds()
-        self._referee = Referee(settings.url, settings.name, self._shared.life, requires_standby=settings.require_standby)
+        self._referee = Referee(settings.url, settings.name, self._shared.life, requires_standby=settings.require_standby, store=settings.store)
         row = self._database.row
         given = await self._ask(number, row.id, served.run, served.generation, self._shared.numbers.least(row))
         if given is None:
@@ -158,7 +159,20 @@ class Succession:
         assert successor is not None and self._referee is not None
         if not successor.is_alive:
             raise BrokenArchive("the service of the next generation ended")
-        await asyncio.to_thread(successor.follow, self._referee, self._database.row.id, served.reached, served.chain)
+        reached, chain = served.reached, served.chain
+        try:
+            await asyncio.to_thread(self._bring, served, successor, reached, chain)
+        except PagelogError as error:
+            self._say_again(f"the next service is filled from PostgreSQL: {error}")
+            await asyncio.to_thread(successor.follow, self._referee, self._database.row.id, reached, chain)
+
+    def _bring(self, served: Served, successor: Served, reached: int, chain: bytes) -> None:
+        """Loads what is archived from the present service, which has it: PostgreSQL is asked for the images alone. In a thread."""
+        assert self._referee is not None
+        successor.begin(self._referee, self._database.row.id, reached)
+        if successor.reached < reached:
+            successor.fill(served.logged(successor.loaded, reached), reached, chain)
+        successor.begun = successor.begun or (0 if successor.process is None else successor.process.memory)
 
     async def give_up(self) -> None:
         """Ends what was made. The present generation is as it was."""
@@ -317,9 +331,10 @@ def _closed(log: int, number: int, served: Served, successor: Served, loader: Lo
     successor.load(loader, [blocks], end, chain)
     if not successor.is_alive:
         raise Refused("the next service has ended")  # where there is nothing to load, nothing else has shown it
-    assert successor.process is not None
-    return Switch(log, served.run, served.generation, served.reached, rest, chain, number, successor.run, successor.process.address,
-                  successor.shift, successor.images, table_number=successor.table_number)  # fmt: skip
+    where = successor.where
+    assert where.address is not None
+    return Switch(log, served.run, served.generation, served.reached, rest, chain, number, successor.run, where.address,
+                  successor.shift, successor.images, table_number=successor.table_number, secure=where.secure)  # fmt: skip
 
 
 def _pulled(served: Served, position: int, end: int) -> list[bytes]:

@@ -31,6 +31,8 @@ class Switch:
     """Of the old one's audit list, which speak of the blocks."""
     table_number: int = 1
     """Of the table that the next run was started with."""
+    secure: str | None = None
+    """The way to the next run by TLS, as the column has it."""
 
     @property
     def end(self) -> int:
@@ -55,7 +57,7 @@ def succeed(referee: Referee, switch: Switch) -> bool:
     statement = statements.SUCCEED if switch.lines is None else statements.SUCCEED_WITH_LINES
     return bool(referee._ask(statement, {
         "id": switch.log, "run": switch.run, "generation": switch.generation, "me": referee.me, "next": switch.next, "next_run": switch.next_run,
-        "address": switch.address, "shift": switch.shift, "images": switch.images, "old": switch.old, "new": switch.end,
+        "address": switch.address, "secure": switch.secure, "shift": switch.shift, "images": switch.images, "old": switch.old, "new": switch.end,
         "chain": switch.chain, "table_number": switch.table_number, **values_of_blocks(switch.blocks), **values_of_lines([(switch.log, switch.lines)]),
     }))  # fmt: skip
 

@@ -39,6 +39,20 @@ def token_of(token: bytes, name: str, run: str) -> bytes:
     return hmac.new(token, f"{name}/{run}".encode(), hashlib.sha256).digest()[:16]
 
 
+def proof_of(token: bytes, nonce: str, name: str, principal: int, of: str) -> str:
+    """What proves to the keeper that has said `nonce` over this connection that a client has the `token` of a principal of the table of a
+    database: the HMAC-SHA256, by the token's 16 bytes, of `prove NONCE NAME PRINCIPAL DATABASE/RUN`, in 64 digits.
+
+    The text has spaces, which that of `token_of` never has: whatever a keeper says as a nonce, no proof is a token of a run.
+    """
+    return hmac.new(token, f"prove {nonce} {name} {principal} {of}".encode(), hashlib.sha256).hexdigest()
+
+
+def tokens_of(text: str) -> dict[int, bytes]:
+    """The tokens of a table, by their principals. Raises `TableError`."""
+    return {int(each["id"]): bytes.fromhex(each["token"]) for each in read_table(text)["principal"]}
+
+
 def keeper_of(secret: bytes, name: str, run: str) -> Credentials:
     """The keeper's credentials in this run."""
     return Credentials(KEEPER, token_of(secret, name, run))

@@ -10,7 +10,12 @@ whole by epochs, whoever has the turn.
     turn NAME .. heartbeat
                       by who answers each `wanted NAME` at once: with `hold` where its transaction runs, else with `back`. Where another
                       keeps the turn, and may not use it, `now` is told soon NAME, and the rest as soon as that is known
+    turn NAME .. slices
+                      by who writes one transaction after the other, and waits for none until it is durable. Where another has written since
+                      its last turn it is told turn NAME other kept slice=MS, and may write for so long without a word
     back NAME         the turn is given back, or not waited for any more. There is no answer
+    back NAME epoch=E the same of who has written in this epoch. The next one is told so: `turn NAME other epoch=E`. It may begin the next
+                      epoch, and read what was written, by one message to the service, which refuses it where that is not so
     hold NAME         the turn is in use. There is no answer
 
 Who has had many turns in a row may keep the last one and write on without a word. It is told `wanted NAME` once another asks, and gives
@@ -23,10 +28,11 @@ as long as it likes; if nothing is heard of it for a ttl it is gone or stands st
 from __future__ import annotations
 
 import asyncio
+import time
 from collections import deque
 from typing import Callable
 
-from pagelog.keeper.lines import Line
+from pagelog.keeper.lines import Key, Line
 
 MANY = 16
 """Turns in a row that nobody else has asked for, after which the next one is kept."""
@@ -34,10 +40,20 @@ GRACE = 1.0
 """For how many seconds a turn that is kept, and was wanted back, is waited for in silence."""
 TTL = 3.0
 """Where a keeper says no other."""
+MOST_WAITING = 1_000
+"""Connections of one principal that wait for the turn, or of all that have proved none: the next one is told `elsewhere`."""
 BEATS = 4
 """Heartbeats in a ttl that are asked of who has the turn while others wait."""
-EARLY = 0.3
-"""For how many seconds after a generation has begun who had the turn in the one before is waited for, if it is not known that nobody had."""
+SLICE = 0.01
+"""For how many seconds a slice lasts. Then it is wanted back, whoever waits, since who has it may have nothing to write."""
+EARLY = 1.0
+"""For how many seconds after a generation has begun who had the turn in the one before is waited for, if it is not known that nobody had.
+Meanwhile those who wait until a commit is durable bring the next generation what it lacks of them, and nobody writes in its place."""
+MOST_EARLY = 4.0
+"""For how many seconds at most, while some of them ask what became of the generation before."""
+LATELY = 4
+"""For how many ttls a turn that was given back counts as one that somebody has: a commit that it was for may not be durable yet, and it takes
+a while until it is seen that a service stands still."""
 
 
 class Turns:
@@ -58,9 +74,15 @@ class Turns:
         self._waiting: deque[Line] = deque()
         self._holder: Line | None = None
         self._last: Line | None = None
+        self._given_back = float("-inf")
+        """When a turn was given back last."""
+        self._epoch: int | None = None
+        """The epoch that was written in last, as who gave the turn back has said."""
         self._in_a_row = 0
         self._is_kept = False
         """The turn is kept, and may not be in use."""
+        self._slice: asyncio.TimerHandle | None = None
+        """The end of a slice that runs."""
         self._has_heartbeat = False
         self._unheard = 0
         """Heartbeats that were asked for since the last one."""
@@ -69,22 +91,31 @@ class Turns:
         """Of those who wait: who asked for the turn at once, and waits only while it is early, or while the turn may not be in use."""
         self._beating: set[Line] = set()
         """Who has a heartbeat."""
+        self._slicing: set[Line] = set()
+        """Who has one, and takes slices."""
         self._is_early = generation > 1 and not was_idle
+        self._early: asyncio.TimerHandle | None = None
+        """The end of that time."""
+        self._latest = time.monotonic() + MOST_EARLY - EARLY
         if self._is_early:
-            self._after(EARLY, self._begin)
+            self._early = self._after(EARLY, self._begin)
 
     def __contains__(self, line: Line) -> bool:
         return line is self._holder or line in self._waiting
 
     def next(self, generation: int) -> Turns:
         """Ends the turns of this generation, and begins those of a later one, which this keeper has too."""
-        was_idle = generation == self.generation + 1 and self._holder is None and not self._is_early
+        is_used = self._holder is not None or time.monotonic() < self._given_back + LATELY * self._ttl
+        was_idle = generation == self.generation + 1 and not is_used and not self._is_early
         self.end()
-        return Turns(self.name, generation, self._after, was_idle=was_idle, ttl=self._ttl)
+        turns = Turns(self.name, generation, self._after, was_idle=was_idle, ttl=self._ttl)
+        turns._given_back = self._given_back
+        return turns
 
-    def ask(self, line: Line, *, now: bool, mine: bool = False, heartbeat: bool = False) -> None:
+    def ask(self, line: Line, *, now: bool, mine: bool = False, heartbeat: bool = False, slices: bool = False) -> None:
         """Gives the turn to who asks, at once or later."""
         (self._beating.add if heartbeat else self._beating.discard)(line)
+        (self._slicing.add if heartbeat and slices else self._slicing.discard)(line)
         if line is self._holder:
             self._pass_on()  # it has lost count of it
         is_first = mine and self._is_early
@@ -97,11 +128,18 @@ class Turns:
         is_soon = now and heartbeat and self._is_kept
         if now and not self._is_early and not is_soon:
             line.say("busy", self.name)
+        elif self._has_many(line):
+            line.say("elsewhere", self.name)
         else:
             self._wait(line, now)
         if is_soon:
             line.say("soon", self.name)
         self._want_back()
+
+    def _has_many(self, line: Line) -> bool:
+        """Whether as many wait as one principal may have wait, and all are its own."""
+        return len(self._waiting) >= MOST_WAITING and line not in self._waiting and (
+            sum(each.asker == line.asker for each in self._waiting) >= MOST_WAITING)  # fmt: skip
 
     def _wait(self, line: Line, now: bool) -> None:
         (self._hurried.add if now else self._hurried.discard)(line)
@@ -115,12 +153,14 @@ class Turns:
             line.say("busy", self.name)
         self._hurried.clear()
 
-    def back(self, line: Line) -> None:
+    def back(self, line: Line, epoch: int | None = None) -> None:
         """Who has the turn gives it back; who waits for it waits no more."""
         if line in self._waiting:
             self._waiting.remove(line)
             self._hurried.discard(line)
         if line is self._holder:
+            self._given_back = time.monotonic()
+            self._epoch = self._epoch if epoch is None else epoch
             self._pass_on()
 
     def hold(self, line: Line) -> None:
@@ -133,10 +173,17 @@ class Turns:
         if not self._has_heartbeat or not self._waiting:
             self._stop_grace()
 
+    def expect(self) -> None:
+        """Somebody has asked what became of the generation before, and brings what that has not archived. It is early for so much longer."""
+        if self._early is not None and self._is_early and time.monotonic() < self._latest:
+            self._early.cancel()
+            self._early = self._after(EARLY, self._begin)
+
     def gone(self, line: Line) -> None:
         """The connection is gone, and with it its turn."""
         self.back(line)
         self._beating.discard(line)
+        self._slicing.discard(line)
         if line is self._last:
             self._last = None
 
@@ -148,6 +195,7 @@ class Turns:
         self._waiting.clear()
         self._hurried.clear()
         self._beating.clear()
+        self._slicing.clear()
 
     def _begin(self) -> None:
         """Who had the turn before has come by now, or had no transaction."""
@@ -170,16 +218,32 @@ class Turns:
         is_same = line is self._last
         self._in_a_row = self._in_a_row + 1 if is_same else 0
         self._holder = self._last = line
-        self._is_kept = self._in_a_row >= MANY and not self._waiting
+        has_slice = line in self._slicing and not is_same
+        self._is_kept = has_slice or (self._in_a_row >= MANY and not self._waiting)
         self._has_heartbeat = line in self._beating
-        line.say("turn", self.name, "same" if is_same else "other", *(["kept"] if self._is_kept else []))
+        if has_slice:
+            self._slice = self._after(SLICE, self._end_slice)
+        keys = [] if is_same or self._epoch is None else [Key(f"epoch={self._epoch}")]
+        keys += [Key(f"slice={1000 * SLICE:.0f}")] if has_slice else []
+        line.say("turn", self.name, "same" if is_same else "other", *(["kept"] if self._is_kept else []), *keys)
+
+    def _end_slice(self) -> None:
+        """Who has nothing to write gives the turn back, though nobody waits: it may be long until it is asked."""
+        self._slice = None
+        if self._holder is not None and not self._waiting:
+            self._holder.say("wanted", self.name)
+            return
+        self._want_back()
 
     def _let_go(self) -> None:
         self._stop_grace()
+        if self._slice is not None:
+            self._slice.cancel()
+        self._slice = None
         self._holder, self._is_kept, self._unheard = None, False, 0
 
     def _want_back(self) -> None:
-        if self._holder is None or self._grace is not None:
+        if self._holder is None or self._grace is not None or self._slice is not None:
             return
         if self._is_kept:
             self._holder.say("wanted", self.name)
@@ -217,8 +281,8 @@ class AllTurns:
         self._after, self._ttl = after, ttl
         self._turns: dict[str, Turns] = {}
 
-    def take(self, line: Line, words: list[str], generation: int | None) -> None:
-        """Does what a line asks. `generation` is the one that is held here, or None."""
+    def take(self, line: Line, words: list[str], generation: int | None, epoch: int | None = None) -> None:
+        """Does what a line asks. `generation` is the one that is held here, or None; `epoch` what it says of itself."""
         word, name = words[:2]
         turns = self.changed(name, generation)
         if turns is None:
@@ -227,9 +291,9 @@ class AllTurns:
             return
         match words:
             case ["turn", _, *how]:
-                turns.ask(line, now="now" in how, mine="mine" in how, heartbeat="heartbeat" in how)
+                turns.ask(line, now="now" in how, mine="mine" in how, heartbeat="heartbeat" in how, slices="slices" in how)
             case ["back", _]:
-                turns.back(line)
+                turns.back(line, epoch)
             case ["hold", _]:
                 turns.hold(line)
 
@@ -245,6 +309,12 @@ class AllTurns:
         elif turns.generation != generation:
             turns = self._turns[name] = turns.next(generation)
         return turns
+
+    def expect(self, name: str, generation: int) -> None:
+        """In this generation, which is held here, somebody asks for what became of another."""
+        turns = self.changed(name, generation)
+        if turns is not None:
+            turns.expect()
 
     def look(self, generation_of: Callable[[str], int | None]) -> None:
         """Ends the turns of generations that are over."""

@@ -2,6 +2,7 @@
 
 from __future__ import annotations
 
+from pagelog.keeper.confirmations import Confirmations
 from pagelog.keeper.fate import Of
 from pagelog.keeper.lines import Line, of_word
 
@@ -16,6 +17,7 @@ class Waits:
     def __init__(self, name: str) -> None:
         self._name = name
         self._waits: dict[Line, list[int]] = {}
+        self.confirmations = Confirmations(name)
         self.of: Of | None = None
         """Of which database and run they all are."""
 
@@ -23,7 +25,7 @@ class Waits:
         return len(self._waits)
 
     def __contains__(self, line: Line) -> bool:
-        return line in self._waits
+        return line in self._waits or line in self.confirmations
 
     def add(self, line: Line, position: int) -> bool:
         """Somebody waits. False where it waits for very many already."""
@@ -42,7 +44,8 @@ class Waits:
         return {line: list(positions) for line, positions in self._waits.items()}
 
     def taken(self) -> dict[Line, list[int]]:
-        """Those who waited until now."""
+        """Those who waited until now. Who waits for more is told that it comes from elsewhere."""
+        self.confirmations.end()
         taken, self._waits = self._waits, {}
         return taken
 

@@ -19,7 +19,7 @@ IMAGES = 32
 _GENERATION = """
 SELECT g.shift, g.images, l.archived, l.chain,
   COALESCE((SELECT min(n.base) FROM pagelog_generation n WHERE n.log = g.log AND n.generation > g.generation), l.archived),
-  COALESCE((SELECT min(lsn) FROM pagelog_block WHERE log = g.log), l.archived + 1)
+  COALESCE(LEAST((SELECT min(lsn) FROM pagelog_block WHERE log = g.log), (SELECT min(first) FROM pagelog_object WHERE log = g.log)), l.archived + 1)
 FROM pagelog_generation g JOIN pagelog_log l ON l.id = g.log
 WHERE g.log = %(log)s AND CASE WHEN %(run)s = '' THEN g.generation = %(generation)s ELSE g.run = %(run)s AND l.identity::text = %(database)s END
 """

@@ -3,11 +3,14 @@
 from __future__ import annotations
 
 from contextlib import contextmanager
-from typing import Iterator, Protocol
+from typing import TYPE_CHECKING, Iterator, Protocol
 
 from pagelog.archive import Archive
 from pagelog.trail.seal import sealed_blocks
 from pagelog.trail.store import Trail, TrailList
+
+if TYPE_CHECKING:
+    from pagelog.store.settings import StoreSettings
 
 
 class Log(Protocol):
@@ -48,8 +51,8 @@ class ArchivedLog:
 
 
 @contextmanager
-def log_of(trail: Trail, archive: Archive, one: TrailList) -> Iterator[Log | None]:
-    """The log of a list; None where the archive does not say how its service began."""
+def log_of(trail: Trail, archive: Archive, one: TrailList, store: StoreSettings | None = None) -> Iterator[Log | None]:
+    """The log of a list; None where the archive does not say how its service began. `store` has blocks that PostgreSQL has no more."""
     if not archive.is_kept:
         yield ArchivedLog(trail, archive)
         return
@@ -57,7 +60,7 @@ def log_of(trail: Trail, archive: Archive, one: TrailList) -> Iterator[Log | Non
     from pagelog.keeper.referee import Referee
     from pagelog.trail.generation import GenerationLog
 
-    referee = Referee(trail.url)
+    referee = Referee(trail.url, store=store)
     try:
         with snapshot(referee):
             yield GenerationLog.of(referee, archive.id, one)

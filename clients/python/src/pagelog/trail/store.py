@@ -471,6 +471,11 @@ def _piece(row: Any) -> Piece:
     return Piece(row.first, row.seen, lines)
 
 
+def tables() -> list[sql.Table]:
+    """Those of trails, in the order in which they are made."""
+    return list(_metadata.sorted_tables)
+
+
 def _make(engine: Engine) -> None:
     """Makes what is not there. Where another does so at the same time, it is looked for again."""
     try:

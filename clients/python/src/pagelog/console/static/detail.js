@@ -74,7 +74,9 @@ function facts(database, now) {
     ["Generation", number(database.generation), ...since],
     ["Position", number(database.position)],
     ["Durable lag", lagOf(database)],
+    ...(database.stored === null ? [] : [["In the store up to", number(database.stored)]]),
     ["Standbys", standbysOf(database)],
+    ...(database.pages.length ? [["Page servers", pagesOf(database)]] : []),
     ["Commits", `${rate(database.commits)} a second`],
     ["Reads", database.denials === null ? "not known: no trail is kept" : `${rate(database.reads)} a second`],
     ["List left", ...(left === null ? ["–"] : [gauge(database), `${number(left)} of ${number(entries)} entries`])],
@@ -91,6 +93,11 @@ function standbysOf({ standbys, position }) {
   const behind = (each) => `${number(Math.max(0, position - each.reached))} blocks behind`;
   const words = standbys.map((each) => `${each.keeper}, ${each.lives ? behind(each) : "no beat"}`);
   return words.join("; ") || "none: a takeover fills a fresh service first";
+}
+
+function pagesOf({ pages, position }) {
+  const behind = (each) => `${number(Math.max(0, position - each.position))} blocks behind`;
+  return pages.map((each) => `${each.machine}, ${each.gone ? "not heard of" : behind(each)}`).join("; ");
 }
 
 // What is asked for.

@@ -1,0 +1,90 @@
+"""What PostgreSQL knows of page servers, and what it says to one of its database."""
+
+from __future__ import annotations
+
+from dataclasses import dataclass, field
+from typing import Any, Mapping
+
+from pagelog.keeper.history import spans
+from pagelog.keeper.referee import Referee
+from pagelog.keeper.ways import address_for, way_of
+
+_LOOK = """
+WITH me AS (
+  INSERT INTO pagelog_pages (run, log, machine, address, position, persisted, oldest, table_number, aside)
+  SELECT %(run)s, id, %(machine)s, %(address)s, %(position)s, %(persisted)s, %(oldest)s, %(table_number)s, %(aside)s::jsonb FROM pagelog_log
+    WHERE identity = %(identity)s::uuid AND NOT dropped
+  ON CONFLICT (run) DO UPDATE SET address = excluded.address, position = excluded.position, persisted = excluded.persisted,
+    oldest = excluded.oldest, table_number = excluded.table_number, aside = excluded.aside, beat = pagelog_pages.beat + 1,
+    seen = now() RETURNING log)
+SELECT l.id, l.archived, l.chain, l.table_number, k.lines, k.secure, k.run
+FROM pagelog_log l JOIN me ON l.id = me.log LEFT JOIN pagelog_keeper k ON k.name = l.holder
+"""
+_NEWS = "SELECT archived, table_number FROM pagelog_log WHERE id = %s AND identity = %s::uuid"
+_END = "UPDATE pagelog_pages SET address = '', seen = now() WHERE run = %s RETURNING run"
+_LEAVE = "DELETE FROM pagelog_pages WHERE run = %s OR log IN (SELECT id FROM pagelog_log WHERE dropped) RETURNING run"
+_NAMES = "SELECT name, identity::text FROM pagelog_log WHERE NOT dropped AND format = %s ORDER BY name"
+
+
+@dataclass(frozen=True)
+class Entry:
+    """A page server, as it says of itself."""
+
+    run: str
+    identity: str
+    machine: str
+    address: str
+    position: int
+    persisted: int
+    oldest: int
+    table_number: int
+    aside: str
+    """Stores that were set aside, as JSON."""
+
+
+@dataclass(frozen=True)
+class Archived:
+    """Of a database: the archived position, the digest of all blocks up to it, and the number of its newest table; and who holds it."""
+
+    log: int
+    position: int
+    chain: bytes = field(repr=False)
+    table_number: int
+    lines: str | None
+    """Where the lines of the keeper that holds it are, without TLS; None where there are none."""
+
+
+def names(referee: Referee, format: int) -> Mapping[str, str]:
+    """The identity of each database, by its name."""
+    return dict(referee._ask(_NAMES, (format,)))
+
+
+def look(referee: Referee, entry: Entry) -> Archived | None:
+    """Enters it, and returns what is archived, by a statement that writes: an old leader of PostgreSQL makes none. None where PostgreSQL has
+    no such database, or it was dropped."""
+    found: list[Any] = referee._ask_bounded(_LOOK, vars(entry), binary=False)
+    if not found:
+        return None
+    log, position, chain, table_number, lines, secure, run = found[0]
+    return Archived(log, position, bytes(chain), table_number, None if lines is None else address_for(lines, way_of(secure, run), is_secure=False))
+
+
+def news(referee: Referee, log: int, identity: str) -> tuple[int, int]:
+    """The archived position and the number of the newest table, by a statement that only reads: a hint. Zeros where there is none."""
+    found = referee._ask_bounded(_NEWS, (log, identity))
+    return (int(found[0][0]), int(found[0][1])) if found else (0, 0)
+
+
+def oldest_kept(referee: Referee, log: int) -> int:
+    """The oldest position that PostgreSQL can give all pages of: that of its oldest base, or 0."""
+    return spans(referee)[log].oldest
+
+
+def note_end(referee: Referee, run: str) -> None:
+    """It has ended in order: nobody is answered, until it looks again."""
+    referee._ask_bounded(_END, (run,))
+
+
+def leave(referee: Referee, run: str) -> None:
+    """It is gone for good; so are the page servers of databases that were dropped."""
+    referee._ask_bounded(_LEAVE, (run,))
