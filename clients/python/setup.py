@@ -1,5 +1,5 @@
 """What pyproject.toml cannot say: the library of a keeper's quick way, which it loads by ctypes. A machine without a compiler, libpq,
-libb2 or zlib gets the package without it."""
+libb2, libcrypto or zlib gets the package without it."""
 
 from __future__ import annotations
 
@@ -22,7 +22,7 @@ def folder_of_libpq() -> list[str]:
 # It is of no Python's own interface, so one serves each version.
 quick_way = Extension(
     "pagelog.keeper._quick_way", sorted(glob.glob("src/pagelog/keeper/quick_way*.c")), depends=glob.glob("src/pagelog/keeper/quick_way*.h"),
-    include_dirs=folder_of_libpq(), libraries=["pq", "b2", "z"], extra_link_args=["-pthread"],
+    include_dirs=folder_of_libpq(), libraries=["pq", "b2", "z", "crypto"], extra_link_args=["-pthread"],
     extra_compile_args=["-std=c11", "-D_GNU_SOURCE", "-Wall", "-Wextra", "-O2", "-pthread", "-fvisibility=hidden"], py_limited_api=True, optional=True,
 )  # fmt: skip
 setup(ext_modules=[quick_way], options={"build": {"build_base": "out"}})
