@@ -22,6 +22,8 @@ sys.path[:0] = [str(HERE), str(HERE.parent / "src")]
 
 import torture_pages  # noqa: E402
 import torture_sqlite  # noqa: E402
+from by_tls import VARIABLE  # noqa: E402
+from secured import Certificates  # noqa: E402
 from service import PATIENCE  # noqa: E402
 from torture_check import BOUND, Check, Drop, Past, Restored  # noqa: E402
 from torture_faults import Faults, slowness  # noqa: E402
@@ -33,6 +35,7 @@ WRITERS = (("full", "s1.full", ""), ("normal", "s1.normal", ""), ("behind", "s2.
            ("attached", "s3.attached", "s1"), ("writes", "p1.writes-0", ""), ("writes", "p1.writes-1", ""), ("groups", "p2.groups-0", ""))  # fmt: skip
 READERS = (("readers", "s1.readers", ""), ("readers", "s2.readers", ""), ("readers", "s3.readers", ""),
            ("page_readers", "p1.readers", "p1.writes-0 p1.writes-1"), ("page_readers", "p2.readers", "p2.groups-0"))  # fmt: skip
+BY_TLS = "--tls"
 CLIENTS = torture_sqlite.KINDS | torture_pages.KINDS
 QUIET = 25.0
 """Seconds of rounds between two times at which all is healed, and each writer has to go on."""
@@ -86,7 +89,7 @@ class Segment:
 
     def start_client(self, kind: str, who: str, other: str) -> subprocess.Popen[bytes]:
         job = Job(self.folder, self.keepers.addresses, who.partition(".")[0], who, self.seed, other)
-        self.clients[who] = subprocess.Popen([sys.executable, "-B", __file__, "client", kind, *job.words()])
+        self.clients[who] = subprocess.Popen([sys.executable, __file__, "client", kind, *job.words()])
         return self.clients[who]
 
     def _kill_clients(self) -> None:
@@ -287,7 +290,7 @@ def segments(seconds: float, seed: int, only: list[str]) -> int:
         with tempfile.NamedTemporaryFile("w+", suffix=".json") as file:
             file.write(json.dumps(counts.of))
             file.flush()
-            words = [sys.executable, "-B", __file__, "segment", kind, str(each), str(seed + number), file.name]
+            words = [sys.executable, __file__, "segment", kind, str(each), str(seed + number), file.name]
             worst = max(worst, abs(subprocess.run(in_own_mounts(words)).returncode))
             known, counts = counts, Counts(json.loads(Path(file.name).read_text()))
         if counts.of == known.of:
@@ -317,8 +320,10 @@ def main(words: list[str]) -> int:
         return 0
     if words[:1] == ["segment"]:
         return segment(words[1:])
+    if BY_TLS in words:
+        os.environ[VARIABLE] = str(Certificates().ca)
     only = [word for word in words if word in KINDS]
-    numbers = [word for word in words if word not in KINDS]
+    numbers = [word for word in words if word not in (*KINDS, BY_TLS)]
     return segments(float(numbers[0]) if numbers else 120.0, int(numbers[1]) if len(numbers) > 1 else 1, only)
 
 

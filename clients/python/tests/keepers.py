@@ -17,7 +17,7 @@ import threading
 import time
 import unittest
 import urllib.request
-from contextlib import contextmanager
+from contextlib import contextmanager, suppress
 from pathlib import Path
 from typing import Any, Callable, Iterator
 
@@ -30,7 +30,7 @@ from pagelog.desk.words import pagelogctl
 from pagelog.keeper.referee import KeeperError, Referee, digest, plain_url
 from pagelog.keeper.rows import Batch, Row
 from pagelog.keeper.run import orphans_of
-from pagelog.place import Keepers, Place
+from pagelog.place import Keepers, Place, UnknownName
 from postgres import postgres
 from quick_library import build
 from service import PATIENCE, PROGRAM, SOURCE, TABLE, WIDE_TABLE, Port, put, stand_still, token
@@ -146,7 +146,7 @@ class Keeping:
 
     def __init__(self, *, ttl: float = 1.5, standby: bool = True, audit: int = 1_000_000, url: str | None = None, more: str = "") -> None:
         self.url = url or shared_url()
-        self.environment = {**os.environ, "PYTHONPATH": str(SOURCE), "PYTHONPYCACHEPREFIX": tempfile.gettempdir() + f"/pagelog-pycache-{os.getpid()}"}
+        self.environment = {**os.environ, "PYTHONPATH": str(SOURCE)}
         self.referee = Referee(self.url)
         self.folder = Path(tempfile.mkdtemp(prefix="pagelog-keeping-"))
         self.ttl = ttl
@@ -163,6 +163,12 @@ class Keeping:
         self.processes: dict[str, subprocess.Popen[str]] = {}
         self.ports = dict.fromkeys("abcd", 0)
         self.held: list[Port] = []
+        self.host = "127.0.0.1"
+        """Where services are reached."""
+        self.words: tuple[object, ...] = ()
+        """More of a keeper's arguments."""
+        self.user: dict[str, Any] = {}
+        """As whom keepers run, as `Popen` has it."""
 
     def __enter__(self) -> Keeping:
         return self
@@ -177,6 +183,7 @@ class Keeping:
             port.close()
         for name in self.processes:
             end_left(self.folder / name)
+        end_services(self.folder)  # also those that are set aside, which no keeper ends
         self.referee.close()
         self.referee.prepare()  # older keepers may have left older tables
         for row in self.referee.everything().rows:
@@ -198,13 +205,29 @@ class Keeping:
             raise AssertionError(f"{words}: {done.exit_code}: {done.output}")
         return done.output
 
+    def refused(self, *words: object) -> str:
+        """What such a word says that is refused."""
+        try:
+            said = self.word(*words)
+        except AssertionError as error:
+            return str(error)
+        raise AssertionError(f"{words} was not refused: {said}")
+
+    def knows(self, name: str = "shop") -> bool:
+        """Whether a keeper says where it is."""
+        try:
+            self.place(name)
+        except UnknownName:
+            return False
+        return True
+
     def start(self, *names: str, program: str = PROGRAM) -> None:
         """Starts keepers, and waits until they listen."""
         self.launch(*names, program=program)
         for name in names:
             line = self.processes[name].stdout.readline()  # type: ignore[union-attr]
             assert line.startswith("listening"), self.said()
-            assert line.split()[1] == f"127.0.0.1:{self.ports[name]}"
+            assert line.split()[1] == self.lines_of(name)
 
     def launch(self, *names: str, program: str = PROGRAM) -> None:
         build()
@@ -213,10 +236,19 @@ class Keeping:
                 self.held.append(Port())
                 self.ports[name] = self.held[-1].number  # which it has again when it is started again
             words = [sys.executable, *self.keeper, "keep", "--name", self.names.get(name, name), "--lines", f"127.0.0.1:{self.ports[name]}",
-                     "--serve", "127.0.0.1", "--folder", self.folder / name, "--program", program, "--credentials", self.file]  # fmt: skip
+                     "--serve", self.host, "--folder", self.folder / name, "--program", program,
+                     "--credentials", self.file_of(name), *self.words]  # fmt: skip
             with (self.folder / f"{name}.log").open("a") as log:
                 self.processes[name] = subprocess.Popen(list(map(str, words)), stdout=subprocess.PIPE, stderr=log, text=True,
-                                                        env=self.environment)  # fmt: skip
+                                                        env=self.environment, **self.user)  # fmt: skip
+
+    def lines_of(self, name: str) -> str:
+        """Where a keeper says that it listens."""
+        return f"127.0.0.1:{self.ports[name]}"
+
+    def file_of(self, name: str) -> Path:
+        """The credentials of a keeper."""
+        return self.file
 
     def kill(self, name: str, number: int = signal.SIGKILL) -> None:
         process = self.processes[name]
@@ -316,9 +348,10 @@ def services(folder: Path) -> list[int]:
 
 
 def end_services(folder: Path) -> None:
-    """Ends them all, for a test that has failed."""
+    """Ends them all."""
     for process in services(folder):
-        os.kill(process, signal.SIGKILL)
+        with suppress(ProcessLookupError):  # it ends by itself
+            os.kill(process, signal.SIGKILL)
 
 
 def end_left(folder: Path) -> None:

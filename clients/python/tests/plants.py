@@ -1,10 +1,12 @@
 """Takes out each precaution of the keepers, one at a time, on a copy, and sees that its test fails.
 
 Usage: python3 -B clients/python/tests/plants.py [NAME ..]
+       python3 -B clients/python/tests/plants.py --fit      (sees that each edit fits its source once, and names a part: a second)
 """
 
 from __future__ import annotations
 
+import importlib
 import os
 import re
 import shutil
@@ -12,42 +14,99 @@ import subprocess
 import sys
 import tempfile
 from pathlib import Path
-from typing import NamedTuple
 
-PYTHON = Path(__file__).resolve().parent.parent
-
-
-class Plant(NamedTuple):
-    """An edit of a module of the keepers, and the part and the test that have to see it."""
-
-    module: str
-    old: str
-    new: str
-    part: str
-    test: str
-
+from plant import PYTHON, Plant
 
 PLANTS = {
+    "seal by its digest": Plant("../store/tables", "\n    AND {_SAME} RETURNING log)\nINSERT", " RETURNING log)\nINSERT", "store", "does_not_believe"),
+    "seal once": Plant("../store/tables", "AND moved = %(first)s - 1 AND chain = %(before)s", "AND moved >= 0", "store", "is_sealed_once"),
+    "begun by identity": Plant("../store/tables", "WHERE id = %(log)s AND identity = %(identity)s::uuid AND NOT dropped ON CONFLICT",
+                               "WHERE id = %(log)s AND NOT dropped ON CONFLICT", "store", "number_is_another_ones"),
+    "a generation that was lost": Plant("../store/rescuing", "max(each.generation for each in found) + GAP", "1", "rescues", "goes_on"),
+    "the later history": Plant("../store/histories", "key=lambda each: (each.generation, each.last), reverse=True", "key=lambda each: each.last, reverse=True",
+                               "rescues", "of_two_histories"),
+    "amid an object": Plant("../store/histories", "if within(key, position) == wanted), None)", "if True), None)", "rescues", "is_not_another"),
+    "a branch's own name": Plant("history", "    ancestor = written_name(referee, row, position)\n", "    ancestor = None\n", "branches", "name_in_its_pages"),
+    "a branch ends at its position": Plant("history", "LEAST(last, cut), key,", "last, key,", "branches", "both_go_on"),
+    "rights of objects": Plant("schema", "EXECUTE format('GRANT %s ON %I TO %s', one.kind, made, one.name);", "NULL;", "store", "may_read_objects"),
+    "objects of a drop": Plant("../desk/drop_words", "    if not any(counts):\n", "    if not any(counts[:4]):\n", "store", "cut_off_before_its_objects"),
+    "read back": Plant("../store/mover", "        if not self._is_there(row):\n", "        if False:\n", "store", "before_it_was_read_back"),
+    "cleared to the cut": Plant("../store/tables", "  AND lsn <= (SELECT cut FROM pagelog_store WHERE log = %(log)s) RETURNING 1", "  RETURNING 1",
+                                "store", "cleared_by_nobody"),
+    "read through": Plant("referee", "if rows[0][0] <= last - first and self.has_stored(log, first):", "if False:", "store", "are_read_through"),
+    "looks wait for no store": Plant("referee", "if rows[0][0] <= last - first and self._ask(statements.STORED, (log, first)):", "if False:", "store",
+                                     "are_read_through"),
+    "digest of an object": Plant("../store/through", "    if data is not None and is_of(data, digest):\n",
+                                 "    if data is not None:\n", "store", "older_version"),
+    "spared by another": Plant("../store/tables", "\n  AND NOT EXISTS (SELECT 1 FROM pagelog_object o WHERE o.key = g.key) AND", "\n  AND", "store",
+                               "spares_what_another"),
+    "grace": Plant("../store/tables", "g.since < now() - make_interval(secs => %(grace)s)\n", "%(grace)s >= 0\n", "store", "spares_what_another"),
+    "on its way": Plant("bases", "        return min(position, int(found[0][0])) if found else position\n", "        return position\n", "store",
+                        "leaves_what_is_on_its_way"),
+    "end in an object": Plant("bases", "return self._stored_mark(first, last) if self._referee.has_stored(self._log, first) else None", "return None",
+                              "store", "end_of_a_transaction_is_found"),
+    "foreign": Plant("../store/moving", "if said is not None and said.first > now]", "if False]", "store", "does_not_know_is_said"),
+    "an older block's store": Plant("fates", "        if isinstance(found, int):\n", "        if False:\n", "buckets", "lives_on_from_the_store"),
     "any run of a number": Plant("database", "is_of_another = of is not None and served is not None and of != self.of(served)",
                                  "is_of_another = False", "identity", "asked_of_another_run"),
     "ends, forgotten": Plant("database", "if of is not None and of.run in self._ends:", "if False:", "identity", "over_two_generations"),
     "number of a run": Plant("fate", "    if own.run == of.run:\n", "    if own.run is not None:\n", "identity", "asked_of_another_run"),
     "lost too soon": Plant("fate", " if own.generation >= generation else Fate()", "", "identity", "asked_of_another_run"),
-    "turns of another run": Plant("keeping", "if database is None or self._is_of(database, of):", "if True:", "identity", "asked_of_another_run"),
+    "turns of another run": Plant("keeping", "is_of_another = database is not None and not self._is_of(database, of)", "is_of_another = False", "identity",
+                                  "asked_of_another_run"),
+    "proofs, not compared": Plant("proving", "return Verdict.PROVED if hmac.compare_digest(proof.code.encode(), wanted.encode()) else Verdict.WRONG",
+                                  "return Verdict.PROVED", "proofs", "proves_no_principal"),
+    "proofs, by one nonce": Plant("lines", "self.nonce = secrets.token_hex(16)", "self.nonce = \"0\" * 32", "proofs", "proves_no_principal"),
+    "proofs, of another database": Plant("proving", "(proof.name, proof.of.database) != (row.name, row.identity)", "proof.name != row.name", "proofs",
+                                         "proves_no_principal"),
+    "proofs, by an older table": Plant("proving", "if known is not None and known[0] == number:", "if known is not None:", "proofs",
+                                       "no_more_proves_nothing"),
+    "proofs, of turns": Plant("keeping", "is_free = word == \"back\" or held is None", "is_free = True", "proofs", "proves_no_principal"),
+    "proofs, of memory": Plant("keeping", " and not database.own.is_full and self._may(line, database):", " and not database.own.is_full:", "proofs",
+                               "proves_no_principal"),
+    "proofs, of questions": Plant("shared", "why = None if database is None else await self.proving.settled_refusal(line, database)", "why = None",
+                                  "proofs", "proves_no_principal"),
+    "proofs, of what is lent": Plant("lines", "self._transport if self.may_ring else None", "self._transport", "proofs", "who_may_not_ring"),
+    "proofs, not counted": Plant("proving", "        elif verdict is not Verdict.PROVED:\n", "        elif False:\n", "proofs", "answered_and_counted"),
+    "proofs, not read": Plant("proving", "            await asyncio.shield(self.read(database))\n", "            pass\n", "proofs", "no_more_proves_nothing"),
+    "proofs, of clients": Plant("../place", "            if of and self._prover is not None:\n", "            if False:\n", "proofs", "never_counted"),
+    "sealed, for any database": Plant("sealed", "return f\"pagelog table {identity}\".encode()", "return b\"\"", "sealed", "row_of_another_database"),
+    "sealed, beside plain": Plant("sealed", "return Stored(INSTEAD, b\"\", nonce", "return Stored(text, secret, nonce", "sealed", "dump_has_no_token"),
+    "sealed, by the old key": Plant("sealed", "if self._seen != (told.st_mtime_ns, told.st_ino):", "if self._seen is None:", "sealed", "follows_another"),
+    "sealed, without a keeper's key": Plant("../desk/seal_words", "        if living := [name for name in without if beats.has_moved(name)]:\n",
+                                            "        if living := []:\n", "sealed", "without_the_key"),
+    "sealed, of a copy": Plant("history", "stored = referee.stored(identity, values", "stored = referee.stored(row.identity, values",
+                               "sealed", "dump_has_no_token"),
+    "roles, who looks": Plant("grants", "SECRETS: Rights(\"SELECT, UPDATE (text, secret, sealed, key)\")",
+                              "SECRETS: Rights(\"SELECT, UPDATE (text, secret, sealed, key)\", \"SELECT\")", "grants", "who_looks_sees_no_secret"),
+    "roles, anybody": Plant("grants", "REVOKE ALL ON DATABASE %I FROM PUBLIC", "GRANT CONNECT ON DATABASE %I TO PUBLIC", "grants", "who_looks_sees_no_secret"),
+    "roles, a table": Plant("grants", "    \"pagelog_image\": Rights(\"SELECT, INSERT, UPDATE, DELETE\"),\n", "", "grants", "each_table"),
+    "roles, a look that writes": Plant("referee", "self._ask(statements.EVERYTHING)", "self._ask(statements.LOOK, {\"me\": \"\", \"run\": \"\", "
+                                       "\"report\": None, \"logs\": \"{}\", \"reached\": \"{}\", \"beat\": 0})", "grants", "by_three_roles"),
+    "questions of one principal": Plant("fates", "Quota(EACH_ASKER, _MOST)", "Quota(_MOST, _MOST)", "proofs", "so_many_questions"),
+    "waits of one principal": Plant("turns", "elif self._has_many(line):", "elif False:", "proofs", "so_many_waits"),
     "answers of another run": Plant("../place", "        if keys.get(\"of\") != place.of:\n            return None\n", "", "named",
                                     "became_of_another_run"),
-    "names begin again": Plant("referee", "SELECT max(d.next_generation) + 1 FROM", "SELECT 1 FROM", "referee", "numbers_of_a_dropped"),
+    "names begin again": Plant("statements", "SELECT max(d.next_generation) + 1 FROM", "SELECT 1 FROM", "referee", "numbers_of_a_dropped"),
     "standby of an earlier run": Plant("database", " and not is_other", "", "identity", "standby_of_an_earlier_run"),
     "a lost name begins again": Plant("numbers", "                self._note_gone(row.name, before)\n", "                pass\n", "identity",
                                       "above_a_database_that"),
     "numbers are forgotten": Plant("numbers", "        return max(self._highest.get(row.identity, 0), self.dropped(row))\n", "        return 0\n", "identity",
                                    "writer_is_told_nothing_of_another_run"),
+    "marks of a copy": Plant("keeping", "        if row.copied:\n", "        if False:\n", "identity", "opens_under_its_own"),
     "keys for all": Plant("lines", "self.version > 1 or not isinstance(word, Key)", "True", "identity", "told_no_keys"),
     "a note's unknown fields": Plant("run", "json.dumps({**self.others, **known})", "json.dumps(known)", "runs", "does_not_know_of_a_process"),
     "tables, step by step": Plant("schema", "for step in STEPS[version:]", "for step in STEPS[version + 1:]", "bases", "tables_of_before"),
     "older holder": Plant("../place", "(now.generation, now.run) == (place.generation, place.run)", "True", "named", "older_keeper_says_is_durable"),
     "all keepers older": Plant("../place", "        if len(told) == len(self._addresses) and not any(place.database for place in told):\n",
                                "        if False:\n", "named", "all_keepers_are_older"),
+    "rings of another run": Plant("keeping", "if database is None or not self._is_of(database, of) or not self._may(line, database):",
+                                  "if database is None or not self._may(line, database):", "quick_way", "word_of_memory"),
+    "full of another run": Plant("keeping", "database is not None and self._is_of(database, of) and", "database is not None and", "quick_way",
+                                 "word_of_memory"),
+    "quick rings of another run": Plant("quick_way_lines.c", "bool is_of_this = *text == ' ' && strcmp(text + 1, way->of) == 0,",
+                                        "bool is_of_this = *text == ' ' && (rings || strcmp(text + 1, way->of) == 0),", "quick_way",
+                                        "ring_of_another_run"),
     "quick way of another run": Plant("quick_way_lines.c", "strcmp(text + 1, way->of) == 0", "true", "quick_way", "another_run"),
     "fence": Plant("statements", "l.run = due.run AND l.generation = due.generation AND l.archived = due.old", "l.archived = due.old",
                    "referee", "keeps_nothing"),
@@ -81,17 +140,15 @@ PLANTS = {
     "no keeper": Plant("../place", "            if self.opens and self._own is None and", "            if False and", "keepers", "refused_says_why"),
     "barred": Plant("../named", "            if self._is_barred(place, witness, error):", "            if False:", "keepers", "bars_is_told"),
     "closed": Plant("../named", "        if error.row not in (2, 4):", "        if True:", "named", "closes_bars_nobody"),
-    "fence of one": Plant("statements", "run = %(run)s AND generation = %(generation)s AND archived = %(old)s RETURNING id),",
-                          "archived = %(old)s RETURNING id),", "referee", "keeps_nothing"),
-    "position of one": Plant("statements", " AND archived = %(old)s RETURNING id),", " RETURNING id),", "referee",
-                             "under_run_generation_and_archived_position"),
-    "fence of a zombie": Plant("statements", "run = %(run)s AND generation = %(generation)s AND archived = %(old)s RETURNING id),",
-                               "(run = %(run)s OR generation < %(generation)s + 9) AND archived = %(old)s RETURNING id),", "standbys",
-                               "machine_that_stood_still"),
+    "fence of one": Plant("statements", "run = %(run)s AND generation = %(generation)s AND archived = %(old)s RETURNING id)\n",
+                          "archived = %(old)s RETURNING id)\n", "quick_way", "another_run_has_it"),
+    "position of one": Plant("statements", " AND archived = %(old)s RETURNING id)\n", " RETURNING id)\n", "quick_way", "has_something_else"),
+    "fence of a zombie": Plant("statements", "l.run = due.run AND l.generation = due.generation AND",
+                               "(l.run = due.run OR l.generation < due.generation + 9) AND", "standbys", "machine_that_stood_still"),
     "take": Plant("statements", "generation = %(generation)s AND archived = %(archived)s AND run IS NOT DISTINCT FROM %(seen_run)s::text\n"
                   "    AND (%(address)s", "(%(address)s", "referee", "eight_takes"),
-    "select": Plant("statements", "UPDATE pagelog_keeper SET beat = beat + 1, report = COALESCE(%(report)s::jsonb, report)\n"
-                    "  WHERE name = %(me)s AND run = %(run)s RETURNING name, beat",
+    "select": Plant("statements", "UPDATE pagelog_keeper SET beat = beat + 1, report = COALESCE(%(report)s::jsonb, report), "
+                    "secure = %(secure)s\n  WHERE name = %(me)s AND run = %(run)s RETURNING name, beat",
                     "SELECT name, beat FROM pagelog_keeper WHERE %(report)s::jsonb IS NULL AND name = %(me)s AND run = %(run)s",
                     "referee", "a_look_waits"),
     "warn": Plant("referee", "if self._warnings:", "if False:", "referee", "a_cancelled_commit_is_in_doubt"),
@@ -108,7 +165,7 @@ PLANTS = {
                                  "served.check, row.archived, row.chain)\n", "", "standbys", "told_as_it_is_taken"),
     "chain of a take": Plant("statements", "(%(address)s::text IS NULL OR chain = %(chain)s) AND ", "", "referee", "tells_the_place"),
     "confirmed": Plant("database", "min(self.served.reached, self._confirmed)", "self.served.reached", "standbys", "told_as_it_is_taken"),
-    "not open yet": Plant("keeping", "row.address is None or is_closed or", "row.address is None or", "standbys", "told_as_it_is_taken"),
+    "not open yet": Plant("keeping", "address is None or lines is None or is_closed or", "address is None or lines is None or", "standbys", "told_as_it_is_taken"),
     "take in doubt": Plant("machine", " or not own.is_open:", ":", "standbys", "take_is_in_doubt"),
     "warm": Plant("committer", "        self._is_warm = True  #", "        self._is_warm = False  #", "attacks", "made_beforehand"),
     "standby": Plant("served", "        if hard != archived:", "        if False:", "standbys", "ahead_of_the_archive"),
@@ -181,9 +238,6 @@ PLANTS = {
     "not listening": Plant("run", "(facts.run in wanted and facts.address is not None):", "facts.run in wanted:", "runs", "was_killed_while"),
     "ended session": Plant("refusal", "not is_ended and ", "", "referee", "ends_a_session"),
     "unknown completion": Plant("refusal", ', "40003"', "", "referee", "ends_a_session"),
-    "quick warning": Plant("quick", "        self._check_warnings()\n", "", "quick", "a_warning"),
-    "quick, given up": Plant("quick", "answered.cancelled() or not answered.done()", "not answered.done()", "quick", "given_up"),
-    "quick, hangs": Plant("quick", "loop.call_later(self._deadline, self.cut)", "loop.call_later(self._deadline, int)", "quick", "hangs_is_cut"),
     "quick way, wait": Plant("quick_way", ' if position else b""\n', ' if False else b""\n', "quick_way", "not_there_is_said"),
     "quick way, turn": Plant("archiver", "                self._wanted()\n", "                pass\n", "quick_way", "is_wanted_waits"),
     "quick way, early turn": Plant("archiver", "        if self.turn.is_wanted:\n            way.stop()\n", "", "quick_way", "as_it_begins"),
@@ -195,14 +249,31 @@ PLANTS = {
     "quick way, said amid": Plant("lines", "if self._is_lent and transport.get_write_buffer_size():", "if False:", "quick_way", "whole_or_the_last"),
     "quick way, descriptor": Plant("quick_way", "        os.close(descriptor)\n        line.take", "        line.take", "quick_way", "many_of_them_leave"),
     "quick way, position": Plant("quick_way", " and positions[0] < _MOST", "", "quick_way", "64_bits"),
-    "quick way, unclean": Plant("quick_way", "ended.result() <= End.SERVICE", "True", "quick_way", "went_on_with"),
-    "quick way, hangs": Plant("quick_way", "            self._referee.cut()\n            asyncio", "            asyncio", "quick_way",
+    "quick way, unclean": Plant("quick_way_referee.c", "    session->answer = FREE;\n    session->is_unclean = true;\n", "    session->answer = FREE;\n",
+                                "quick_way", "fails_behind_its_result"),
+    "quick way, at its commit": Plant("quick_way_referee.c", "PQresultStatus(result) != PGRES_TUPLES_OK || session->has_row",
+                                      "PQresultStatus(result) != PGRES_TUPLES_OK && !session->has_row", "quick_way", "fails_behind_its_result"),
+    "quick way, warning": Plant("quick_way_referee.c", "session->has_row && !session->warned", "session->has_row", "quick_way", "with_a_warning"),
+    "quick way, no result": Plant("quick_way_referee.c", "session->has_row && !session->warned", "!session->warned", "quick_way",
+                                  "an_end_without_a_result"),
+    "quick way, one for all": Plant("quick_way_referee.c", "if (session->kept[at]) {\n            enter", "if (session->kept[0]) {\n            enter",
+                                    "many", "fenced_fails_alone"),
+    "quick way, one each": Plant("quick_way_parts.h", "SESSION_WAYS = 256,", "SESSION_WAYS = 1,", "many", "fenced_fails_alone"),
+    "quick way, behind alone": Plant("archiver", "not (self._is_asked or is_behind)", "not self._is_asked", "quick_way", "though_nobody_waits"),
+    "quick way, one batch": Plant("quick_way_referee.c", "    way->rung |= way->pulled == PULL_MOST; /* there may be more */\n", "", "quick_way",
+                                  "though_nobody_waits"),
+    "blocks from PostgreSQL": Plant("succession", "            await asyncio.to_thread(self._bring, served, successor, reached, chain)\n",
+                                    "            raise BrokenArchive('none')\n", "successions", "come_from_the_present_service"),
+    "quick way, hangs": Plant("quick_plane", "            self.referee.cut()\n            asyncio", "            asyncio", "quick_way",
                               "are_prepared_is_cut"),
-    "quick way, trail": Plant("keeping", "        if settings.trail:\n            return None  # each", "        if False:\n            return None  # each",
-                              "quick_way", "with_a_trail"),
+    "quick way, trail": Plant("archiver", "return recorder is not self.recorder or await", "return await", "quick_way", "a_recorder_keeps"),
+    "quick way, lines": Plant("quick_way_statement.c", "has_lines |= session", "has_lines &= session", "quick_way", "with_their_blocks"),
+    "quick way, lines in doubt": Plant("quick_way", " if end.is_known else None", "", "quick_way", "in_doubt_are_asked"),
+    "quick way, more lines": Plant("quick_way_trail.c", "*is_more = count == ASKED_MOST;", "*is_more = false;", "quick_way", "more_lines_than_one"),
+    "quick way, pruned": Plant("recorder", "                self._wanted()\n", "                pass\n", "quick_way", "once_a_day"),
     "quick way, standby": Plant("keeping", "confirms=settings.require_standby,", "confirms=False,", "disks", "quick_way_waits"),
-    "quick way, behind": Plant("quick_way_referee.c", "way->standby < way->wanted", "way->standby == 0", "quick_way", "until_it_has_what"),
-    "quick way, told as it asks": Plant("quick_way_referee.c", "        way->wanted = 0;\n", "        way->wanted = 0;\n        enter(way);\n", "quick_way",
+    "quick way, behind": Plant("quick_way_referee.c", "session->standby < session->wanted", "session->standby == 0", "quick_way", "until_it_has_what"),
+    "quick way, told as it asks": Plant("quick_way_referee.c", "        session->wanted = 0;\n", "        session->wanted = 0;\n        enter(session->ways[0]);\n", "quick_way",
                                         "cut_anywhere_is_told_once"),
     "late pull": Plant("puller", "            if not is_whole:\n", "            if False:\n", "quick", "hangs_or_is_gone"),
     "late state": Plant("looker", "            if not is_whole:\n", "            if False:\n", "looks", "late_answer"),
@@ -222,7 +293,7 @@ PLANTS = {
     "lines of another run": Plant("statements", " AND t.of_run = v.of_run", "", "kept_trails", "no_list_of_another"),
     "trails, by a step": Plant("schema", "_IDENTITY, _TRAILS,", "_IDENTITY, (),", "kept_trails",
                                "list_of_an_older"),
-    "saved, of another name": Plant("rescuing", "(SELECT COALESCE(ancestor, name) FROM pagelog_log WHERE id = %(log)s)", "NULL", "lives", "opens_under"),
+    "saved, of another name": Plant("rescuing", "served.database if of.ancestor is None else of.ancestor", "None", "lives", "opens_under"),
     "rival of before": Plant("database", " or self._rose <= self.served.back_since:", ":", "identity", "a_writer_whose_run_continues"),
     "unknown, not told": Plant("../place", "if is_unknown and (self._own is None or is_told):", "if is_unknown:", "named", "who_had_a_database"),
     "another run's writer": Plant("../named", "self.place is not None and place.run != self.place.run or self.keepers", "self.keepers", "identity",
@@ -238,8 +309,8 @@ PLANTS = {
     "end mark": Plant("bases", "position = bases.end_mark(first, archived)", "position = None", "bases", "no_transaction"),
     "image": Plant("bases", "            if zlib.crc32(image.data) != crc:\n", "            if False:\n", "bases", "damage"),
     "images": Plant("bases", "heads.digest() != base.digest:", "False:", "bases", "damage"),
-    "pruned images": Plant("bases", "AND j.base <= %s) RETURNING range", "AND j.base <= %s + 1000) RETURNING range", "bases", "kept_base_needs"),
-    "shift": Plant("served", "return labelled(blocks, position + 1) if self.shift else blocks", "return blocks", "successions", "same_positions"),
+    "pruned images": Plant("bases", "AND j.base <= %(position)s) RETURNING range", "AND j.base <= %(position)s + 1000) RETURNING range", "bases", "kept_base_needs"),
+    "shift": Plant("served", "return labelled(blocks, span.first + self.shift) if self.shift else blocks", "return blocks", "successions", "same_positions"),
     "below a base": Plant("../named_reader", "            raise BelowBase(position, self.place.base)\n", "            pass\n",
                           "successions", "same_positions"),
     "doubt": Plant("../named", "            if digest != hashlib.sha256(block.data).hexdigest():\n", "            if False:\n",
@@ -274,7 +345,7 @@ PLANTS = {
     "stuck": Plant("beginning", "return self._stuck_for >= self._shared.settings.ttl", "return False", "beginnings", "refused_what_fills_it"),
     "taken over, not ended": Plant("beginning", "        if process is None:\n            database.let_go", "        if process is None or kept is None:\n"
                                    "            database.let_go", "beginnings", "taken_over_meanwhile"),
-    "does not end": Plant("run", "_is_readable(self.descriptor, _END)", "_is_readable(self.descriptor, 1e5)", "runs", "does_not_end"),
+    "does not end": Plant("run", "is_readable(self.descriptor, _END)", "is_readable(self.descriptor, 1e5)", "runs", "does_not_end"),
     "few questions": Plant("fates", "_AT_ONCE, _MOST = 4, 10_000", "_AT_ONCE, _MOST = 10_000, 10_000", "meanwhile", "few_of_their"),
     "few positions": Plant("waits", "if len(waits) >= _MOST:", "if False:", "meanwhile", "no_more_than"),
     "no name": Plant("keeping", "if NAME.fullmatch(name) is None:", "if False:", "keepers", "words_that_no"),
@@ -286,7 +357,7 @@ PLANTS = {
                                     "return False", "standbys", "no_usual_look"),
     "awaited by its holder": Plant("database", "            return any(row.wanted in (standby.keeper, \"*\") for standby in self._others)",
                                    "            return False", "standbys", "no_usual_look"),
-    "another thread": Plant("referee", "return _checked(self._ask(", "return _checked(self._ask_bounded(", "attacks", "without_another_thread"),
+    "another thread": Plant("referee", "rows = self._ask(statements.PIECE,", "rows = self._ask_bounded(statements.PIECE,", "attacks", "without_another_thread"),
     "beside": Plant("committer", "self._beside is None or is_there", "True", "attacks", "no_connection_that_is_made"),
     "beside, large": Plant("committer", " or sum(len(block) for batch in batches for block in batch.blocks) > SMALL:", ":", "attacks",
                            "no_connection_that_is_made"),
@@ -297,8 +368,8 @@ PLANTS = {
                               "readers", "late_to_its_first"),
     "answers, slow": Plant("../place", "min(2 * seconds, _SLOWEST_ANSWER)", "seconds", "named", "always_takes_longer"),
     "answers, late": Plant("../place", "if not self._poll.poll(", "if time.monotonic() > deadline or not self._poll.poll(", "named", "while_this_process"),
-    "superseded, each": Plant("../polling", "return _polls.get(key) or _polls.setdefault(key, HolderPoll(name, addresses, place))",
-                              "return HolderPoll(name, addresses, place)", "readers", "all_readers_of_a_process"),
+    "superseded, each": Plant("../polling", "return _polls.get(key) or _polls.setdefault(key, HolderPoll(name, addresses, place, trust))",
+                              "return HolderPoll(name, addresses, place, trust)", "readers", "all_readers_of_a_process"),
     "end falls": Plant("../named_reader", "if is_confirmed and min(hard, self._durable) >= self._returned:", "if is_confirmed:", "readers",
                        "never_falls"),
     "durable at once": Plant("../named_reader", "            self._have_archived(hard)\n", "            pass\n", "readers", "as_soon_as_it_looks"),
@@ -330,7 +401,7 @@ PLANTS = {
     "full, twice": Plant("database", "served.is_full and self._may_be_asked_for_more", "served.is_full", "strangers", "one_succession_in_a_ttl"),
     "idle, awaits": Plant("lines", "not line.is_lent and not self._awaits(line):", "not line.is_lent:", "strangers", "idle_longest"),
     "idle, bound": Plant("lines", "len(self._lines) >= most_lines() and", "False and", "strangers", "idle_longest"),
-    "no descriptor": Plant("lines", "        loop.set_exception_handler(self._hear_of_fault)\n", "", "strangers", "said_once"),
+    "no descriptor": Plant("lines", "set_exception_handler(self._hear_of_fault)\n        self._server", "get_exception_handler()\n        self._server", "strangers", "said_once"),
     "digits": Plant("lines", "if not (text.isascii() and text.isdigit()):", "if False:", "strangers", "number_is_digits"),
     "one note": Plant("run", "found = _noted_in(folder / _file_of(name, run, \"json\"))\n        if", "found = next((each for each in _noted(folder) "
                       "if each[0].run == run), None)\n        if", "runs", "reads_its_own_note"),
@@ -342,9 +413,6 @@ PLANTS = {
                                         "many", "cannot_be_made"),
     "unexpected, the committer": Plant("committer", "            except Exception as error:  # also what", "            except KeeperError as error:  #",
                                        "many", "nobody_can_make"),
-    "quick way, one for all": Plant("quick_way", "MOST = 8\n", "MOST = 1\n", "quick_way", "commit_at_once_all"),
-    "quick way, all connect": Plant("quick_way", "if chosen is None and not any(each.is_connecting for each in free):", "if chosen is None:",
-                                    "quick_way", "another_meanwhile"),
     "refused, at once": Plant("archiver", "            self._refused, self._is_asked = (batch.old, batch.blocks), False\n            self._pause()",
                               "            self.ring()", "disks", "stays_full"),
     "refused, no pause": Plant("archiver", " = (batch.old, batch.blocks), False\n            self._pause()",
@@ -359,16 +427,29 @@ PLANTS = {
     "broken series": Plant("machine", " or now - self._last > self.ttl / 2", "", "machine", "broken"),
     "asks": Plant("../desk/deleting", "    if yes:\n        return\n", "    return\n", "words", "prune_says_what_goes"),
     "asks before a drop": Plant("../desk/deleting", "    if yes:\n        return\n", "    return\n", "words", "drop_says_what_goes"),
+    "forgets its database": Plant("served", "Form.READING)))\n        self.remember()\n", "Form.READING)))\n", "rescue", "shown_saved_and_ended"),
+    "forgets it when renewed": Plant("served", "newest.number\n        self.remember()\n", "newest.number\n", "runs", "remembers_its_database"),
+    "forgets it when adopted": Plant("beginning", "        await asyncio.to_thread(served.remember)  # where an older keeper has started it\n", "",
+                                     "rescue", "whose_keeper_runs"),
+    "half a definition": Plant("definition", "        with suppress(InvalidTag, ValueError):\n", "        if True:\n", "runs", "remembers_its_database"),
+    "one place for it": Plant("definition", "place = _FIRST + count % 2 * _ROOM", "place = _FIRST", "runs", "remembers_its_database"),
+    "left, and of another": Plant("orphans", "if row is not None and not _is_of(row, name, definition):", "if False:", "rescue", "shown_saved_and_ended"),
+    "dropped by its name": Plant("orphans", "each.dropped and _is_of(each, name, definition)", "each.dropped and _is_of(each, name, None)", "rescue",
+                                 "shown_saved_and_ended"),
+    "rescued by its name": Plant("../desk/rescue_words", 'each.get("database") not in (None, "", row.identity)', "False", "rescue", "shown_saved_and_ended"),
+    "lost and dead": Plant("machine", "if facts.ending or not own.alive:", "if facts.ending:", "machine", "only_copy_of_what"),
     "saved, not compared": Plant("rescuing", "    _compare(referee, log, base, end, chain)\n", "", "lives", "set_aside_is_shown"),
-    "ended, not asked": Plant("../desk/rescue_words", "        agree(_ends(referee, row, chosen, saved, into), yes,",
-                              "        agree(_ends(referee, row, chosen, saved, into), True,", "lives", "shown_saved_and_ended"),
+    "ended, not asked": Plant("../desk/rescue_words", "        agree(_ends(referee, chosen, saved, into), yes,",
+                              "        agree(_ends(referee, chosen, saved, into), True,", "lives", "shown_saved_and_ended"),
     "keep left out": Plant("../desk/history_words", "accounts.archive_keep if keep is None", "accounts.archive_keep or 1 if keep is None", "words",
                            "prune_without_keep"),
     "time to come": Plant("history", "if at > has.now:", "if False:", "words", "refuses_what_is_not_there"),
     "time before": Plant("history", "if has.first_came is not None and at < has.first_came:", "if False:", "words", "refuses_what_is_not_there"),
     "zone of this machine": Plant("../times", "found.astimezone() if zone is None", "found.replace(tzinfo=timezone.utc) if zone is None", "words",
                                   "in_both_zones"),
-    "heartbeat": Plant("../desk/switchover_words", "if not _is_alive(referee, look, others, ttl):", "if False:", "words", "without_another_keeper"),
+    "heartbeat": Plant("../desk/switchover_words", "if not is_alive(referee, look, others, ttl):", "if False:", "words", "without_another_keeper"),
+    "forgets what lives": Plant("../desk/forget_words", "if is_alive(referee, look, [keeper], ttl_of(accounts)):", "if False:", "tasks_page",
+                               "is_forgotten"),
     "cancelled": Plant("../desk/switchover_words", "if not referee.wish(row.name, None, instead_of=row.wanted):", "if False:", "words", "shown_and_cancelled"),
     "any table takes": Plant("statements", "    AND table_number <= %(table_number)s\n    AND (%(beat)s", "    AND (%(beat)s", "changes", "take_needs_the_newest"),
     "any table continues": Plant("statements", " AND NOT dropped AND table_number <= %(table_number)s\n", " AND NOT dropped\n", "changes",
@@ -408,34 +489,141 @@ PLANTS = {
     "tokens, of the first": Plant("../table_editing", "        if _says(made, wanted):\n            return made\n", "        return made\n", "changes", "one_token_is_another"),
     "tokens, not compared": Plant("../desk/explain_words", "    for principal in changed:\n", "    for principal in changed[:0]:\n", "explaining", "changed_token"),
     "tokens, file last": Plant("../desk/token_words", "    write_private(file, text)\n    click", "    click", "changes", "can_be_set_from_the_file"),
+    "left open": Plant("keeping", "            await asyncio.to_thread(close_left, process, self.settings.ttl)\n", "            pass\n", "rescue", "shown_saved_and_ended"),
+    "set aside, and no event": Plant("../console/board", "        events += of_asides(self._asides, asides, at)\n", "", "console_board",
+                                     "told_also_of_a_database"),
+    "set aside, and not shown": Plant("../console/outlook", "    if scene.has_asides:\n", "    if False:\n", "console_board", "told_also_of_a_database"),
     "columns of a pipe": Plant("../desk/kept_words", "if sys.stdout.isatty() and not wide:", "if not wide:", "words", "in_a_pipe"),
+    "front, told too soon": Plant("front", "return None if self._process is None else self.tls.lines", "return self.tls.lines", "fronts", "before_a_slow_one"),
+    "front, renewed by hope": Plant("haproxy", "        if \"Success!\" not in answers[1]:", "        if False:", "fronts", "front_refuses_is_tried"),
+    "front, a key of another": Plant("certificate", "            context_of(pem)  # whether the key is that of the certificate\n", "", "fronts", "cannot_be_used"),
+    "front, nothing in force": Plant("certificate", "        self._seen = seen\n", "        self._seen, self.now = seen, None\n", "fronts", "cannot_be_used"),
+    "front, other ports": Plant("front", "        return [*(led.port for led in self._led.values() if led.port), *self._free, "
+                                "*(noted if isinstance(self.tls.ports, int) else ())]\n", "        return []\n", "fronts", "killed_comes_back"),
+    "front, a taken port": Plant("front", "            if led.port not in ports:\n", "            if False:\n", "fronts", "another_program_has"),
+    "front, of another form": Plant("front", "(noted[\"run\"], noted[\"form\"]) != (left.name, self.tls.form)", "noted[\"run\"] != left.name", "fronts",
+                                    "to_be_otherwise"),
+    "front, of runs that are gone": Plant("front", "                    process.ask(self._forget(port))\n", "                    pass\n", "fronts",
+                                          "next_life_adopts"),
+    "front, of runs that were dropped": Plant("front", "                    self._process.ask(self._forget(led.port))\n", "                    pass\n", "fronts",
+                                              "dropped_leads_nowhere"),
+    "front, hanging": Plant("front", "            self._process.ask(\"show version\")\n", "            self._process.process.is_alive or self._process.ask(\"\")\n",
+                            "fronts", "hangs_is_replaced"),
+    "front, a full one": Plant("front", "                if not led.port:\n                    self._lead(run)\n", "                pass\n", "fronts", "all_ports_lead"),
+    "front, any owner": Plant("haproxy", "owned=_OWNED if verify else \"\"", "owned=\"\"", "fronts", "of_one_database_by_its_identity"),
+    "front, older TLS": Plant("haproxy", "ssl-min-ver TLSv1.3", "ssl-min-ver TLSv1.2", "fronts", "less_than_tls_1_3"),
+    "front, open to all": Plant("unix", "        (folder / name).chmod(mode)  # before it listens\n", "        (folder / name).chmod(0o666)\n", "fronts",
+                                "nobody_else_may_connect"),
+    "front, too many": Plant("haproxy", "(limit - len(ports) - _SPARE) // 2)", "limit)", "fronts", "as_descriptors_allow"),
+    "front, a key that others read": Plant("certificate", " & 0o007:", " & 0:", "fronts", "others_may_read"),
+    "front, taken for a service": Plant("run", "        if not file.name.startswith(FRONT) and (found", "        if (found", "fronts", "knows_of_no_fronts"),
+    "front, unreached": Plant("machine", "    if own.unreached >= facts.ttl and not row.paused:", "    if False:", "machine", "no_client_reaches"),
+    "heads, not verified": Plant("proxied", " and not any(value[1:5])", "", "secured", "client_is_who_was_verified"),
+    "heads, taken up again": Plant("proxied", "_HAS_TLS, _HAS_CERTIFICATE = 0x01, 0x06", "_HAS_TLS, _HAS_CERTIFICATE = 0x01, 0x02", "secured",
+                                   "client_is_who_was_verified"),
+    "heads, cut": Plant("proxied", "        if len(data) < 3 + length:\n", "        if False:\n", "secured", "that_is_cut_waits"),
+    "heads, endless": Plant("proxied", "    if length > LONGEST:\n", "    if False:\n", "secured", "that_is_cut_waits"),
+    "ways, of any run": Plant("ways", "and run is not None and named == run else", "and run is not None else", "secured", "way_is_of_one_run"),
+    "ways, plain to the only": Plant("ways", "    return None if way is not None and way.is_only else address\n", "    return address\n", "secured",
+                                     "way_is_of_one_run"),
+    "certificates, of another": Plant("fronted", "    if client is None or (of is not None and of.database != client):\n", "    if client is None:\n", "secured",
+                                      "answers_for_one_identity"),
+    "certificates, of any name": Plant("fronted", "    return answers.identity_of(asked[1]) == client or (", "    return True or (", "secured",
+                                       "answers_for_one_identity"),
+    "TLS, plain lines too": Plant("keeping", "        if self.settings.tls is None or self.settings.tls.plain:\n", "        if True:\n", "secured",
+                                  "no_token_and_no_page"),
+    "TLS, services for all": Plant("settings", "        inner = serve if tls is None or tls.plain else \"127.0.0.1\"\n", "        inner = serve\n", "secured",
+                                   "can_be_set"),
+    "TLS, led to plain": Plant("keeping", "        address, lines = row.told(is_secure), ", "        address, lines = row.address, ", "secured",
+                               "each_kind_of_client"),
+    "TLS, a front is left": Plant("front_care", "self.front.leave if is_needed else self.front.end", "self.front.leave", "secured", "each_kind_of_client"),
+    "TLS, taken in vain": Plant("machine", "    if decision.action is Action.TAKE and facts.is_unreached:\n", "    if False:\n", "machine", "no_client_reaches"),
+    "ways, none to the only": Plant("ways", "way.address != NOWHERE and ", "", "secured", "way_is_of_one_run"),
+    "TLS, a cookie in the clear": Plant("../console/web", ", secure=self._is_secure)", ")", "secured", "both_show_the_newest"),
+    "TLS, the first certificate": Plant("certificate", "            if self._file.changed() and", "            if False and", "secured", "both_show_the_newest"),
+    "PostgreSQL, less than verify-full": Plant("hosts", "os.environ.get(\"PGSSLMODE\")) == \"verify-full\"", "os.environ.get(\"PGSSLMODE\")) is not None", "secured",
+                                               "less_than_verify_full"),
+    "TLS, hosts": Plant("../secure", "    assert context.check_hostname and context.verify_mode is ssl.CERT_REQUIRED\n", "    context.check_hostname = False\n",
+                        "trust", "certificates_that_are"),
+    "TLS, CAs": Plant("../secure", "    assert context.check_hostname and context.verify_mode is ssl.CERT_REQUIRED\n",
+                      "    context.check_hostname, context.verify_mode = False, ssl.CERT_NONE\n", "trust", "certificates_that_are"),
+    "TLS, subjects": Plant("../secure", "    context.hostname_checks_common_name = False\n", "", "trust", "certificates_that_are"),
+    "TLS, versions": Plant("../secure", "    context.minimum_version = context.maximum_version = ssl.TLSVersion.TLSv1_3\n", "", "trust", "certificates_that_are"),
+    "TLS, modes": Plant("../secure", 'if mode not in (None, "disable", "verify-full"):', "if False:", "trust", "words_that_are"),
+    "TLS, disabled": Plant("../secure", "if any(found[word][0] <= rank for word in files):", "if False:", "trust", "words_that_are"),
+    "TLS, a missing CA": Plant("../secure", '    if "sslrootcert" not in files:\n', "    if not files:\n", "trust", "words_that_are"),
+    "TLS, shared keys": Plant("../secure", '        raise CredentialsError(f"sslkey: {path}: others may read it")\n', "        pass\n", "trust", "words_that_are"),
+    "TLS, sessions": Plant("../secure", "known = self._sessions.get(peer)", "known = next((each for (_, port), each in self._sessions.items() if port == peer[1]), None)",
+                           "trust", "sessions_are"),
+    "TLS, closed": Plant("../secure", "        socket.socket.shutdown(self, how)\n", "        super().shutdown(how)\n", "trust", "another_thread"),
+    "TLS, new files": Plant("../secure", "            if looks != self._seen:\n", "            if False:\n", "trust", "files_that_change"),
+    "TLS, broken files": Plant("../secure", "                    pass  # as where", "                    raise  # as where", "trust", "files_that_change"),
+    "TLS, long records": Plant("../secure", "self._received(max(buflen, _RECORD))", "self._received(buflen)", "trust", "database_by_tls"),
+    "TLS, polls": Plant("../polling", "place.database, trust and trust.files)", "place.database)", "trust", "who_believes"),
+    "TLS, services": Plant("../following", "trust=self._trust)", "trust=None)", "trust", "no_answer"),
+    "TLS, lines": Plant("../place", "return _Line(address, self._trust)", "return _Line(address, None)", "trust", "no_answer"),
+    "TLS, accounts": Plant("../client", "trust=account.trust", "trust=None", "trust", "words_of_files"),
+    "TLS, why": Plant("../place", '        if isinstance(error, (ConnectionRefusedError, SecurityError)):\n', "        if isinstance(error, ConnectionRefusedError):\n", "trust", "no_answer"),
+    "pages, dropped": Plant("../pages/following", "        if found is None:\n            self._process.close_doors()", "        if False:\n            self._process.close_doors()",
+                            "pages", "nobody_is_answered"),
+    "pages, tokens of no run": Plant("../pages/table", "secret, name, run, Form.OPEN)", "secret, name, \"\", Form.OPEN)", "pages", "over_a_succession"),
 }  # fmt: skip
+for beside in sorted(Path(__file__).parent.glob("plants_*.py")):
+    more: dict[str, Plant] = importlib.import_module(beside.stem).PLANTS
+    assert not PLANTS.keys() & more.keys(), f"{beside.name} has names that are there: {PLANTS.keys() & more.keys()}"
+    PLANTS.update(more)
 
 
 def failure(plant: Plant) -> str | None:
     """By what the test fails with the edit; None where it passes. It has to pass a run without it, which is the tests' own business."""
     with tempfile.TemporaryDirectory(prefix="pagelog-plants-") as folder:
+        Path(folder).chmod(0o711)  # services run as another user
         copy = Path(folder) / "clients" / "python"
-        shutil.copytree(PYTHON, copy, ignore=shutil.ignore_patterns("__pycache__", ".mypy_cache"))
-        (copy.parent / "c").symlink_to(PYTHON.parent / "c")  # for SQLite
+        shutil.copytree(PYTHON, copy, ignore=shutil.ignore_patterns("__pycache__", ".mypy_cache", "bytecode"))
+        if plant.module.startswith("c/"):
+            shutil.copytree(PYTHON.parent / "c", copy.parent / "c", ignore=shutil.ignore_patterns("out", "*.so"))
+        else:
+            (copy.parent / "c").symlink_to(PYTHON.parent / "c")  # for SQLite
+        shutil.copytree(PYTHON.parent / "pages", copy.parent / "pages")  # with what was built: another build is of an edit
+        (Path(folder) / "docs").symlink_to(PYTHON.parent.parent / "docs")  # whose commands are run
+        (Path(folder) / "scripts").symlink_to(PYTHON.parent.parent / "scripts")  # for peers of TLS
+        (copy.parent.parent / ".git").symlink_to(PYTHON.parent.parent / ".git")  # which has the clients of 0.1.0
         tables = Path(folder) / "crates" / "pagelog" / "data"
         tables.mkdir(parents=True)
         shutil.copy(PYTHON.parent.parent / "crates" / "pagelog" / "data" / "t0.toml", tables)
-        file = copy / "src" / "pagelog" / "keeper" / (plant.module if plant.module.endswith(".c") else f"{plant.module}.py")
-        text = file.read_text()
-        if text.count(plant.old) != 1:
-            raise AssertionError(f"the edit of {plant.module} does not fit: {plant.old!r} is there {text.count(plant.old)} times")
-        file.write_text(text.replace(plant.old, plant.new))
+        if (why := plant.misfit(copy)) is not None:
+            raise AssertionError(why)
+        file = copy / plant.file
+        file.write_text(file.read_text().replace(plant.old, plant.new))
+        if plant.is_of_pages:  # which does not compile is no plant
+            subprocess.run(["make", "-s", "-C", str(copy.parent / "pages"), "checked"], check=True)
         words = [str(copy / "test"), plant.part, plant.test]
         environment = {**os.environ, "PAGELOG_TEST_PATIENCE": "40"}
+        if plant.part.startswith("c/"):
+            library = copy.parent / "c" / "out" / "whole" / "pagelog_vfs.so"
+            subprocess.run(["make", "-s", "-C", str(copy.parent / "c"), "out/whole/pagelog_vfs.so"], check=True)
+            environment |= {"PAGELOG_EXTENSION": str(library), "PAGELOG_LIBRARY": str(library)}
+            part = copy.parent / "c" / "tests" / f"{plant.part[2:]}.py"
+            words = [sys.executable, "-B", str(part), *re.findall(rf"def (test_\w*{plant.test}\w*)", part.read_text())]
         done = subprocess.run(words, stdout=subprocess.PIPE, stderr=subprocess.STDOUT, text=True, env=environment)
         if "clients/python: 0 passed, 0 failed" in done.stdout:
             raise AssertionError(f"there is no test {plant.test} in {plant.part}")
-        errors = [line.strip() for line in done.stdout.splitlines() if re.match(r"\s*([\w.]+(Error|Exception|Base|Lost|Doubt|TimedOut)\b|pagelog\.rules\.)", line)]
+        errors = [line.strip() for line in done.stdout.splitlines() if re.match(r"\w+: test_\w+ failed: |\s*([\w.]+(Error|Exception|Base|Lost|Doubt|TimedOut|Archive|Away|Object|History)\b|pagelog\.rules\.)", line)]
         return None if done.returncode == 0 else (errors or ["it did not come to its end"])[-1]
 
 
+def fit() -> int:
+    """Sees that each is one, without a run."""
+    misfits = {name: why for name, plant in PLANTS.items() if (why := plant.misfit()) is not None}
+    for name, why in misfits.items():
+        print(f"{name}: {why}")
+    print(f"plants: {len(PLANTS) - len(misfits)} fit, {len(misfits)} do not")
+    return 1 if misfits else 0
+
+
 def main(names: list[str]) -> int:
+    if names == ["--fit"]:
+        return fit()
     missed = 0
     for name in names or PLANTS:
         why = failure(PLANTS[name])

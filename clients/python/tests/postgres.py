@@ -3,6 +3,7 @@
 from __future__ import annotations
 
 import atexit
+import functools
 import os
 import shutil
 import socket
@@ -18,6 +19,10 @@ PATIENCE = 300
 """How many seconds a start or an end may take. What pg_ctl waits by itself, 60, is little on a machine with much else to do."""
 FSYNC = os.environ.get("PAGELOG_TEST_FSYNC", "on")
 """`off` in the tests, where a server is killed and its machine is not: then no test waits for a disk."""
+CLUSTER = "PAGELOG_TEST_CLUSTER"
+"""The name in the environment of a folder with what initdb has made: to make that takes ten times as long as to copy it."""
+USER = "postgres" if os.getuid() == 0 else None
+"""As whom PostgreSQL runs: not as root."""
 _started: list["Postgres"] = []
 
 
@@ -39,14 +44,17 @@ class Postgres:
 
     def __init__(self) -> None:
         self.folder = Path(tempfile.mkdtemp(prefix="pagelog-postgres-"))
-        # PostgreSQL does not run as root.
-        self.user = "postgres" if os.getuid() == 0 else None
+        self.user = USER
         if self.user:
             shutil.chown(self.folder, self.user)
         self.data = self.folder / "data"
-        self.run("initdb", "-D", self.data, "-U", "pagelog", "-A", "trust", "--no-sync", "-E", "UTF8", "--locale=C")
+        self.make()
         self.start()
         atexit.register(self.stop)
+
+    def make(self) -> None:
+        """Makes its folder: a copy of the one that initdb has made for this run."""
+        self.call(["cp", "-a", str(_cluster()), str(self.data)], check=True)
 
     def run(self, program: str, *arguments: object) -> None:
         with (self.folder / "said").open("a+") as said:
@@ -57,8 +65,7 @@ class Postgres:
 
     def call(self, words: list[str], **how: Any) -> subprocess.CompletedProcess[bytes]:
         """Runs it, as a user who is not root."""
-        groups: dict[str, Any] = {"group": self.user, "extra_groups": []} if self.user else {}
-        return subprocess.run(words, user=self.user, **groups, **how)
+        return _run(words, **how)
 
     def start(self) -> None:
         options = f"-k {self.folder} -c listen_addresses= -c max_connections=30 -c fsync={FSYNC}"
@@ -80,6 +87,35 @@ class Postgres:
         """The URL of a new database of this name."""
         self.run("createdb", "-h", self.folder, "-U", "pagelog", name)
         return f"postgresql+psycopg2://pagelog@/{name}?host={self.folder}"
+
+
+def _run(words: list[str], **how: Any) -> subprocess.CompletedProcess[bytes]:
+    groups: dict[str, Any] = {"group": USER, "extra_groups": []} if USER else {}
+    return subprocess.run(words, user=USER, **groups, **how)
+
+
+def initdb(data: Path, *more: object) -> list[str]:
+    """The words that make a cluster there."""
+    words = (programs() / "initdb", "-D", data, "-U", "pagelog", "-A", "trust", "--no-sync", "-E", "UTF8", "--locale=C", *more)
+    return list(map(str, words))
+
+
+@functools.cache
+def _cluster() -> Path:
+    """The folder of which copies are made: that of the environment, or one of this process."""
+    return Path(os.environ[CLUSTER]) if CLUSTER in os.environ else make_cluster()
+
+
+def make_cluster() -> Path:
+    """A folder that initdb has made, until this process ends."""
+    folder = Path(tempfile.mkdtemp(prefix="pagelog-cluster-"))
+    atexit.register(shutil.rmtree, folder, ignore_errors=True)
+    if USER:
+        shutil.chown(folder, USER)
+    done = _run(initdb(folder / "data"), cwd=folder, stdout=subprocess.PIPE, stderr=subprocess.STDOUT)
+    if done.returncode != 0:
+        raise AssertionError(f"initdb failed: {done.stdout.decode()}")
+    return folder / "data"
 
 
 def postgres() -> Postgres:

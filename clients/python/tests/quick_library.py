@@ -20,7 +20,7 @@ OUT = CLIENT / "out"
 # What the compiler, the linker or Python says where something is not installed.
 LACKING = re.compile(r"fatal error: (?!quick_way)\S+: No such file|cannot find -l|No module named 'setuptools'|gcc' failed: No such file")
 WITHOUT = "the quick way is not built, and durable commits take longer"
-INSTALL = "apt-get install gcc libc6-dev libpq-dev libb2-dev zlib1g-dev python3-setuptools"
+INSTALL = "apt-get install gcc libc6-dev libpq-dev libb2-dev libssl-dev zlib1g-dev python3-setuptools"
 
 
 class NotBuilt(Exception):

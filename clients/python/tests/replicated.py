@@ -23,6 +23,8 @@ def _lives(process: str) -> bool:
 class Server(Postgres):
     """A server of its own folder, made by initdb, or from another server."""
 
+    connections = 60
+
     def __init__(self, leader: Server | None = None) -> None:
         if leader is None:
             super().__init__()
@@ -36,7 +38,7 @@ class Server(Postgres):
         self.start()
 
     def start(self) -> None:
-        options = (f"-k {self.folder} -c listen_addresses= -c max_connections=60 -c wal_level=replica -c max_wal_senders=8 -c hot_standby=on "
+        options = (f"-k {self.folder} -c listen_addresses= -c max_connections={self.connections} -c wal_level=replica -c max_wal_senders=8 -c hot_standby=on "
                    f"-c fsync={FSYNC}")  # fmt: skip
         self.run("pg_ctl", "-D", self.data, "-o", options, "-l", self.folder / "log", "-w", "-t", PATIENCE, "start")
 

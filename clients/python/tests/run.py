@@ -23,6 +23,7 @@ PARTS = {
     "test_bytes": "blocks, requests and replies against the trial and the pages",
     "test_replies": "every reply, rule and fault of the service",
     "test_connection": "connections that are cut, silent or refused",
+    "test_trust": "TLS: who is refused, and peers that do as they like",
     "test_bounds": "peers that are no service, threads and forks",
     "test_primary": "commits and epochs",
     "test_doubts": "blocks whose replies were lost",
@@ -62,11 +63,18 @@ PARTS = {
     "test_kept_trails": "trails of named databases",
     "test_lives": "keepers that end, begin, and take a folder",
     "test_set_back": "a PostgreSQL that is set back before or behind a statement",
+    "test_rescue": "what is saved of a database that PostgreSQL has lost",
     "test_strangers": "what one can do to keepers who has no token",
-    "test_quick": "few blocks, pulled and kept without a thread",
+    "test_grants": "PostgreSQL with least privilege",
+    "test_sealed": "tables of principals that are sealed",
+    "test_proofs": "lines that are bound to a principal",
+    "test_quick": "few blocks, pulled without a thread",
     "test_quick_way": "the quick way of a hot database, which is a thread of C",
     "test_looks": "looks at services, without a thread each",
+    "test_fronts": "the front that speaks TLS before the services of a keeper",
+    "test_secured": "keepers and clients by TLS",
     "test_runs": "a run of a service, its tokens and its process",
+    "test_runner": "services that run as another user than their keeper",
     "test_repeating": "waits between repetitions, and how often they are said",
     "test_many": "keepers of very many databases",
     "test_machine": "what a keeper decides",
@@ -74,13 +82,22 @@ PARTS = {
     "test_beginnings": "what changes while a service is filled, adopted, or follows",
     "test_turns": "whose turn it is to write",
     "test_postgresql_page": "the commands of docs/POSTGRESQL.md, as they are printed",
+    "test_pages": "page servers beside the service",
+    "test_tasks_page": "the commands of docs/TASKS.md, as they are printed",
     "test_disks": "what durable means as PostgreSQL loses its standby, its leader, or room",
     "test_soak": "named databases that live on for a while",
     "test_administered": "the check of the torture of administration",
     "test_images": "images of pages, and blocks of them",
+    "test_store": "the object store below the archive: seal, put, keep, cut, whatever dies or goes back",
+    "test_rescues": "databases that are made again from their store alone",
+    "test_branches": "branches of named databases",
+    "test_buckets": "the store in a bucket, and under keepers",
     "test_bases": "bases in PostgreSQL, pruned, and begun again",
     "test_referee": "one writer of an archive, by statements of PostgreSQL",
 }
+LONGEST = ("mixed", "identity", "changes", "successions", "console", "set_back", "pages", "disks", "keepers", "lives", "care", "kept_trails", "standbys",
+           "postgresql_page", "words", "archive")  # fmt: skip
+"""These are begun first, so that none of them goes on alone at the end."""
 END = 40
 """So many lines of a part that failed are shown once more."""
 
@@ -144,7 +161,7 @@ def side_by_side(names: list[str]) -> list[subprocess.Popen[str]]:
     for name in names:
         while sum(process.poll() is None for process in running) >= min(4, os.cpu_count() or 1):
             time.sleep(0.05)
-        command = [sys.executable, "-B", __file__, name[5:]]
+        command = [sys.executable, __file__, name[5:]]
         output = tempfile.TemporaryFile("w+")
         running.append(subprocess.Popen(command, stdout=output, stderr=subprocess.STDOUT, text=True))
         running[-1].output = output  # type: ignore[attr-defined]
@@ -180,8 +197,13 @@ def main(arguments: list[str]) -> int:
         only = arguments[1] if len(arguments) > 1 else None
         passed, failed = play(f"test_{arguments[0]}", PARTS.get(f"test_{arguments[0]}", ""), only)
     else:
-        # Those that take longest are begun first.
-        passed, failed = play_all([name for name in reversed(PARTS) if name in OF_ANY_SERVICE or not is_model])
+        if not is_model:
+            import postgres
+
+            os.environ[postgres.CLUSTER] = str(postgres.make_cluster())
+        names = [f"test_{name}" for name in LONGEST]
+        names += [name for name in reversed(PARTS) if name not in names]
+        passed, failed = play_all([name for name in names if name in OF_ANY_SERVICE or not is_model])
     if not arguments and os.environ.get("PAGELOG_TEST_LONG") and shutil.which("mypy"):
         done = subprocess.run(["mypy"], cwd=Path(__file__).resolve().parent.parent, capture_output=True, text=True)
         print(f"mypy: {done.stdout.strip()}")

@@ -31,6 +31,9 @@ PROGRAM = os.environ.get("PAGELOG") or str(TOP / "crates" / "pagelog" / "out" / 
 TABLE = TOP / "crates" / "pagelog" / "data" / "t0.toml"
 PATIENCE = float(os.environ.get("PAGELOG_TEST_PATIENCE", "300"))
 """How many seconds a test waits for what has to come: on a machine with much else to do anything may take its time."""
+# What is compiled once is found by each process of the tests: a keeper that compiles all that it imports begins three times as late.
+os.environ.pop("PYTHONDONTWRITEBYTECODE", None)
+os.environ.setdefault("PYTHONPYCACHEPREFIX", str(HERE.parent / "out" / "bytecode"))
 IS_LONG = os.environ.get("PAGELOG_TEST_LONG") == "1"
 
 # The start table with rights that a restore, a move and a new primary need: principal 2 is a secondary as well.

@@ -9,7 +9,7 @@ import unittest
 from pathlib import Path
 from typing import Any
 
-from postgres import PATIENCE, Postgres
+from postgres import PATIENCE, Postgres, initdb
 
 SIZE = 64 << 20
 
@@ -29,11 +29,9 @@ class SmallDisks(Postgres):
         """The URL of its database."""
         return f"postgresql://pagelog@/kept?host={self.folder}"
 
-    def run(self, program: str, *arguments: object) -> None:
-        if program == "initdb":
-            self._mount()
-            arguments = (*arguments, "-X", self.folder / "log-of-writes", "--wal-segsize=1")
-        super().run(program, *arguments)
+    def make(self) -> None:
+        self._mount()
+        self.call(initdb(self.data, "-X", self.folder / "log-of-writes", "--wal-segsize=1"), cwd=self.folder, stdout=subprocess.DEVNULL, check=True)
 
     def call(self, words: list[str], **how: Any) -> subprocess.CompletedProcess[bytes]:
         assert self.holder is not None

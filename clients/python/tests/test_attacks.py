@@ -28,7 +28,7 @@ from pagelog.desk.words import pagelogctl
 from pagelog.keeper import referee as referee_module
 from pagelog.keeper.bases import Base, Bases
 from pagelog.keeper.committer import Committer, Fenced
-from pagelog.keeper.quick import SMALL
+from pagelog.keeper.committer import SMALL
 from pagelog.keeper.referee import Doubt, Referee, digest
 from pagelog.keeper.rows import Batch, Kept as KeptBatch
 from pagelog.keeper.run import Facts, Run

@@ -7,6 +7,7 @@ import random
 import tempfile
 import threading
 import time
+from contextlib import closing
 from dataclasses import replace
 from pathlib import Path
 from typing import Any
@@ -23,7 +24,7 @@ from pagelog.errors import ConnectionLost
 from pagelog.keeper.history import begin_again
 from pagelog.keeper.images import MARK
 from pagelog.keeper.loading import Loader
-from pagelog.keeper.referee import BrokenArchive, Doubt, KeeperError, Referee, Refused, digest
+from pagelog.keeper.referee import BrokenArchive, Doubt, KeeperError, Pruned, Referee, Refused, digest
 from pagelog.keeper.rows import Batch, Kept
 from pagelog.keeper.run import Program
 from pagelog.keeper.schema import VERSION, script
@@ -329,6 +330,41 @@ class Fills(Made):
             self.follow()
         self.assertEqual(self.pieces, [(1, 16), (17, 56), (57, 60)])
         self.assertEqual((self.served.reached, self.served.pulled(0), self.served.end_of_log()), (60, self.blocks, 60))
+
+    def test_no_fill_holds_a_snapshot(self) -> None:
+        """A vacuum beside it takes what is deleted meanwhile."""
+        self.write(60)
+        self.base()
+        self.write(20)
+        seen: list[Any] = []
+        load = Loader.load
+
+        def watched(*values: Any) -> int:
+            with psycopg.connect(self.url) as connection:
+                seen.extend(connection.execute("SELECT state FROM pg_stat_activity WHERE state LIKE 'idle in%' AND datname = current_database()"))
+            return load(*values)
+
+        with patch.object(Loader, "load", watched):
+            self.follow()
+        self.assertEqual((seen, self.served.reached, self.served.images), ([], 80, 60))
+
+    def test_one_that_is_overtaken_by_pruning_says_so_and_another_begins_later(self) -> None:
+        self.write(60)
+        self.base()
+        load = Loader.load
+
+        def pruned(*values: Any) -> int:
+            if self.kept.archived == 60:
+                self.write(40)
+                with closing(Referee(self.url)) as other:
+                    Bases(other, self.row.id).prune(make_base(other, self.row.id, 100, self.kept.chain).position)
+            return load(*values)
+
+        kept = self.kept
+        with patch.object(Loader, "load", pruned):
+            self.assertRaisesRegex(Pruned, "base at position 60 was pruned", self.served.follow, self.referee, self.row.id, kept.archived, kept.chain)
+        self.assertRaises(BrokenArchive, self.follow)  # this one has a part of it
+        self.assertRaisesRegex(Pruned, "blocks 61 to 70 were pruned meanwhile", list, self.referee.blocks(self.row.id, 61, 70))
 
     def test_a_block_that_is_missing_or_damaged_leaves_what_was_read_before_it(self) -> None:
         self.write(60)

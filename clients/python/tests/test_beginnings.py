@@ -188,7 +188,7 @@ class Adopts(Meanwhile):
         (folder / facts.file_name).write_text(json.dumps(vars(facts)))
 
     async def test_what_postgresql_does_not_answer_leaves_no_descriptor_open(self) -> None:
-        answers = {self.session.referee.table: ("", b"", 1), self.session.referee.kept: Kept(5, b"c" * 16, 3)}
+        answers = {self.session.referee.table: TableOf("", b"", 1), self.session.referee.kept: Kept(5, b"c" * 16, 3)}
 
         async def ask(call: object, *_: object) -> object:
             if call is away:
@@ -208,7 +208,7 @@ class Adopts(Meanwhile):
     async def test_one_that_was_taken_over_meanwhile_is_ended_once_a_look_shows_it(self) -> None:
         for left in (replace(ROW, run="other", generation=4, holder="b", address="b:1"), replace(ROW, run=None, holder=None, address=None)):
             self.setUp()
-            answers = {self.session.referee.table: ("", b"", 1), self.session.referee.knows: True}
+            answers = {self.session.referee.table: TableOf("", b"", 1), self.session.referee.knows: True}
             self.session.ask = AsyncMock(side_effect=lambda call, *_, answers=answers: answers.get(call))
             self.see()
             await self.done(lambda: self.database._acting.done())  # type: ignore[union-attr]
@@ -217,7 +217,7 @@ class Adopts(Meanwhile):
             await self.done(lambda: self.process.poll() is not None)
 
     async def test_one_that_postgresql_knows_no_more_is_not_ended(self) -> None:
-        self.session.ask = AsyncMock(side_effect=lambda call, *_: ("", b"", 1) if call is self.session.referee.table else None)
+        self.session.ask = AsyncMock(side_effect=lambda call, *_: TableOf("", b"", 1) if call is self.session.referee.table else None)
         self.see()
         await self.done(lambda: self.database._acting.done())  # type: ignore[union-attr]
         self.see(replace(ROW, run="other", generation=2, archived=4, holder="b", address="b:1"))
@@ -278,6 +278,16 @@ class StandsBy(Meanwhile):
                             self.assertEqual((fill.await_count, self.database.served), (count, fresh))
                 self.assertLessEqual(new.await_count, 1)
                 fresh.process.end.assert_not_called()
+
+    async def test_one_that_lacks_blocks_that_postgresql_has_lost_since_the_look_is_kept(self) -> None:
+        for has_gone_back in (True, False):
+            self.setUp()
+            self.database.served = served = service(run="new", kind=Kind.STANDBY, reached=2, is_noted=True)
+            self.session.ask = AsyncMock(side_effect=lambda call, *_, gone=has_gone_back: gone if call is self.session.referee.lacks else None)
+            with patch.object(Shared, "fill", new=AsyncMock(side_effect=PagelogError("2 of the archived blocks 1 to 2 are missing"))):
+                self.see(self.OTHER, is_noted=True)
+                await self.done(lambda: self.database._acting.done())  # type: ignore[union-attr]
+            self.assertEqual((self.database.served, served.is_broken), (served, False) if has_gone_back else (None, True))
 
     async def test_one_whose_note_is_gone_is_noted_again(self) -> None:
         self.database.served = service(run="new", kind=Kind.STANDBY, is_noted=True)

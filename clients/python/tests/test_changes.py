@@ -64,7 +64,7 @@ class Statements(Referees):
         self.assertEqual(self.change("three", 2), 3)
         self.assertEqual(self.seen().table_number, 3)
         # A keeper that knows a newer one than a PostgreSQL that went back puts it there again, if that is the same database.
-        five = TableOf("five", b"", 5)
+        five = TableOf("five", b"s" * 16, 5)
         self.assertFalse(self.referee.put_table_back(row.id, "00000000-0000-0000-0000-000000000000", five))
         self.assertTrue(self.referee.put_table_back(row.id, row.identity, five))
         self.assertFalse(self.referee.put_table_back(row.id, row.identity, TableOf("none", b"", 5)))

@@ -31,13 +31,13 @@ from test_looking import ends
 DATABASE = {
     "name": str, "state": str, "paused": bool, "read_only": bool, "wanted": (str, type(None)), "holder": (str, type(None)), "address": (str, type(None)),
     "generation": int, "began": (str, type(None)), "begins": list, "position": int, "lag": (int, type(None)),
-    "lag_seconds": (float, type(None)), "commits": (float, type(None)), "reads": (float, type(None)), "entries_left": (int, type(None)),
-    "entries": int, "due": int, "memory": (int, type(None)), "memory_limit": (int, type(None)), "standbys": list, "denials": (int, type(None)),
+    "stored": (int, type(None)), "lag_seconds": (float, type(None)), "commits": (float, type(None)), "reads": (float, type(None)), "entries_left": (int, type(None)),
+    "entries": int, "due": int, "memory": (int, type(None)), "memory_limit": (int, type(None)), "standbys": list, "pages": list, "denials": (int, type(None)),
     "why": (str, type(None)), "next": str, "next_in": (float, type(None)),
 }  # fmt: skip
 DETAIL = {**DATABASE, "version": int, "at": str, "generations": list, "points": list, "has_trail": bool, "rules": dict,
           "trail_is_damaged": bool, "denied": list, "events": list}  # fmt: skip
-HEAD = {"version": int, "look": int, "at": str, "keepers": list, "postgresql": dict, "databases": list, "events": list}
+HEAD = {"version": int, "look": int, "at": str, "keepers": list, "set_aside": list, "postgresql": dict, "databases": list, "events": list}
 TIME = re.compile(r"\d{4}-\d\d-\d\dT\d\d:\d\d:\d\d\.\d{3}Z")
 TOKEN = "a-token-of-more-than-sixteen-letters"
 

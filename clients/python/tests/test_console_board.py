@@ -24,7 +24,8 @@ from pagelog.console.running import begin
 from pagelog.console.source import Look, NoLook, Seen, Source
 from pagelog.console.watcher import Watcher
 from pagelog.console.web import Pages
-from pagelog.keeper.rows import Row
+from pagelog.keeper.aside import ASIDE
+from pagelog.keeper.rows import KeeperRow, Row
 from service import PATIENCE
 
 ROW = Row(1, "shop", 3, "run", "a", "127.0.0.1:1", archived=1000, base=600)
@@ -162,6 +163,30 @@ class Events(unittest.TestCase):
         self.assertEqual(self.told(before, now), [": b took 297 databases from a (warning)"])
         self.assertEqual(self.told(before, before, "c"), [": c stands by for 300 databases (plain)"])
         self.assertEqual(len(self.told(before[:5], now[:5])), 5)
+
+
+class Asides(unittest.TestCase):
+    def test_what_postgresql_has_lost_is_told_also_of_a_database_that_it_lacks(self) -> None:
+        board, shown = Board(Limits()), [{"name": name, "run": f"run of {name}", "address": "a:1", "pid": 7, "had": 3} for name in ("shop", "lost")]
+
+        def look(*asides: dict[str, object]) -> list[str]:
+            before = len(board.state()["events"])
+            report = {ASIDE: asides} if asides else {}
+            board.take(Seen(Look((ROW,), (KeeperRow("a", "life", "a:2", board.number, report),))), 1000.0 + board.number)
+            return [f"{event['name']}: {event['text']} ({event['level']})" for event in board.state()["events"][before:] if event["level"] == "bad"
+                    or "again" in event["text"]]  # fmt: skip
+
+        self.assertEqual(look(), [])
+        self.assertEqual(look({**shown[0], "kept": False}), ["shop: run run of shop of keeper a has what PostgreSQL lacks, which went back: "
+                                                             "`pagelogctl rescue shop` says what it has (bad)"])  # fmt: skip
+        self.assertEqual(look(*shown), [f"{name}: run run of {name} of keeper a is set aside: `pagelogctl rescue {name}` says what it has (bad)"
+                                        for name in ("shop", "lost")])  # fmt: skip
+        self.assertEqual(look(*shown), [])
+        self.assertEqual([(each["name"], each["kept"], each["had"]) for each in board.state()["set_aside"]], [("shop", True, 3), ("lost", True, 3)])
+        self.assertTrue(board.state()["databases"][0]["next"].startswith("PostgreSQL lacks something: `pagelogctl rescue shop` says what. "))
+        self.assertEqual(look(shown[0]), ["lost: PostgreSQL has all of run run of lost again, or it was ended (plain)"])
+        self.assertEqual(look(), ["shop: PostgreSQL has all of run run of shop again, or it was ended (plain)"])
+        self.assertFalse(board.state()["databases"][0]["next"].startswith("PostgreSQL lacks"))
 
 
 class Histories(unittest.TestCase):

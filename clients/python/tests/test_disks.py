@@ -15,8 +15,8 @@ import psycopg
 
 from keepers import Kept, batch_of, eventually, new_database
 from pagelog import NamedPrimary, Put
-from pagelog.keeper import quick_way
-from pagelog.keeper.quick import QuickReferee, QuickSession
+from pagelog.keeper import quick_calls
+from pagelog.keeper.quick import QuickReferee
 from pagelog.keeper.referee import Doubt, OneDisk, Referee, Superseded
 from pagelog.keeper.rows import Look, Synchronous
 from pagelog.keeper.session import Session
@@ -26,7 +26,7 @@ from replicated import Pair, Server
 from service import PATIENCE
 from small_disk import SmallDisks
 
-IS_BUILT = quick_way._library() is not None
+IS_BUILT = quick_calls.library() is not None
 _pairs: list[Pair] = []
 
 
@@ -172,14 +172,14 @@ class Referees(unittest.TestCase):
             taker = self.new("taker", f"postgresql://pagelog@/kept?host={new.folder}")
             kept = taker.take(self.row, "r1")
             assert kept is not None
-            for kind, session_of in ((Referee, Session), (QuickReferee, QuickSession)):
+            for kind in (Referee, QuickReferee):
                 writer = kind(f"postgresql://pagelog@/kept?host={old.folder},{new.folder}", "writer", "life of writer")
                 self.addCleanup(writer.close)
                 batch = batch_of(self.row, kept, "r1")
 
                 async def keep() -> list[frozenset[int]]:
-                    session = session_of(writer, PATIENCE)
-                    return [await session.keep(found) for found in ((), [batch], [batch])]  # the first one prepares it
+                    session = Session(writer, PATIENCE)
+                    return [await session.keep(found) for found in ((), [batch], [batch])]
 
                 self.assertEqual(asyncio.run(keep()), [frozenset(), frozenset(), {self.row.id}])
                 kept = replace(kept, archived=batch.new, chain=batch.chain)
@@ -381,7 +381,7 @@ class AStandbyLeads(Durable):
             _pairs[0].standby.crash()  # it leads later without what it missed
             self.fail_over_amid(primary, 4)
             self.assertEqual(self.commit(primary, "5", durable=True), 5)
-            self.assertEqual(fates(), [*told[:2], Fate(5, False)])
+            self.assertEqual([*fates()[:2], keepers.fate(second, 5)], [*told[:2], Fate(5, False)])
             self.assertEqual((self.keeping.place().generation, self.texts()), (second.generation, [b"1", b"2", b"3", b"4", b"5"]))
 
 

@@ -273,6 +273,11 @@ class OneKeeper(Kept):
             self.assertEqual(self.commit(primary, "41", durable=True), 41)
 
 
+WITH_MORE = {"pagelog_keeper_certificate_ends", "pagelog_keeper_pages_behind", "pagelog_keeper_store_behind", "pagelog_keeper_store_broken",
+             "pagelog_keeper_store_foreign"}  # fmt: skip
+"""Metrics of keepers with `tls` or `store`: fronts and store have tests of them."""
+
+
 class Watched(Kept):
     """By Prometheus and by systemd."""
 
@@ -318,7 +323,8 @@ class Watched(Kept):
         self.keeping.start("b")
         eventually(lambda: self.standby("b") == 1, "a standby")
         self.assertEqual(self.standby("a"), None)
-        check_alerts(self, {name for keeper in "ab" for name, _ in self.keeping.metrics(keeper)}, of_keeper=True)
+        names = {name for keeper in "ab" for name, _ in self.keeping.metrics(keeper)}
+        check_alerts(self, names | WITH_MORE, of_keeper=True)
         self.keeping.word("pause", "shop")
         self.keeping.kill("a", signal.SIGTERM)
         eventually(lambda: self.keeping.row().address is None, "its release")

@@ -509,14 +509,17 @@ class OfImages(Trailed):
         said = self.replay(2)
         self.assertIn("blocks 1 to 1 are made of images; 3 of these are compared with the blocks before", said)
         self.assertNotIn("not checked", said)
-        [data] = [image.data for image in Bases(self.keeping.referee, self.keeping.row().id)._found(20, 0, 1)]
+        bases = Bases(self.keeping.referee, self.keeping.row().id)
+        image = bases.image(1, bases.newest(20))
+        assert image is not None
+        data = image.data
         for number, byte in enumerate(data):
             if byte and chr(byte).isdigit():
                 changed = bytes((*data[:number], byte ^ 1, *data[number + 1 :]))
         self.store_image(changed)
-        self.assertIn("BrokenArchive: the image of range 1 at position 20 is damaged", self.refused(2))
+        self.assertIn("BrokenBase: the image of range 1 at position 20 is damaged", self.refused(2))
         self.store_image(changed, crc=True)
-        self.assertIn("BrokenArchive: the images at position 20 are not those that were kept", self.refused(2))
+        self.assertIn("BrokenBase: the images at position 20 are not those that were kept", self.refused(2))
         self.store_image(changed, crc=True, heads=True)
         self.assertIn("BrokenArchive: the image of range 1 at position 20 is not what the blocks before make", self.refused(2))
         self.store_image(data, crc=True, heads=True)

@@ -9,14 +9,16 @@ from dataclasses import replace
 from pathlib import Path
 
 from pagelog import place
+from pagelog.following import NamedAccount
 from pagelog.keeper import lines
+from pagelog.keeper.table import proof_of
 from service import SOURCE
 
 ROOT = Path(__file__).resolve().parents[3]
 PAGE = (ROOT / "docs" / "LINES.md").read_text()
 PYTHON, C = SOURCE / "pagelog", ROOT / "clients" / "c"
-KEEPER = ("lines", "places", "waits", "turns", "fates", "database", "ending", "keeping")
-CLIENT_C = ("pagelog_place.c", "pagelog_line.c", "pagelog_turn.c")
+KEEPER = ("lines", "fronted", "places", "waits", "turns", "fates", "database", "ending", "keeping", "shared", "page_servers", "confirmations")
+CLIENT_C = ("pagelog_place.c", "pagelog_line.c", "pagelog_turn.c", "pagelog_proof.c")
 
 
 def table(heading: str) -> list[list[str]]:
@@ -31,7 +33,7 @@ def spelt(cells: list[str]) -> set[str]:
     return {found.split()[0] for cell in cells for found in re.findall(r"`([a-z][^`]*)`", cell)}
 
 
-ASKED = spelt([row[0] for row in table("Words")]) - {"now", "mine", "heartbeat", "of"}
+ASKED = spelt([row[0] for row in table("Words")]) - {"now", "mine", "heartbeat", "slices", "of"}
 TOLD = spelt([row[1] for row in table("Words")]) - {"where", "or", "other", "kept", "now", "heartbeat"}
 KEYS = {row[0] for row in table("Greeting, and how lines grow")}
 REASONS = {row[0].strip("`") for row in table("Lost")}
@@ -61,17 +63,20 @@ class Words(unittest.TestCase):
         self.assertEqual(said_by_keepers(), TOLD)
 
     def test_the_client_of_python_asks_and_reads_no_other_words(self) -> None:
-        text = (PYTHON / "place.py").read_text()
-        asked = set(re.findall(r'\(\(?"([a-z]+)", self\.name', text)) | set(re.findall(r'f"(hello) ', text))
-        self.assertEqual(asked, ASKED - {"turn", "back", "hold"})
+        text = (PYTHON / "place.py").read_text() + (PYTHON / "following.py").read_text()
+        asked = set(re.findall(r'(?:\(\(?|return )"([a-z]+)", self\._?name', text)) | set(re.findall(r'f"(hello) ', text))
+        self.assertEqual(asked, ASKED - {"turn", "back", "hold", "confirmed"})
+        bell = (PYTHON / "pages" / "bell.py").read_text()
+        self.assertEqual(set(re.findall(r'f"([a-z]+) \{self\._name\}', bell)), {"confirmed"})
+        self.assertEqual(set(re.findall(r'words\[:2\] != \["([a-z]+)"', bell)), {"confirmed"})
         read = set(re.findall(r'case \["([a-z]+)"', text)) | set(re.findall(r'words\[0\] == "([a-z]+)"', text)) | \
             set(re.findall(r'\[:1\] == \["([a-z]+)"\]', text))  # fmt: skip
-        self.assertEqual(read, TOLD - {"elsewhere", "what", "turn", "busy", "soon", "wanted"})
+        self.assertEqual(read, TOLD - {"elsewhere", "denied", "what", "turn", "busy", "soon", "wanted", "confirmed"})
 
     def test_the_client_of_c_asks_and_reads_no_other_words(self) -> None:
         text = "\n".join((C / name).read_text() for name in CLIENT_C)
-        asked = set(re.findall(r'"(where|durable|hello) ', text)) | set(re.findall(r'say\(turn, "([a-z]+)"', text))
-        self.assertEqual(asked, {"hello", "where", "durable", "turn", "back", "hold"})
+        asked = set(re.findall(r'"(where|durable|hello|prove) ', text)) | set(re.findall(r'say\(turn, "([a-z]+)"', text))
+        self.assertEqual(asked, {"hello", "prove", "where", "durable", "turn", "back", "hold"})
         self.assertLessEqual(asked, ASKED)
         read = set(re.findall(r'strcmp\(words?(?:\[0\])?, "([a-z]+)"\)', text)) | set(re.findall(r'sscanf\(answer, "([a-z]+) ', text))
         self.assertEqual(read, {"hello", "at", "unknown", "over", "durable", "lost", "turn", "busy", "soon", "wanted", "what"})
@@ -97,6 +102,14 @@ class Words(unittest.TestCase):
         assert known is not None
         self.assertEqual((known.generation, known.run, known.database), (7, "run7", "0" * 8))
         self.assertEqual(place._place(at.split()), replace(known, database=""))
+
+    def test_a_proof_is_that_of_the_page(self) -> None:
+        """That of clients/c is compared with it too."""
+        [nonce] = re.findall(r"hello 2 nonce=([0-9a-f]{32})", PAGE)
+        [(key, proof)] = re.findall(r"token ([0-9a-f]{32})[^`]*`(prove [^`]*)`", PAGE)
+        _, name, id, code, of = proof.split()
+        self.assertEqual(proof_of(bytes.fromhex(key), nonce, name, int(id), of.removeprefix("of=")), code)
+        self.assertEqual(NamedAccount(name, int(id), key).prove(nonce, of.removeprefix("of=")), ("prove", name, int(id), code, of))
 
     def test_both_clients_and_keepers_are_of_the_version_of_the_page(self) -> None:
         [page] = set(re.findall(r"`hello (\d+)`", PAGE))

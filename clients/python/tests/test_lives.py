@@ -22,7 +22,6 @@ from pagelog.credentials import Credentials
 from pagelog.keeper.referee import Referee, digest
 from pagelog.keeper.schema import FORMAT
 from pagelog.keeper.table import token_of
-from pagelog.place import UnknownName
 from service import PATIENCE, stand_still, token
 from sqlite_named import connected
 
@@ -352,7 +351,7 @@ class WentBack(Kept):
         self.keeping.kill("a")
         self.keeping.start("a")
         self.assertTrue(self.keeping.referee.create("next", self.keeping.table.read_text(), b"s" * 16))
-        eventually(lambda: self.is_there("next"), "a place of the next one")
+        eventually(lambda: self.keeping.knows("next"), "a place of the next one")
         with Reader(Connection(place.address), credentials) as reader:
             self.assertEqual([block.lsn for block in reader.blocks(1, follow=False)], [1, 2, 3])
 
@@ -375,7 +374,7 @@ class WentBack(Kept):
         with self.keeping.primary() as primary:
             for number in range(1, 4):
                 self.commit(primary, f"{number}", durable=True)
-        place, pid = self.keeping.place(), self.keeping.pid()
+        place, pid, identity = self.keeping.place(), self.keeping.pid(), self.keeping.row().identity
         self.addCleanup(lambda: os.path.exists(f"/proc/{pid}") and os.kill(pid, signal.SIGKILL))
         self.put_back(1, self.RELEASED, other=True)
         self.keeping.place(least=place.generation + 6)
@@ -391,7 +390,7 @@ class WentBack(Kept):
             return [each for line in lines if line["name"] == "shop" for each in line["set_aside"]]
 
         eventually(lambda: asides() == [{"keeper": "a", "name": "shop", "run": place.run, "address": place.address, "pid": pid, "shift": 0,
-                                         "images": 0, "had": 3, "kept": True}], "the word of the next life")  # fmt: skip
+                                         "images": 0, "had": 3, "kept": True, "database": identity}], "the word of the next life")  # fmt: skip
         stand_still(pid)
         with self.assertRaisesRegex(AssertionError, r"\): 3: "):
             self.keeping.word("--timeout", "0.5", "rescue", "shop")
@@ -403,23 +402,23 @@ class WentBack(Kept):
         ending = ("rescue", "shop", "--run", place.run)
         with self.assertRaisesRegex(AssertionError, "its 3 blocks would be lost"):
             self.keeping.word(*ending, "--end", folder, "--yes")
-        self.assertIn("no keeper says", self.refused("rescue", "shop", "--run", "other"))
-        self.assertIn("it is on the machine of its keeper", self.refused(*ending, "--into", url, "--end", self.keeping.folder, "--yes"))
+        self.assertIn("no keeper says", self.keeping.refused("rescue", "shop", "--run", "other"))
+        self.assertIn("it is on the machine of its keeper", self.keeping.refused(*ending, "--into", url, "--end", self.keeping.folder, "--yes"))
         goes = (f"to be ended: run {place.run} of shop, process {pid} of keeper a at {place.address}, up to position 3; nobody else has its positions "
                 f"1 to 3, which are saved as log {place.run} before\nPostgreSQL has positions 0 to 2, from ")  # fmt: skip
         with self.assertRaisesRegex(AssertionError, f"(?s){re.escape(goes)}.*: nothing was done: there is no terminal to ask at"):
             self.keeping.word(*ending, "--into", url, "--end", folder)
         other = Trigger(self.keeping.url, "pagelog_block", "INSERT ON pagelog_block FOR EACH ROW",
                         "NEW.data := set_byte(NEW.data, length(NEW.data) - 1, 0)")  # fmt: skip
-        self.assertIn("BrokenArchive", self.refused(*ending, "--as", "old", "--end", folder, "--yes"))
+        self.assertIn("BrokenArchive", self.keeping.refused(*ending, "--as", "old", "--end", folder, "--yes"))
         other.close()
         os.kill(pid, 0)
         self.assertIn("saved positions up to 3 as database old, and compared them", self.keeping.word("rescue", "shop", "--as", "old"))
         eventually(lambda: self.keeping.row("old").address is not None, "a place of it")
-        eventually(lambda: self.is_there("old"), "what was saved")
+        eventually(lambda: self.keeping.knows("old"), "what was saved")
         with self.keeping.reader("old") as reader:
             self.assertEqual(reader.end(), 3)
-        self.assertIn("there is a database old", self.refused("rescue", "shop", "--as", "old"))
+        self.assertIn("there is a database old", self.keeping.refused("rescue", "shop", "--as", "old"))
         said = self.keeping.word(*ending, "--into", url, "--end", folder, "--yes")
         self.assertIn(goes, said)
         self.assertIn(f"saved 3 blocks as log {place.run}\nended process {pid}", said)
@@ -427,18 +426,6 @@ class WentBack(Kept):
             self.assertEqual([block.records[-1].data.strip(b"<>") for block in archive.blocks(1)], [b"1", b"2", b"3"])  # type: ignore[union-attr]
         eventually(lambda: not os.path.exists(f"/proc/{pid}") and not asides(), "its end")
         self.assertEqual(len(self.texts()), 2)
-
-    def is_there(self, name: str) -> bool:
-        try:
-            self.keeping.place(name)
-        except UnknownName:
-            return False
-        return True
-
-    def refused(self, *words: object) -> str:
-        with self.assertRaises(AssertionError) as caught:
-            self.keeping.word(*words)
-        return str(caught.exception)
 
     def test_a_service_whose_address_it_has_lost_is_published_again_by_the_next_life(self) -> None:
         with self.keeping.primary() as primary:

@@ -59,6 +59,14 @@ class Cases(unittest.TestCase):
         self.check(Action.CLOSE, replace(OURS, wanted="c"), closed, others=(OF_C,))
         self.check(Action.LOOK_UP, replace(OURS, generation=1), replace(closed, run="before"))
 
+    def test_of_a_holder_whose_service_no_client_reaches(self) -> None:
+        """Another keeper may have a front: all is archived, and handed over."""
+        self.check(Action.CLOSE, OURS, replace(HOLDS, unreached=TTL))
+        self.check(Action.NOTHING, OURS, replace(HOLDS, unreached=TTL / 2))
+        self.check(Action.NOTHING, replace(OURS, paused=True), replace(HOLDS, unreached=TTL))
+        self.check(Action.NOTHING, RELEASED, is_unreached=True, still=TTL)
+        self.check(Action.TAKE, RELEASED, still=TTL)
+
     def test_what_is_said_of_a_decision(self) -> None:
         for row, said in ((OURS, "serves"), (replace(OURS, succeed=True), "prepare: a succession was asked for"), (RELEASED, "take: nobody has it")):
             own = HOLDS if row.run else None
@@ -244,7 +252,8 @@ class Cases(unittest.TestCase):
         for row in (None, replace(ROW, generation=2), ROW, RELEASED):
             self.check(Action.SET_ASIDE, row, full, ending=True)
             self.check(Action.SET_ASIDE, row, replace(full, is_known=None), ending=True)
-        self.check(Action.END, ROW, replace(ahead, alive=False))
+        for row in (None, ROW):
+            self.check(Action.END, row, replace(ahead, alive=False))
         self.check(Action.END, replace(RELEASED, dropped=True), replace(full, went_back=True))
 
     def test_in_no_state_is_such_a_service_ended(self) -> None:

@@ -5,24 +5,31 @@ from __future__ import annotations
 import asyncio
 import os
 import resource
+import threading
 import unittest
 from concurrent.futures import ThreadPoolExecutor
+from dataclasses import replace
 from typing import Any, Callable, Iterator
 from unittest.mock import patch
 
 import psycopg
 
-from keepers import Keeping, Kept, batch_of, eventually
-from pagelog.keeper import hosts, quick_way
+from keepers import Gate, Keeping, Kept, Tried, batch_of, blocks, eventually
+from pagelog.keeper import hosts, quick_calls
 from pagelog.keeper.committer import Committer
-from pagelog.keeper.prepared import Prepared
-from pagelog.keeper.quick import QuickReferee, QuickSession
-from pagelog.keeper.quick_way import QuickWays
-from pagelog.keeper.referee import Away, Doubt, Referee
+from pagelog.keeper.database import Database
+from pagelog.keeper.quick import QuickReferee
+from pagelog.keeper.quick_plane import QuickPlane
+from pagelog.keeper.quick_way import End, QuickWay
+from pagelog.keeper.referee import Away, Doubt, Referee, digest
+from pagelog.keeper.rows import Kept as KeptRow, Row
+from pagelog.keeper.run import Program
+from pagelog.keeper.served import Served
 from pagelog.keeper.session import Session
 from postgres import Postgres
-from service import IS_LONG, PATIENCE
-from test_referee import Referees
+from service import IS_LONG, PATIENCE, PROGRAM, WIDE_TABLE
+from test_quick_way import Client, Hot
+from test_referee import Referees, new_database
 
 DESCRIPTORS = 1100
 """So many are open in the keeper before it begins: more than 170 databases have."""
@@ -69,6 +76,12 @@ def odd_after_sending(steps: Any, fileno: int, timeout: float | None = None) -> 
     raise ValueError("filedescriptor out of range")
 
 
+def once_odd(wait: Callable[..., Any]) -> Callable[..., Any]:
+    """The first wait is odd, and no other."""
+    waits = iter((odd_after_sending,))
+    return lambda *arguments, **options: next(waits, wait)(*arguments, **options)
+
+
 class Unexpected(Referees):
     """An error that is none of PostgreSQL's ends the connection: the next statement has another."""
 
@@ -100,12 +113,12 @@ class Unexpected(Referees):
 
         async def keep() -> int:
             referee = QuickReferee(self.url, "one", "life of one")
-            session = QuickSession(referee, PATIENCE)
+            session = Session(referee, PATIENCE)
             committer = Committer(session, PATIENCE, said.append)
             running = asyncio.create_task(committer.run())
             try:
                 await committer.warm()
-                with patch.object(Prepared, "has_answer", side_effect=ValueError("odd")):
+                with patch("psycopg.waiting.wait", once_odd(psycopg.waiting.wait)):
                     found = await asyncio.wait_for(committer.keep(batch), PATIENCE)
                 while found.archived < batch.new:
                     found = await asyncio.wait_for(committer.keep(batch), PATIENCE)
@@ -115,7 +128,7 @@ class Unexpected(Referees):
                 await session.close()
 
         self.assertEqual(asyncio.run(keep()), batch.new)
-        self.assertEqual(said, ["nothing is archived: ValueError: odd"])
+        self.assertEqual(said, ["nothing is archived: PostgreSQL: ValueError: filedescriptor out of range"])
 
     def test_a_batch_of_which_nobody_can_make_a_statement_ends_no_committer(self) -> None:
         kept, said = self.taken(), list[str]()
@@ -134,29 +147,184 @@ class Unexpected(Referees):
         self.assertEqual(asyncio.run(keep()), batch.new)
         self.assertEqual(said, ["nothing is archived: ValueError: odd"])
 
-    @unittest.skipUnless(quick_way._library() is not None, "the quick way is not built")
+    @unittest.skipUnless(quick_calls.library() is not None, "the quick way is not built")
     def test_the_quick_way_is_to_be_had_again(self) -> None:
         said: list[str] = []
 
         async def connect() -> bool:
-            ways = QuickWays(QuickReferee(self.url, "one", "life of one"), idle=0.0, deadline=PATIENCE, say=said.append)
+            plane = QuickPlane(lambda: QuickReferee(self.url, "one", "life of one"), idle=0.0, deadline=PATIENCE, say=said.append)
+            [session, *_] = plane.sessions
             try:
                 with patch("pagelog.keeper.quick.Prepared", side_effect=ValueError("odd")):
                     for _ in range(2):
-                        ways._is_connected()
-                        while ways._at_work is not None:
+                        plane._is_connected()
+                        while session.is_connecting:
                             await asyncio.sleep(0.001)
-                        self.assertIsNone(ways._referee.descriptor)
-                ways.idle = PATIENCE
-                ways._is_connected()
-                while ways._at_work is not None:
+                        self.assertIsNone(session.referee.descriptor)
+                plane.idle = PATIENCE
+                plane._is_connected()
+                while session.is_connecting:
                     await asyncio.sleep(0.001)
-                return bool(ways.statements)
+                return session.is_lent
             finally:
-                await ways.close()
+                await plane.close()
 
         self.assertTrue(asyncio.run(connect()))
         self.assertEqual(said, ["not to be had: PostgreSQL: ValueError: odd"])
+
+
+class Together(Hot):
+    """More databases than one: what of them is due goes into one statement, each batch under its own condition."""
+
+    COUNT = 12
+
+    async def asyncSetUp(self) -> None:
+        await super().asyncSetUp()
+        self.others: list[Other] = []
+        for number in range(1, self.COUNT):
+            row = new_database(self.referee, f"d{number}")
+            kept = self.referee.take(row, f"r{number}")
+            assert kept is not None
+            other = Other(self, replace(row, address="there", run=f"r{number}", generation=kept.generation, holder="one"))
+            self.others.append(other)
+            self.addCleanup(other.served.end)
+
+    async def all_hot(self) -> tuple[Client, list[Client]]:
+        """A client of each, whose line the quick way has."""
+        clients = [self.client() for _ in self.others]
+        for other, client in zip(self.others, clients):
+            while not other.is_hot:
+                self.session.not_before = 0.0
+                position = other.write()
+                self.assertEqual(await client.ask(other.durable(position)), other.durable(position))
+                await asyncio.sleep(0.001)
+        return await self.hot(), clients
+
+    async def behind(self, first: Client, clients: list[Client]) -> Gate:
+        """One has a statement at a gate, and all others wait for the next one."""
+        gate = Gate(self.url, "NEW.name = 'shop'")
+        first.send(self.durable(self.write()))
+        await asyncio.to_thread(gate.somebody_waits)
+        for other, client in zip(self.others, clients):
+            client.send(other.durable(other.write(1 + len(other.written) % 3)))
+        await self.until(lambda: self.plane.due == len(self.others), "their pulls")
+        return gate
+
+    async def answered(self, first: Client, clients: list[Client]) -> None:
+        self.assertEqual(await first.answer(), self.durable(len(self.written)))
+        for other, client in zip(self.others, clients):
+            self.assertEqual(await client.answer(), other.durable(len(other.written)))
+
+
+class InOneStatement(Together):
+    goes_through_line = True
+
+    async def test_all_that_is_due_is_one_statement_and_one_that_is_fenced_fails_alone(self) -> None:
+        first, clients = await self.all_hot()
+        threads, sessions = threading.active_count(), self.sessions()
+        tried = Tried(self.url, "pagelog keeper one")
+        self.addCleanup(tried.close)
+        gate = await self.behind(first, clients)
+        fenced, lost = self.others[4], clients[4]
+        self.execute("UPDATE pagelog_log SET generation = 9 WHERE name = %s", fenced.row.name)
+        await asyncio.to_thread(gate.open)
+        self.assertEqual(await first.answer(), self.durable(len(self.written)))
+        for other, client in zip(self.others, clients):
+            if other is not fenced:
+                self.assertEqual(await client.answer(), other.durable(len(other.written)))
+        self.assertLess(tried.count(), len(self.others) // 2)  # two, and what looks up the one that is fenced
+        await self.until(lambda: self.ends == [End.NOT_KEPT], "the end of the one that is fenced")
+        self.assertFalse(lost.has_answer())
+        self.execute("UPDATE pagelog_log SET generation = 1 WHERE name = %s", fenced.row.name)
+        self.assertEqual(await lost.answer(), fenced.durable(len(fenced.written)))
+        self.assertLessEqual(threading.active_count(), threads + 1)
+        self.assertLessEqual(self.sessions(), sessions)
+        for other in self.others:
+            other.assert_whole()
+        self.assert_whole()
+
+    def sessions(self) -> int:
+        with psycopg.connect(self.url) as connection:
+            found = connection.execute("SELECT count(*) FROM pg_stat_activity WHERE application_name = 'pagelog keeper one'").fetchone()
+        return int(found[0]) if found else 0
+
+    async def test_a_statement_that_is_cut_puts_all_that_is_in_it_in_doubt_and_nothing_else(self) -> None:
+        first, clients = await self.all_hot()
+        self.line.count_from_now(1 << 40, 1 << 40)
+        await self.commit_quickly(first)
+        back = (1 << 40) - self.line.left["back"]
+        early, look_up = list[bool](), Committer.look_up
+
+        async def seen(committer: Committer, log: int, run: str) -> KeptRow:
+            self.line.count_from_now()
+            kept = await look_up(committer, log, run)
+            early.extend(client.has_answer() for other, client in zip(self.others, clients) if other.row.id == log)
+            return kept
+
+        self.enterContext(patch.object(Committer, "look_up", seen))
+        # Before that of many is whole, behind its commit, and in the answer of the one before: then those that are due have another.
+        for cut, count in (({"to": 500}, len(self.others)), ({"back": back + 8}, len(self.others)), ({"back": back - 8}, 1)):
+            gate = await self.behind(first, clients)
+            self.ends.clear()
+            self.line.count_from_now(**cut)
+            await asyncio.to_thread(gate.open)
+            await self.answered(first, clients)
+            self.assertEqual(self.ends, [End.DOUBT] * count)
+            self.assertLessEqual(set(early), {False})
+            self.line.count_from_now()
+            for other, client in zip(self.others, clients):
+                await other.hot(client)
+            await self.hot(first)
+        for other in self.others:
+            other.assert_whole()
+        self.assert_whole()
+
+
+class Other:
+    """One more database of a `Hot`, with a service of its own."""
+
+    def __init__(self, hot: Hot, row: Row) -> None:
+        self.test, self.row, self.written = hot, row, list[bytes]()
+        self.served = Served(row.name, row.run or "", WIDE_TABLE, b"s" * 16, timeout=PATIENCE)
+        self.served.start(Program(PROGRAM, "127.0.0.1", hot.folder, 1_000_000))
+        self.served.generation = row.generation
+        self.served.open()
+        self.database = Database(hot.shared, row)
+        self.database.served = self.served
+        hot.keeper.databases[row.identity] = hot.keeper._by_name[row.name] = self.database
+        self.database.work.begin(row, self.served)
+        self.loader = hot.enterContext(self.served.loader())
+
+    @property
+    def way(self) -> QuickWay | None:
+        return None if self.database.work.archiver is None else self.database.work.archiver._way
+
+    @property
+    def is_hot(self) -> bool:
+        return self.way is not None and bool(self.way._lent)
+
+    async def hot(self, client: Client) -> None:
+        while not self.is_hot:
+            self.test.session.not_before = 0.0
+            position = self.write()
+            self.test.assertEqual(await client.ask(self.durable(position)), self.durable(position))
+            await asyncio.sleep(0.001)
+
+    def write(self, count: int = 1) -> int:
+        first = len(self.written) + 1
+        made = list(blocks(first, count))
+        self.loader.load(first, [made])
+        self.written += made
+        return len(self.written)
+
+    def durable(self, position: int) -> str:
+        return f"durable {self.row.name} {self.served.generation} {position}"
+
+    def assert_whole(self) -> None:
+        found = [block for piece in self.test.referee.blocks(self.row.id, 1, len(self.written)) for block in piece]
+        self.test.assertEqual(found, self.written)
+        [row] = [row for row in self.test.referee.everything().rows if row.id == self.row.id]
+        self.test.assertEqual((row.archived, row.chain), (len(found), digest(b"", found)))
 
 
 class Waits(unittest.TestCase):

@@ -3,6 +3,7 @@
 from __future__ import annotations
 
 import asyncio
+import gc
 import socket
 import tempfile
 import threading
@@ -50,7 +51,7 @@ def service(**facts: Any) -> Mock:
     known = {"database": "shop", "run": "mine", "kind": Kind.HOLDER, "generation": 3, "reached": 5, "chain": b"c" * 16, "hard": 5, "shift": 0,
              "images": 0, "answers": 0, "entries": 0, "silent": 0.0, "is_alive": True, "is_broken": False, "is_open": True, "was_closed": False,
              "hangs": False, "went_back": False, "is_noted": False, "is_after_release": False, "is_full": False, "back_since": None,
-             "is_apart": False, "table_number": 1, "identity": "", **facts}  # fmt: skip
+             "is_apart": False, "table_number": 1, "identity": "", "unreached": 0.0, **facts}  # fmt: skip
     made = Mock(**known)
     made.share.return_value = 0.0
     made.pulled_at_once, made.looked_at_once = AsyncMock(return_value=[]), AsyncMock(return_value=True)
@@ -252,7 +253,7 @@ class Names(unittest.IsolatedAsyncioTestCase):
 class Floods(unittest.IsolatedAsyncioTestCase):
     async def test_a_client_with_very_many_lines_lets_others_have_their_turn(self) -> None:
         asked, many = list[str](), 10_000
-        answers = Mock(where=lambda name: asked.append(name) or ("nowhere", name))
+        answers = Mock(where=lambda name, _: asked.append(name) or ("nowhere", name))
         server = Server(answers)
         host, _, port = (await server.start("127.0.0.1:0")).rpartition(":")
         loop = asyncio.get_running_loop()
@@ -386,15 +387,15 @@ class Successions(Meanwhile):
             self.assertEqual((succession.stage, served.is_broken, served.open.called), (Stage.FAILED, is_broken, not is_broken))
 
     async def test_what_a_writer_says_of_memory_is_taken_of_what_is_held_alone(self) -> None:
-        keeper = Mock(Keeper, _named=lambda name: {"shop": self.database}.get(name))
+        keeper = Mock(Keeper, _named=lambda name: {"shop": self.database}.get(name), _may=lambda *_: True)
         prepared = self.enterContext(patch.object(Succession, "prepare"))
-        Keeper.full(keeper, "shop", 3)  # nothing is held
+        Keeper.full(keeper, Mock(), "shop", 3)  # nothing is held
         served = self.held()
         for name, generation in (("other", 3), ("shop", 2), ("shop", 4)):
-            Keeper.full(keeper, name, generation)
+            Keeper.full(keeper, Mock(), name, generation)
         self.assertIs(served.is_full, False)
         for _ in range(2):
-            Keeper.full(keeper, "shop", 3)
+            Keeper.full(keeper, Mock(), "shop", 3)
         await self.done(lambda: prepared.called)
         self.assertIn("prepare: its service had no memory for a writer", self.said)
 
@@ -481,6 +482,21 @@ class Sessions(unittest.IsolatedAsyncioTestCase):
         session = Session(referee, 0.01)
         self.assertTrue(await session.ask(is_cut.wait, PATIENCE))
 
+    async def test_one_that_fails_as_its_asker_gives_up_is_not_reported_as_never_retrieved(self) -> None:
+        loop, reported = asyncio.get_running_loop(), list[str]()
+        loop.set_exception_handler(lambda _, context: reported.append(context["message"]))
+        session, work = Session(Mock(Referee, notified=[]), PATIENCE), loop.create_future()
+        with patch.object(loop, "run_in_executor", return_value=work):
+            asking = asyncio.create_task(session.ask(lambda: 7))
+            await asyncio.sleep(0)
+        work.set_exception(Away("PostgreSQL: the connection is lost"))
+        asking.cancel()
+        await asyncio.wait({asking})
+        self.assertTrue(asking.cancelled())
+        del asking, work
+        gc.collect()
+        self.assertEqual(reported, [])
+        self.assertEqual(await session.ask(lambda: 7), 7)
 
     async def test_one_that_hangs_when_nobody_waits_for_it_any_more_is_cut(self) -> None:
         is_cut, referee = threading.Event(), Mock(Referee, notified=[])

@@ -84,11 +84,12 @@ class MixedKeeping(Keeping):
 
     @contextmanager
     def older(self) -> Iterator[None]:
-        self.environment["PYTHONPATH"] = str(old() / "python" / "src")
+        before = dict(self.environment)
+        self.environment.update(PYTHONPATH=str(old() / "python" / "src"), PYTHONPYCACHEPREFIX=str(old() / "bytecode"))
         try:
             yield
         finally:
-            self.environment["PYTHONPATH"] = str(SOURCE)
+            self.environment.update(before)
 
     def old_word(self, *words: object) -> None:
         with self.older():
@@ -237,9 +238,12 @@ class Mixed(Beside):
         enter(keeping.addresses, 5, 5, old() / "c")
         keeping.replace("b", is_old=False)
         enter(keeping.addresses, 5, 10, old() / "c")
-        enter(keeping.addresses, 5, 15)
         with closing(connected(keeping.addresses, id=3, mode="ro")) as reader:
+            self.assertEqual(reader.execute("pragma pagelog_origin").fetchone(), ("",))  # an older client does not say it
+            enter(keeping.addresses, 5, 15)
             self.assertEqual(reader.execute("select count(*), max(n) from t").fetchone(), (20, 19))
+            self.assertEqual(reader.execute("pragma pagelog_origin").fetchone(), (keeping.place().of,))
+        enter(keeping.addresses, 5, 20, old() / "c")
 
 
 class Trailed(Beside):

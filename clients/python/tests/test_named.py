@@ -464,7 +464,7 @@ class Words(Saying):
         """To connect to it takes a second. It is asked at once where no other is left."""
         gone, tries = self.keepers._addresses[0], list[int]()
 
-        def connect(host: str, port: int, timeout: float) -> socket.socket:
+        def connect(host: str, port: int, timeout: float, trust: object) -> socket.socket:
             tries.append(port)
             if gone.endswith(f":{port}"):
                 raise TimeoutError("timed out")

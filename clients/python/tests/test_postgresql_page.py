@@ -21,7 +21,6 @@ from keepers import Keeping, eventually
 from pagelog import NamedPrimary, Put
 from pagelog.keeper.bases import make_base
 from pagelog.keeper.referee import Referee, plain_url
-from pagelog.place import UnknownName
 from postgres import Postgres, programs
 from service import PATIENCE, TOP
 from small_disk import SmallDisks
@@ -39,7 +38,7 @@ def commands() -> dict[str, list[str]]:
 
 class Page(unittest.TestCase):
     def test_each_block_of_it_is_run_below(self) -> None:
-        run = {"Back it up": 1, "Restore it": 2, "It was restored": 1, "Move to another PostgreSQL": 1, "Its disk is full": 1}
+        run = {"Back it up": 1, "Restore it": 2, "It was restored": 2, "Move to another PostgreSQL": 1, "Its disk is full": 1}
         self.assertEqual({heading: len(found) for heading, found in commands().items() if found}, run)
 
 
@@ -95,9 +94,9 @@ class Paged(unittest.TestCase):
         self.assertEqual(done.returncode, 0, f"{block}\n{done.stdout}\n{self.keeping.said()}")
         return done.stdout
 
-    def write(self, *pages: int) -> None:
+    def write(self, *pages: int, name: str = "shop") -> None:
         """A durable commit for each, which changes that page."""
-        with self.keeping.primary() as primary:
+        with self.keeping.primary(name) as primary:
             for page in pages:
                 primary.append(Put(page, 0, b"%d" % page))
                 primary.commit(durable=True)
@@ -106,13 +105,6 @@ class Paged(unittest.TestCase):
         """Those of the first ten that were changed."""
         with self.keeping.reader(name) as reader:
             return {page for page in range(1, 11) if reader.page(page).data.startswith(b"%d" % page)}
-
-    def is_known(self, name: str) -> bool:
-        try:
-            self.keeping.place(name)
-        except UnknownName:
-            return False
-        return True
 
     def asides(self) -> list[dict[str, Any]]:
         lines = map(json.loads, self.keeping.word("kept", "--json").splitlines())
@@ -156,20 +148,28 @@ class Backups(Paged):
         self.write(1, 2, 3)
         self.run_printed(dump)
         self.write(4, 5)
+        self.assertTrue(self.keeping.referee.create("late", self.keeping.table.read_text(), b"l" * 16))
+        eventually(lambda: self.keeping.knows("late"), "the later database")
+        self.write(8, name="late")
+        of_late = str(self.keeping.row("late").holder)
         place = self.keeping.place()
         holder = self.set_aside(lambda: self.write(6))
         self.assertEqual(self.pages(), {1, 2, 3, 6})
-        eventually(lambda: self.keeping.metrics(holder)["pagelog_keeper_set_aside", ""] == 1, "the metric")
+        asides = 1 + (of_late == holder)
+        eventually(lambda: self.keeping.metrics(holder)["pagelog_keeper_set_aside", ""] == asides, "the metric")
         see, save, end = commands()["It was restored"][0].splitlines()
         self.assertIn(f"run {place.run} of keeper {holder}", said := self.run_printed(see))
         self.assertIn("ends at position 5, which is LSN 5: PostgreSQL has it up to 3, and lacks 2 blocks of it", said)
         self.assertIn("saved positions up to 5 as database shop-saved, and compared them", self.run_printed(save))
-        eventually(lambda: self.is_known("shop-saved"), "what was saved")
+        eventually(lambda: self.keeping.knows("shop-saved"), "what was saved")
         self.assertEqual(self.pages("shop-saved"), {1, 2, 3, 4, 5})
         said = self.run_printed(end, "y", RUN=place.run, FOLDER=self.folder / holder)
         self.assertIn("end it [y/N]", said)
         self.assertIn("saved positions up to 5 as database shop-saved2, and compared them\nended process", said)
-        eventually(lambda: not self.asides() and self.keeping.metrics(holder)["pagelog_keeper_set_aside", ""] == 0, "the end of it")
+        eventually(lambda: not self.asides() and self.keeping.metrics(holder)["pagelog_keeper_set_aside", ""] == asides - 1, "the end of it")
+        self.run_printed(commands()["It was restored"][1], FOLDER=self.folder / of_late)
+        eventually(lambda: self.keeping.knows("late-saved"), "what was saved of the later database")
+        self.assertEqual(self.pages("late-saved"), {8})
 
     def test_sqlite_opens_what_was_saved_of_a_run_that_began_with_images(self) -> None:
         dump, _ = self.backed_up()
@@ -191,8 +191,8 @@ class Backups(Paged):
         self.set_aside(write)
         end = int(re.findall(r"ends at position (\d+)", self.keeping.word("rescue", "shop"))[0])
         self.run_printed(commands()["It was restored"][0].splitlines()[1])
-        eventually(lambda: self.is_known("shop-saved"), "what was saved")
-        with closing(connected(self.keeping.addresses, name="shop-saved", file="shop", id=3, mode="ro")) as saved:
+        eventually(lambda: self.keeping.knows("shop-saved"), "what was saved")
+        with closing(connected(self.keeping.addresses, name="shop-saved", id=3, mode="ro")) as saved:
             self.assertEqual(saved.execute("SELECT n FROM t").fetchall(), [(n,) for n in (1, 2, 3, 4, 5, 6)])
         with self.keeping.reader("shop-saved") as reader:
             self.assertEqual(reader.end(), end)
@@ -233,7 +233,7 @@ class Backups(Paged):
                 os.kill(pid, signal.SIGKILL)
 
     def is_served(self) -> bool:
-        return self.is_known("shop")
+        return self.keeping.knows("shop")
 
     def test_a_folder_that_is_restored_beside_the_keepers_loses_nothing(self) -> None:
         _, backup = self.backed_up()

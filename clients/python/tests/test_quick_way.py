@@ -23,25 +23,30 @@ import psycopg
 
 from keepers import Gate, Kept as KeptService, Line, Trigger, blocks, eventually
 from pagelog import Block, Put
-from pagelog.keeper import quick_way, statements
+from pagelog.keeper import quick_calls, quick_plane, statements
 from pagelog.keeper.archiver import Archiver
 from pagelog.keeper.committer import Committer
 from pagelog.keeper.database import Database
 from pagelog.keeper.keeping import Keeper
 from pagelog.keeper.loading import Loader
 from pagelog.keeper.quick import QuickReferee
-from pagelog.keeper.quick_way import MOST, End, QuickPool, QuickWay, QuickWays
+from pagelog.keeper.quick_plane import QuickPlane, QuickSessionOf
+from pagelog.keeper.quick_way import End, QuickWay
 from pagelog.keeper.referee import digest
 from pagelog.keeper.rows import Kept
 from pagelog.keeper.run import Program, Run
 from pagelog.keeper.served import Served
 from pagelog.keeper.settings import Settings
 from pagelog.place import UnknownName
-from pagelog.request import PULL_MAX
+from pagelog.reply import Entry
+from pagelog.request import PULL_MAX, Operation, Status
+from pagelog.trail import Trail
+from pagelog.trail.keeper import DAY, now
+from pagelog.trail.question import entries_of
 from service import PATIENCE, PROGRAM, WIDE_TABLE, stand_still
 from test_referee import Referees
 
-IS_BUILT = quick_way._library() is not None
+IS_BUILT = quick_calls.library() is not None
 READY = b"Z\0\0\0\5I"
 """What PostgreSQL says last."""
 
@@ -108,7 +113,7 @@ class Hot(Referees, unittest.IsolatedAsyncioTestCase):
         if self.goes_through_line:
             self.line = Line(stalls=self.stalls)
             self.addCleanup(self.line.close)
-            self.shared.ways = QuickPool(lambda: QuickWays(QuickReferee(self.line.url(self.url), "one", "life of one"), idle=PATIENCE, deadline=PATIENCE), 1)
+            self.shared.ways = QuickPlane(lambda: QuickReferee(self.line.url(self.url), "one", "life of one"), idle=PATIENCE, deadline=PATIENCE, most=1)
         kept = self.taken()
         self.served = Served("shop", "r1", WIDE_TABLE, b"s" * 16, timeout=PATIENCE)
         self.served.start(Program(PROGRAM, "127.0.0.1", self.folder, 1_000_000))
@@ -157,10 +162,14 @@ class Hot(Referees, unittest.IsolatedAsyncioTestCase):
         return self.archiver._way
 
     @property
-    def ways(self) -> QuickWays:
-        """The first of those that there are, which a single database has."""
+    def plane(self) -> QuickPlane:
         assert self.shared.ways is not None
-        return self.shared.ways.ways[0]
+        return self.shared.ways
+
+    @property
+    def session(self) -> QuickSessionOf:
+        """The first of those that there are, which a single database has."""
+        return self.plane.sessions[0]
 
     @property
     def is_hot(self) -> bool:
@@ -200,7 +209,7 @@ class Hot(Referees, unittest.IsolatedAsyncioTestCase):
         client = client or self.client()
         while not self.is_hot or not self.way._lent:
             if self.shared.ways is not None:
-                self.ways._not_before = 0.0  # after a doubt it connects again at once
+                self.session.not_before = 0.0  # after a doubt it connects again at once
             await self.commit(client)
             await asyncio.sleep(0.001)
         return client
@@ -268,7 +277,7 @@ class Tells(Hot):
 
     async def test_any_count_and_size_of_blocks_is_kept_as_the_service_has_it(self) -> None:
         client, chance = await self.hot(), random.Random(1)
-        for count in (1, 2, PULL_MAX - 1, PULL_MAX, PULL_MAX + 1, 256, 257, 300):
+        for count in (1, 2, PULL_MAX - 1, PULL_MAX, PULL_MAX + 1, 80, 81, 300, 1024, 1025, 3000):
             await self.commit_quickly(client, count)
         for count in (1, 9, 20):  # of 32 KiB, or nearly so: a batch ends with its bytes
             first = len(self.written) + 1
@@ -278,6 +287,18 @@ class Tells(Hot):
             self.assertEqual(await client.ask(self.durable(position)), self.durable(position))
             self.assert_quick(position)
         self.assertEqual(self.ends, [])
+        self.assert_whole()
+
+    async def test_what_is_behind_is_archived_though_nobody_waits(self) -> None:
+        await self.hot()
+        self.archiver._end_way()
+        is_at_rest = lambda: not (self.is_hot or self.archiver._doorbell.is_set() or self.archiver.turn.locked())
+        await self.until(is_at_rest, "its end, and the pull of nothing that somebody rang for meanwhile")
+        with patch.object(Served, "pulled", autospec=True, side_effect=Served.pulled) as pulled:
+            self.served.hard = position = self.write(5000)
+            self.archiver.ring()
+            await self.until(lambda: self.is_hot and self.way.reached[0] == position, "what is behind")
+            self.assertEqual((pulled.call_count, self.archived()), (1, position))
         self.assert_whole()
 
     async def test_who_asks_for_what_is_archived_already_is_told_at_once(self) -> None:
@@ -349,11 +370,11 @@ class Tells(Hot):
         self.assertEqual((self.served.reached, self.ends), (position, []))
 
     async def test_it_is_given_back_where_nobody_asks(self) -> None:
-        self.ways.idle = 0.3
+        self.plane.idle = 0.3
         client = await self.hot()
         await self.until(lambda: self.ends == [End.IDLE], "its end")
         self.assertEqual(await client.ask("where nothing"), "unknown nothing" if self.keeper.look.keepers else "nowhere nothing")
-        await self.until(lambda: not self.ways.statements, "the end of its connection")
+        await self.until(lambda: not self.session.statements, "the end of its connection")
         await self.commit(client)
         self.assert_whole()
 
@@ -401,7 +422,7 @@ class Lines(Hot):
         """A client that has greeted is told of which run an answer is, the quick way too."""
         client = await self.hot()
         of = f" of={self.database.row.identity}/r1"
-        self.assertEqual(await client.ask("hello 2"), "hello 2")
+        self.assertTrue((await client.ask("hello 2")).startswith("hello 2 nonce="))
         before = len(self.ends)
         while not self.is_hot or not self.way._lent:
             position = self.write()
@@ -417,12 +438,36 @@ class Lines(Hot):
         self.assertEqual(found.split()[:4], ["lost", "shop", str(self.served.generation), "superseded"])
         self.assertTrue(found.endswith(other))
 
+    def others(self) -> list[str]:
+        """Another run of the number, and another database of the name, and neither."""
+        database = self.database.row.identity
+        return [f"of={database}/r2", f"of={'0' * 8}{database[8:]}/r1", f"of={database}"]
+
+    async def test_a_ring_and_a_word_of_memory_of_another_run_do_nothing(self) -> None:
+        client, g = self.client(), self.served.generation
+        self.write()
+        with patch.object(self.database.work, "ring", wraps=self.database.work.ring) as ring:
+            client.send(*(f"{word} shop {g} {of}" for word in ("ring", "full") for of in self.others()))
+            self.assertEqual(await client.ask("where nobody"), "nowhere nobody")  # which comes behind them
+            self.assertEqual((ring.call_count, self.served.is_full), (0, False))
+            client.send(f"ring shop {g} of={self.database.row.identity}/r1")
+            await self.until(lambda: ring.called, "a ring of its own")
+
+    async def test_a_ring_of_another_run_does_nothing_on_the_quick_way(self) -> None:
+        for of in self.others():
+            client = await self.hot()
+            way, position = self.way, self.write()
+            client.send(f"ring shop {self.served.generation} {of}")
+            await self.until(lambda: not way._lent or way.reached[0] == position, of)  # noqa: B023
+            self.assertLess(way.reached[0], position, of)
+            client.socket.close()
+
     async def test_a_number_that_two_runs_had_says_nothing_to_an_older_client(self) -> None:
         client = await self.hot()
         self.database.see(replace(self.database.row, doubted=self.served.generation), 1, (), is_noted=False, began=float("inf"))
         position = self.write()
         self.assertEqual(await client.ask(self.durable(position)), f"elsewhere shop {self.served.generation}")
-        self.assertEqual(await client.ask("hello 2"), "hello 2")
+        self.assertTrue((await client.ask("hello 2")).startswith("hello 2 nonce="))
         of = f" of={self.database.row.identity}/r1"
         self.assertEqual(await client.ask(self.durable(position) + of), self.durable(position) + of)
 
@@ -483,7 +528,7 @@ class Lines(Hot):
         client, other, is_held, goes_on = self.client(), self.client(), asyncio.Event(), asyncio.Event()
         pulling_line = Served.pulling_line
 
-        async def held(served: Served) -> tuple[int, bytes]:
+        async def held(served: Served) -> tuple[int, bytes, bytes]:
             is_held.set()
             await goes_on.wait()
             return await pulling_line(served)
@@ -604,6 +649,8 @@ class Statements(Hot):
             self.assertEqual((client.has_answer(), self.archived()), (False, position - count))
             self.undeferred()
             self.assertEqual(await client.answer(), self.durable(position))
+        await self.hot(client)
+        await self.commit_quickly(client)
         self.assert_whole()
 
     async def test_a_commit_with_a_warning_is_looked_up_before_it_is_told_and_a_notice_is_none(self) -> None:
@@ -657,7 +704,7 @@ class Statements(Hot):
         client, turns = self.client(), list[asyncio.Task[object]]()
         pulling_line = Served.pulling_line
 
-        async def wanted(served: Served) -> tuple[int, bytes]:
+        async def wanted(served: Served) -> tuple[int, bytes, bytes]:
             turns.append(asyncio.create_task(self.archiver.turn.acquire()))
             await asyncio.sleep(0)
             return await pulling_line(served)
@@ -804,7 +851,7 @@ class Stalled(Hot):
         await self.until(lambda: self.archived() == position, "its commit")
         await asyncio.sleep(0.1)
         self.assertEqual((client.has_answer(), self.way.reached[0], self.ends), (False, position - 1, []))
-        self.ways._referee.cut()
+        self.session.referee.cut()
         self.assertEqual(await client.answer(), self.durable(position))
         self.assertEqual(self.ends, [End.DOUBT])
 
@@ -833,9 +880,8 @@ class Stalled(Hot):
         self.assert_whole()
 
     async def test_one_that_hangs_is_in_doubt_after_its_time_whatever_lines_say_meanwhile(self) -> None:
-        ways = self.ways
         client, other = await self.hot(), self.client()
-        ways.deadline = 0.5
+        self.plane.deadline = 0.5
         self.archiver._end_way()
         await self.until(lambda: not self.is_hot, "the end of the one with more time")
         await self.hot(client)
@@ -850,23 +896,24 @@ class Stalled(Hot):
         self.assertEqual(self.ends[0], End.DOUBT)
 
     async def test_a_connection_that_hangs_as_its_statements_are_prepared_is_cut(self) -> None:
-        ways = self.ways
+        plane, session = self.plane, self.session
         self.line.count_from_now(back=1 << 40)
-        self.assertFalse(ways._is_connected())
-        await self.until(lambda: ways.statements, "its statements")
+        self.assertFalse(plane._is_connected())
+        await self.until(lambda: session.is_lent, "its statements")
         back = (1 << 40) - self.line.left["back"]
-        ways._close()
-        ways.deadline = 0.05
+        plane._close_sessions()
+        await self.until(lambda: not session.statements, "the end of its connection")
+        plane.deadline = 0.05
         while self.line.left["back"]:
-            if ways._at_work is None:  # it was cut before it came so far
+            if not session.is_connecting:  # it was cut before it came so far
                 self.line.count_from_now(back=back - 1)
-                ways._not_before, ways.deadline = 0.0, 2 * ways.deadline
-                self.assertFalse(ways._is_connected())
+                session.not_before, plane.deadline = 0.0, 2 * plane.deadline
+                self.assertFalse(plane._is_connected())
             await asyncio.sleep(0.001)
         self.line.count_from_now()
-        await self.until(lambda: ways._at_work is None, "its end")
-        self.assertEqual(ways.statements, ())
-        ways.deadline = PATIENCE
+        await self.until(lambda: not session.is_connecting, "its end")
+        self.assertEqual(session.statements, ())
+        plane.deadline = PATIENCE
         client = await self.hot()  # over the next one
         await self.commit_quickly(client)
 
@@ -879,10 +926,9 @@ class Confirming(Hot):
         self.execute("CREATE TABLE IF NOT EXISTS reached (flushed bigint, standby bigint)")
         self.execute("TRUNCATE reached")
         self.execute("INSERT INTO reached VALUES (100, 100)")
-        values = {**quick_way._VALUES, "SELECT flushed, standby FROM reached": []}
+        values = {**quick_plane.VALUES, "SELECT flushed, standby FROM reached": []}
         del values[statements.REACHED]
-        self.enterContext(patch.object(quick_way, "_VALUES", values))
-        self.ways.confirms = True
+        self.plane.confirms, self.plane.values = True, values
 
     async def kept(self, client: Client) -> int:
         """A commit that the archive has, and a standby has not."""
@@ -913,7 +959,7 @@ class Confirmed(Confirming):
         self.assertEqual(self.ends, [End.DOUBT])
 
     async def test_one_that_does_not_come_up_in_time_is_in_doubt(self) -> None:
-        self.ways.deadline = 0.5
+        self.plane.deadline = 0.5
         client = await self.hot()
         position = await self.kept(client)
         self.assertEqual(await client.answer(), self.durable(position))
@@ -983,8 +1029,8 @@ class Services(Hot):
         frame = self.served._puller.frame(self.served._reader.epoch)
         pulling_line = Served.pulling_line
 
-        async def line(served: Served) -> tuple[int, bytes]:
-            return (theirs.detach(), frame) if theirs.fileno() >= 0 else await pulling_line(served)
+        async def line(served: Served) -> tuple[int, bytes, bytes]:
+            return (theirs.detach(), frame, b"") if theirs.fileno() >= 0 else await pulling_line(served)
 
         def serve() -> None:
             with ours, suppress(OSError):
@@ -1043,8 +1089,8 @@ class Services(Hot):
         theirs.setblocking(False)
         frame = self.served._puller.frame(self.served._reader.epoch)
 
-        async def line(_: Served) -> tuple[int, bytes]:
-            return theirs.detach(), frame
+        async def line(_: Served) -> tuple[int, bytes, bytes]:
+            return theirs.detach(), frame, b""
 
         def serve() -> None:
             with ours, suppress(OSError):
@@ -1111,6 +1157,95 @@ class Services(Hot):
         self.assert_whole()
 
 
+class Trails(Hot):
+    """Its audit list is kept: with each batch the lines that speak of its blocks, in one statement."""
+
+    section = {"trail": 7}
+
+    async def asyncSetUp(self) -> None:
+        self.pieces = 0
+        await super().asyncSetUp()
+
+    async def trail(self) -> list[Entry]:
+        """All lines that are kept, whose digests were compared, are those of the service."""
+
+        def read() -> list[Entry]:
+            with Trail(self.url, "shop") as trail:
+                [one] = trail.lists()
+                self.assertEqual((one.of, one.ended), (f"{self.database.row.identity}/r1", None))
+                pieces = list(trail.pieces(one, 1))
+            self.pieces = len(pieces)
+            self.assertEqual((pieces[0].first, sum(piece.count for piece in pieces)), (1, one.kept))
+            return [entry for piece in pieces for entry in entries_of(piece)]
+
+        found, theirs = await asyncio.to_thread(read), list[Entry]()
+        while len(theirs) < len(found):
+            theirs += await asyncio.to_thread(self.served._operator.audit, len(theirs) + 1)
+        self.assertEqual(found, theirs[: len(found)])
+        return found
+
+    async def assert_with_lines(self, position: int) -> None:
+        """The block up to there was hardened by a line that is kept."""
+        found = await self.trail()
+        self.assertGreaterEqual(max(entry.a for entry in found if entry.operation is Operation.REPORT), position)
+
+    async def test_lines_are_kept_with_their_blocks_and_gone_on_with_by_the_keepers_path(self) -> None:
+        client = await self.hot()
+        for count in (1, 3, 20, 300):
+            await self.assert_with_lines(await self.commit_quickly(client, count))
+        for _ in range(2):
+            before = self.pieces
+            self.archiver._end_way()
+            await self.until(lambda: not self.is_hot, "its end")
+            await self.assert_with_lines(await self.commit(client))
+            await self.hot(client)
+            await self.assert_with_lines(await self.commit_quickly(client))
+            self.assertGreater(self.pieces, before)
+        self.assertEqual(set(self.ends), {End.STOPPED})
+        self.assert_whole()
+
+    def asked(self, count: int) -> None:
+        """So many more lines."""
+        for _ in range(count // 500):
+            self.served._operator._ask_all([Status()] * 500)
+
+    async def test_more_lines_than_one_reply_has_and_more_than_are_asked_for(self) -> None:
+        client = await self.hot()
+        await asyncio.to_thread(self.asked, 1500)
+        await self.assert_with_lines(await self.commit_quickly(client))
+        await asyncio.to_thread(self.asked, 9000)
+        await self.commit(client)  # which waits for no thread that keeps them
+        self.assertEqual(self.ends, [End.LINES])
+        await self.hot(client)
+        await self.assert_with_lines(await self.commit_quickly(client))
+
+    async def test_lines_in_doubt_are_asked_of_the_trail(self) -> None:
+        client = await self.hot()
+        trigger = Trigger(self.url, "pagelog_log", "UPDATE ON pagelog_log FOR EACH ROW", "RAISE WARNING 'cancelled'")
+        position = self.write()
+        client.send(self.durable(position))
+        await self.until(lambda: End.DOUBT in self.ends, "its end")
+        trigger.close()
+        self.assertEqual(await client.answer(), self.durable(position))
+        await self.assert_with_lines(position)
+        await self.hot(client)
+        await self.assert_with_lines(await self.commit_quickly(client))
+
+    async def test_once_a_day_it_is_given_back_to_be_pruned(self) -> None:
+        client = await self.hot()
+        recorder = self.archiver.recorder
+        assert recorder is not None
+        recorder.look(1 << 40)
+        self.assertFalse(recorder._due.is_set())
+        await self.commit_quickly(client)
+        recorder._pruned -= 1
+        recorder.look(1 << 40)
+        await self.until(lambda: self.ends == [End.STOPPED], "its end")
+        await self.until(lambda: recorder._pruned == now() // DAY, "its day")
+        await self.hot(client)
+        await self.commit_quickly(client)
+
+
 class Ends(Hot):
     MANY = 20
     """A connection or a thread that the keeper makes where it first needs it is no leak: one with each of so many is."""
@@ -1145,7 +1280,7 @@ class Ends(Hot):
 
     async def test_one_that_cannot_begin_leaves_nothing(self) -> None:
         client = await self.hot()
-        for refused in (patch("os.pipe2", side_effect=OSError(24, "too many")), patch.object(self.way._library, "way_new", return_value=None),
+        for refused in (patch.object(self.way._library, "way_new", return_value=None),
                         patch.object(Served, "pulling_line", side_effect=OSError(111, "refused"))):  # fmt: skip
             before = self.open()
             with refused as call:
@@ -1167,25 +1302,8 @@ class Ends(Hot):
         finally:
             await asyncio.to_thread(gate.open)
         self.assertEqual(await client.answer(), "")
-        self.assertIsNone(self.ways._at_work)
-
-    async def test_another_database_has_another_meanwhile_and_none_where_all_are_taken(self) -> None:
-        await self.hot()
-        pool, taken = self.shared.ways, list[QuickWay]()
-        assert pool is not None
-        self.assertIsNone(await self.ways.way_of(self.database.row, self.served, Mock()))
-        while len(taken) < MOST - 1:
-            if (way := await pool.way_of(self.database.row, self.served, Mock())) is not None:
-                taken.append(way)
-            self.assertLessEqual(sum(each.is_connecting for each in pool.ways), 1)
-            await asyncio.sleep(0.001)
-        self.assertTrue(all(each.is_taken for each in pool.ways))
-        self.assertIsNone(await pool.way_of(self.database.row, self.served, Mock()))
-        for way in taken:
-            way.stop()
-            self.assertEqual(await way.run(), End.STOPPED)
-        await self.until(lambda: sum(each.is_taken for each in pool.ways) == 1, "the rest")
-
+        assert self.plane._running is not None
+        self.assertTrue(self.plane._running.done())
 
 class Without(Hot):
     """Where there is no quick way all goes on by the other path."""
@@ -1194,7 +1312,7 @@ class Without(Hot):
 
     async def goes_on(self) -> None:
         client = self.client()
-        with patch.object(QuickPool, "way_of", side_effect=AssertionError("a quick way")) if self.shared.ways is None else suppress():
+        with patch.object(QuickPlane, "way_of", side_effect=AssertionError("a quick way")) if self.shared.ways is None else suppress():
             for _ in range(8):
                 await self.commit(client)
                 client.send(f"ring shop {self.served.generation}")
@@ -1204,16 +1322,16 @@ class Without(Hot):
 
     async def test_it_was_not_built(self) -> None:
         with patch("importlib.util.find_spec", return_value=None):
-            self.shared.ways = QuickPool(lambda: QuickWays(QuickReferee(self.url, "one", "life of one"), idle=PATIENCE, deadline=PATIENCE))
+            self.shared.ways = QuickPlane(lambda: QuickReferee(self.url, "one", "life of one"), idle=PATIENCE, deadline=PATIENCE)
         self.assertFalse(self.shared.ways.is_there)
         self.archiver._ways = self.shared.ways
         await self.goes_on()
 
     async def test_it_has_another_libpq(self) -> None:
-        with patch.object(quick_way.pq, "version", return_value=1):
-            self.assertIsNone(quick_way._library())
-        with patch.object(quick_way.pq, "__impl__", "binary"):
-            self.assertIsNone(quick_way._library())
+        with patch.object(quick_calls.pq, "version", return_value=1):
+            self.assertIsNone(quick_calls.library())
+        with patch.object(quick_calls.pq, "__impl__", "binary"):
+            self.assertIsNone(quick_calls.library())
 
     async def test_a_recorder_keeps_lines_with_the_blocks(self) -> None:
         self.archiver.recorder = Mock(is_ready=False, first_try=self._nothing)
@@ -1228,8 +1346,8 @@ class Without(Hot):
             with patch("pagelog.keeper.keeping.Folder"):
                 made = Keeper(Settings.of("one", "127.0.0.1:0", "127.0.0.1", Path("."), PROGRAM, self.url, section))
             ways = made._shared.ways
-            found = None if ways is None else {each.confirms for each in ways.ways}
-            self.assertEqual(found, None if "trail" in section else {"require_standby" in section})
+            assert ways is not None
+            self.assertEqual((ways.confirms, len(ways.values)), ("require_standby" in section, 4 if "trail" in section else 3))
 
 
 @unittest.skipUnless(IS_BUILT, "the quick way is not built")
@@ -1315,4 +1433,4 @@ def load_tests(loader: unittest.TestLoader, *_: object) -> unittest.TestSuite:
 
 
 def _cases() -> Iterator[type[unittest.TestCase]]:
-    yield from (Tells, Shifted, Lines, Statements, Fences, Cut, Stalled, Confirmed, CutAsItIsConfirmed, Services, Ends, Without, Moves)
+    yield from (Tells, Shifted, Lines, Statements, Fences, Cut, Stalled, Confirmed, CutAsItIsConfirmed, Services, Trails, Ends, Without, Moves)

@@ -51,7 +51,7 @@ class Referees(unittest.TestCase):
 
 class Fences(Referees):
     def kept_by_both(self, batch: Batch) -> frozenset[int]:
-        """What is kept of it by the statement of one batch, and then by that of many, with one of no database."""
+        """What is kept of it by itself, and then beside one of no database."""
         return self.referee.keep([batch]) | self.referee.keep([batch, replace(batch, log=98)])
 
     def test_a_batch_is_kept_under_run_generation_and_archived_position(self) -> None:
@@ -66,6 +66,15 @@ class Fences(Referees):
         seen = self.seen()
         self.assertEqual((seen.archived, seen.chain, self.everything()), (3, batch.chain, list(batch.blocks)))
         self.assertEqual(seen.chain, digest(b"", blocks(1, 3)))
+
+    def test_it_is_known_whether_it_has_what_a_look_has_shown(self) -> None:
+        kept = self.taken()
+        self.referee.keep([batch_of(self.row, kept, "r1")])
+        shown = self.seen()
+        self.assertFalse(self.referee.lacks(shown))
+        self.assertFalse(self.referee.lacks(replace(shown, archived=1, chain=b"of 1")))  # it has gone on since
+        for other in (replace(shown, archived=4), replace(shown, chain=b"other"), replace(shown, identity="0" * 32), replace(shown, id=99)):
+            self.assertTrue(self.referee.lacks(other))
 
     def test_after_a_take_the_old_run_keeps_nothing(self) -> None:
         kept = self.taken()
@@ -82,7 +91,7 @@ class Fences(Referees):
         # The fence taken out, so that the test above is known to see it. The generation is that of a take that was lost.
         kept = self.taken()
         self.taken("r2", self.new("two"))
-        for name, run in (("KEEP_ONE", "run = %(run)s AND generation = %(generation)s AND"), ("KEEP", "l.run = due.run AND l.generation = due.generation AND")):
+        for name, run in (("KEEP", "l.run = due.run AND l.generation = due.generation AND"),):
             whole = getattr(statements, name)
             planted = whole.replace(run, "")
             self.assertNotEqual(planted, whole)

@@ -6,6 +6,7 @@ import asyncio
 import errno
 import itertools
 import json
+import mmap
 import os
 import signal
 import socket
@@ -26,9 +27,11 @@ from pagelog import (
 )  # fmt: skip
 from pagelog.keeper.archiver import Archiver
 from pagelog.keeper.committer import Committer
+from pagelog.keeper.acknowledged import new_memory
+from pagelog.keeper.definition import Definition, Seal
 from pagelog.keeper.loading import Loader
 from pagelog.keeper.referee import Away, BrokenArchive, digest
-from pagelog.keeper.rows import Row
+from pagelog.keeper.rows import Row, TableOf
 from pagelog.keeper import run as run_module
 from pagelog.keeper.run import NotStarted, Program, Run, Seen, _facts_of, is_there, new_run, orphans_of
 from pagelog.keeper.served import Served
@@ -113,7 +116,11 @@ class Runs(unittest.TestCase):
 
     def test_a_service_inherits_no_secret_of_its_keeper(self) -> None:
         with patch.dict(os.environ, PAGELOG_ARCHIVE_URL="postgresql://keeper:secret@/", PGPASSWORD="secret", PAGELOG_OPERATOR_TOKEN=token(1)):
-            run = self.start()
+            with (self.folder / "keeper.toml").open("w") as _, socket.socket():
+                run = self.start()
+        opened = {os.readlink(each).partition(" ")[0] for each in Path(f"/proc/{run.facts.pid}/fd").iterdir()}
+        files = {each for each in opened if each.startswith("/") and not each.startswith("/dev/")}
+        self.assertEqual(files, {f"{self.folder}/shop.{run.name}.said", "/memfd:pagelog-acknowledged"})
         inherited = Path(f"/proc/{run.facts.pid}/environ").read_bytes()
         self.assertEqual({pair.partition(b"=")[0] for pair in filter(None, inherited.split(b"\0"))} - {b"PATH", b"LANG", b"TZ"}, set())
         self.assertIn(b"PATH=", inherited)
@@ -276,6 +283,49 @@ class Runs(unittest.TestCase):
         adopted.end()
         run.leave()
         self.assertEqual(run.acknowledged.position, 7)
+
+    def test_its_process_remembers_its_database_and_the_newest_table(self) -> None:
+        served = Served("shop", "r", WIDE_TABLE, SECRET, timeout=PATIENCE)
+        served.identity, served.ancestor = "i", "ship"
+        served.start(self.program)
+        self.addCleanup(served.end)
+        adopted = Run.adopt(self.folder, "shop", "r")
+        assert adopted is not None and served.acknowledged is not None
+        self.addCleanup(adopted.leave)
+        served.reached = 7
+        for text in (WIDE_TABLE, *(f"# {number}\n{WIDE_TABLE}" for number in range(2, 5))):
+            self.assertEqual(adopted.definition, Definition("i", text, SECRET, "ship"))
+            served.renew(TableOf(f"# {served.table_number + 1}\n{WIDE_TABLE}", SECRET, served.table_number + 1))
+        # One that was broken off leaves the one before.
+        whole = adopted.definition
+        with patch("os.pwrite", lambda memory, data, place: os.pwritev(memory, [data[:9]], place)):
+            served.renew(TableOf(f"# of more bytes\n{WIDE_TABLE}", SECRET, 9))
+        self.assertEqual((adopted.definition, adopted.seen.archived), (whole, 7))
+
+    def test_what_it_remembers_is_sealed_for_its_run_by_its_keepers_folder(self) -> None:
+        memory, other = new_memory(), new_memory()
+        for each in (memory, other):
+            self.addCleanup(os.close, each)
+        (self.folder / "memory.key").touch()  # as a machine has left it that died
+        self.assertIsNone(Seal.found(self.folder, "r"))
+        seal, made = Seal.made(self.folder, "r"), Definition("i", WIDE_TABLE, SECRET)
+        self.assertEqual(os.stat(self.folder / "memory.key").st_mode & 0o777, 0o600)
+        made.note(memory, seal)
+        made.note(other, seal)
+        there = os.pread(memory, 1 << 25, 0)
+        self.assertEqual([each for each in (SECRET, SECRET.hex().encode(), token(2).encode(), bytes.fromhex(token(2))) if each in there], [])
+        self.assertFalse(there == os.pread(other, 1 << 25, 0))  # of 16 MiB
+        self.assertEqual(Definition.noted(memory, Seal.made(self.folder, "r")), made)
+        self.assertIsNone(Definition.noted(memory, Seal.made(self.folder, "another")))
+        with tempfile.TemporaryDirectory() as folder:
+            self.assertIsNone(Definition.noted(memory, Seal.made(Path(folder), "r")))
+        first = mmap.PAGESIZE + (1 << 24)
+        for at in (7, 12, 12 + 12, len(there) - first - 1):  # its number, its nonce, what is hidden, its tag
+            os.pwrite(other, there, 0)
+            os.pwrite(other, bytes([there[first + at] ^ 2]), first + at)
+            self.assertIsNone(Definition.noted(other, seal), at)
+        os.pwrite(other, there, 0)
+        self.assertEqual(Definition.noted(other, seal), made)
 
     def test_an_adoption_reads_its_own_note_alone_and_opens_no_other_process(self) -> None:
         run = self.start()

@@ -294,9 +294,13 @@ class Played:
         return self.acknowledged - self.pages("shop")
 
     def is_kept(self) -> None:
-        """The service of a database that PostgreSQL does not have is not ended, and its keeper says of it."""
+        """The service of a database that PostgreSQL does not have is not ended, its keeper says of it, and `rescue` saves all of it."""
         eventually(lambda: self.run in [each["run"] for each in self.asides()], "a word of what was set aside")
         os.kill(self.pid, 0)
+        [keeper] = {each["keeper"] for each in self.asides() if each["run"] == self.run}
+        self.keeping.word("rescue", "shop", "--run", self.run, "--folder", self.keeping.folder / keeper, "--as", "last")
+        eventually(lambda: self.is_known("last"), "what was saved")
+        assert self.acknowledged - {AFTER} <= self.pages("last"), "acknowledged, and not saved"
 
     def asides(self) -> list[dict[str, str]]:
         lines = map(json.loads, self.keeping.word("kept", "--json").splitlines())
@@ -326,7 +330,8 @@ class Cases(unittest.TestCase):
                     played.goes_on()
                 if not case.has_last:
                     played.is_kept()
-                    played.acknowledged = _WITH_FIRST.get((case.statement, case.is_behind), set())
+                    played.acknowledged &= {AFTER}
+                    played.acknowledged |= _WITH_FIRST.get((case.statement, case.is_behind), set())
                 if case.has_name and (lost := played.lost()):
                     self.assertEqual(lost - played.rescued(), set(), "acknowledged, and neither there nor saved")
                 self.assertNotIn("fault of the keeper", keeping.said())

@@ -119,7 +119,7 @@ class TwoKeepers(Two):
             self.assertEqual(self.keeping.processes[first].wait(), 0)
             self.keeping.place(least=before.generation + 1)
             self.assertEqual(self.keeping.row().base, 31)
-            self.assertEqual({file.name for file in (self.keeping.folder / first).iterdir()}, {"lives", "numbers"})
+            self.assertEqual({file.name for file in (self.keeping.folder / first).iterdir()}, {"lives", "memory.key", "numbers"})
             self.assertEqual(self.commit(primary, "32", durable=True), 32)
             self.assertEqual(self.texts(), [b"%d" % number for number in range(1, 33)])
 

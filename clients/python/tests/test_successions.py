@@ -279,6 +279,23 @@ class OneKeeper(Succeeding):
                 print(f"where shop {before.generation + 9}", file=text, flush=True)  # nobody is about to publish that
                 self.assertEqual(text.readline().split()[2], str(before.generation + 1))
 
+    def test_its_blocks_come_from_the_present_service_and_not_from_postgresql(self) -> None:
+        with self.keeping.primary() as primary:
+            self.commit(primary, "1", durable=True)
+            self.succeed()  # behind which there is a base
+            for number in range(2, 9):
+                self.commit(primary, f"{number}", durable=True)
+            before, row = self.keeping.place(), self.keeping.row()
+            with psycopg.connect(self.keeping.url) as session:
+                block = session.execute("DELETE FROM pagelog_block WHERE log = %s AND lsn = 5 RETURNING log, lsn, crc, data", (row.id,)).fetchone()
+            self.keeping.word("succeed", "shop")
+            eventually(lambda: self.keeping.place().generation > before.generation or "was given up" in self.keeping.said(), "an end of it")
+            self.assertGreater(self.keeping.place().generation, before.generation)
+            self.commit(primary, "9", durable=True)
+            with psycopg.connect(self.keeping.url) as session:
+                session.execute("INSERT INTO pagelog_block (log, lsn, crc, data) VALUES (%s, %s, %s, %s)", block)
+        self.assertEqual(self.texts(), [f"{number}".encode() for number in range(1, 10)])
+
     def test_a_look_that_began_before_a_switch_does_not_undo_it(self) -> None:
         with self.keeping.primary() as primary:
             self.commit(primary, "1", durable=True)
@@ -317,11 +334,11 @@ class OneKeeper(Succeeding):
 class Looked(Writer):
     """Before its list is half full it goes on with looks of the keeper alone, so that it never fills the list between two of them."""
 
-    FREE = 1500
-    """So many commits fill less than half of it."""
+    FREE, AT_ONCE = 375, 12
+    """So many commits fill less than half of it, and so many are made between two looks then."""
 
     def _may_go_on(self) -> None:
-        if len(self.texts) > self.FREE and len(self.texts) % 50 == 0:
+        if len(self.texts) > self.FREE and len(self.texts) % self.AT_ONCE == 0:
             beat = self._beat()
             eventually(lambda: self._beat() > beat or self._stops.is_set(), "a look of the keeper")
 
@@ -332,7 +349,7 @@ class Looked(Writer):
 
 
 class Thresholds(Succeeding):
-    options = {"audit": 16000, "ttl": 0.8}
+    options = {"audit": 4000, "ttl": 0.8}
 
     def test_at_half_of_the_list_the_next_generation_is_made(self) -> None:
         with Looked(self.keeping) as writer:

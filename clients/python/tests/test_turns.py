@@ -4,9 +4,11 @@ from __future__ import annotations
 
 import unittest
 from typing import Any, Callable
+from unittest import mock
 
-from keepers import Kept
-from pagelog.keeper.turns import BEATS, EARLY, GRACE, MANY, TTL, AllTurns, Turns
+from keepers import Kept, eventually
+from pagelog.keeper.keeping import Keeper
+from pagelog.keeper.turns import BEATS, EARLY, GRACE, LATELY, MANY, SLICE, TTL, AllTurns, Turns
 
 
 class Heard:
@@ -91,6 +93,21 @@ class Rules(unittest.TestCase):
             self.assertEqual(who.last(), f"turn shop {told}")
             self.back(who)
 
+    def test_the_next_one_is_told_the_epoch_that_was_written_in(self) -> None:
+        """By who had the turn; who had it before knows."""
+        self.ask(self.a)
+        self.ask(self.b)
+        self.turns.back(self.b, 5)  # type: ignore[arg-type]  # it waited, and has written in none
+        self.ask(self.b)
+        self.turns.back(self.a, 7)  # type: ignore[arg-type]
+        self.assertEqual(self.b.lines, ["turn shop other epoch=7"])
+        self.back(self.b)  # in none
+        self.ask(self.b)
+        self.assertEqual(self.b.last(), "turn shop same")
+        self.ask(self.c)
+        self.turns.back(self.b, 8)  # type: ignore[arg-type]
+        self.assertEqual(self.c.lines, ["turn shop other epoch=8"])
+
     def hold(self, who: Heard) -> None:
         self.turns.hold(who)  # type: ignore[arg-type]
 
@@ -166,6 +183,48 @@ class Rules(unittest.TestCase):
             self.keep(heartbeat=True)
         else:
             self.ask(self.a, heartbeat=True)
+
+    def slice(self, who: Heard) -> None:
+        """It asks, as one that writes one transaction after the other."""
+        self.turns.ask(who, now=False, heartbeat=True, slices=True)  # type: ignore[arg-type]
+
+    def test_who_writes_one_transaction_after_the_other_has_a_slice(self) -> None:
+        """Nobody wants it back while it runs. Then it is wanted, though nobody waits: who has it may be idle."""
+        for others_wait in (True, False):
+            self.setUp()
+            self.slice(self.a)
+            self.assertEqual((self.a.lines, [each for each, _ in self.clock.open]), (["turn shop other kept slice=10"], [SLICE]))
+            if others_wait:
+                self.slice(self.b)
+                self.ask(self.c, now=True, heartbeat=True)
+                self.assertEqual((len(self.a.lines), self.b.lines, self.c.lines), (1, [], ["soon shop"]))
+            self.clock.end()
+            self.assertEqual((self.a.last(), len(self.clock.open)), ("wanted shop", others_wait))
+            self.back(self.a)
+            self.assertEqual(self.b.lines, ["turn shop other kept slice=10"] if others_wait else [])
+
+    def test_a_slice_that_is_given_back_is_over(self) -> None:
+        self.slice(self.a)
+        self.slice(self.b)
+        self.back(self.a)
+        [(seconds, _)] = self.clock.open
+        self.assertEqual((self.b.last(), seconds), ("turn shop other kept slice=10", SLICE))
+        self.turns.gone(self.b)  # type: ignore[arg-type]
+        self.assertEqual((self.b.last(), self.clock.open), ("turn shop other kept slice=10", []))
+
+    def test_who_has_a_slice_and_stands_still_loses_the_turn(self) -> None:
+        self.slice(self.a)
+        self.slice(self.b)
+        self.clock.end()
+        self.wait_for(BEATS)
+        self.assertEqual(self.b.last(), "turn shop other kept slice=10")
+
+    def test_who_has_no_heartbeat_or_has_written_last_has_no_slice(self) -> None:
+        self.turns.ask(self.a, now=False, slices=True)  # type: ignore[arg-type]
+        self.assertEqual(self.a.last(), "turn shop other")
+        self.back(self.a)
+        self.slice(self.a)
+        self.assertEqual((self.a.last(), self.clock.open), ("turn shop same", []))
 
     def test_a_turn_is_not_taken_from_a_transaction_that_runs(self) -> None:
         """However long that takes: it is asked for a heartbeat, and has one."""
@@ -259,13 +318,57 @@ class Rules(unittest.TestCase):
         """Who had none in the generation before has none to go on with. Where that is not known, or a generation lies between, it is early."""
         every = AllTurns(self.clock)  # type: ignore[arg-type]
         every.changed("shop", 1)
-        for generation in (2, 3):
-            every.take(self.a, ["turn", "shop", "now"], generation)  # type: ignore[arg-type]
-            self.assertEqual((self.a.lines.pop(), self.clock.open), ("turn shop other", []))
-            every.take(self.a, ["back", "shop"], generation)  # type: ignore[arg-type]
-        for generation in (5, 6):  # 4 was another's; in 5 it is still early
-            every.changed("shop", generation)
-            self.assertEqual([each for each, _ in self.clock.open], [EARLY] * (generation - 4))
+        with mock.patch("pagelog.keeper.turns.time.monotonic") as now:
+            now.return_value = 100.0
+            for generation in (2, 3):
+                every.take(self.a, ["turn", "shop", "now"], generation)  # type: ignore[arg-type]
+                self.assertEqual((self.a.lines.pop(), self.clock.open), ("turn shop other", []))
+                every.take(self.a, ["back", "shop"], generation)  # type: ignore[arg-type]
+                now.return_value += LATELY * TTL
+            for generation in (5, 6):  # 4 was another's; in 5 it is still early
+                every.changed("shop", generation)
+                self.assertEqual([each for each, _ in self.clock.open], [EARLY] * (generation - 4))
+
+    def test_a_turn_that_was_given_back_lately_may_be_waited_for(self) -> None:
+        """A commit that it was for may not be durable: who waits for that brings it over, and nobody is before it."""
+        every = AllTurns(self.clock)  # type: ignore[arg-type]
+        with mock.patch("pagelog.keeper.turns.time.monotonic") as now:
+            now.return_value = 100.0
+            every.take(self.a, ["turn", "shop"], 1)  # type: ignore[arg-type]
+            every.take(self.a, ["back", "shop"], 1)  # type: ignore[arg-type]
+            now.return_value += LATELY * TTL - 0.01
+            every.take(self.b, ["turn", "shop", "now"], 2)  # type: ignore[arg-type]
+            self.assertEqual((self.b.lines, [each for each, _ in self.clock.open]), ([], [EARLY]))
+            self.clock.end()
+            self.assertEqual(self.b.lines, ["turn shop other"])
+
+    def test_it_is_early_while_who_waits_asks_what_became_of_the_generation_before(self) -> None:
+        """But not for ever."""
+        with mock.patch("pagelog.keeper.turns.time.monotonic") as now:
+            now.return_value = 100.0
+            every = AllTurns(self.clock)  # type: ignore[arg-type]
+            every.take(self.a, ["turn", "shop"], 2)  # type: ignore[arg-type]
+            for _ in range(3):
+                [first] = self.clock.open
+                now.return_value += 0.9
+                every.expect("shop", 2)
+                [again] = self.clock.open
+                self.assertIsNot(first, again)
+            now.return_value += 0.9
+            every.expect("shop", 2)
+            self.assertEqual(([each is again for each in self.clock.open], self.a.lines), ([True], []))
+            self.clock.end()
+            every.expect("shop", 2)
+            self.assertEqual((self.clock.open, self.a.lines), ([], ["turn shop other"]))
+
+    def test_a_question_of_the_generation_before_is_such_a_one(self) -> None:
+        """Of one who has proved a token."""
+        for generation, may, expected in (1, True, [mock.call("shop", 2)]), (1, False, []), (2, True, []):
+            keeper, of = mock.Mock(), mock.Mock()
+            keeper._named.return_value.row.identity = of.database
+            keeper._held.return_value, keeper._may.return_value = 2, may
+            Keeper.durable(keeper, mock.Mock(), "shop", generation, 7, of)
+            self.assertEqual(keeper._turns.expect.mock_calls, expected)
 
     def test_who_asks_for_now_while_it_is_early_is_told_at_its_end(self) -> None:
         for is_alone in (True, False):
@@ -319,18 +422,40 @@ class Lines(Kept):
             self.assertEqual(second.readline().strip(), "turn shop other")
 
 
+    def test_an_epoch_is_told_to_who_knows_keys(self) -> None:
+        self.keeping.place()
+        for greeting, told in ("hello 2\n", "turn shop other epoch=7"), ("", "turn shop other"):
+            with self.keeping.line() as second, self.keeping.line() as first:
+                for line, words, answers in (first, "turn shop\n", 1), (second, greeting + "turn shop\nnothing\n", 1 + bool(greeting)):
+                    line.write(words)
+                    line.flush()
+                    for _ in range(answers):
+                        line.readline()
+                first.write("back shop epoch=7 color=red\n")
+                first.flush()
+                self.assertEqual(second.readline().strip(), told)
+
+
 class Generations(Kept):
     keepers = "a"
     options: dict[str, object] = {"standby": False}
 
     def told(self, generation: int) -> str:
-        """What is told who asks for the turn at once, in this generation, or in the first later one that does not end before."""
-        generation = self.keeping.place(least=generation).generation
-        with self.keeping.line() as line:
-            line.write("turn shop now\n")
-            line.flush()
-            said = str(line.readline().strip())
-        return self.told(generation + 1) if said == "elsewhere shop" else said
+        """What is told who asks for the turn at once, in this generation or a later one. Where PostgreSQL has shown that it has begun, its
+        keeper may not know yet that it is here."""
+        said = ""
+
+        def is_told() -> bool:
+            nonlocal said
+            self.keeping.place(least=generation)
+            with self.keeping.line() as line:
+                line.write("turn shop now\n")
+                line.flush()
+                said = line.readline().strip()
+            return said != "elsewhere shop"
+
+        eventually(is_told, "a turn")
+        return said
 
     def test_the_first_one_of_a_generation_who_is_alone_has_the_turn(self) -> None:
         """Who asks for it at once, as SQLite without a busy timeout, and in each generation anew."""

@@ -199,7 +199,7 @@ class Listed(Words):
     def test_kept_has_more_where_it_is_asked_for(self) -> None:
         place = self.keeping.place()
         head, row, *_ = self.ran("kept", "--wide")[1].splitlines()
-        self.assertEqual(re.split("  +", head)[6:-1], ["place", "oldest", "base", "standbys", "entries left", "memory left"])
+        self.assertEqual(re.split("  +", head)[6:-1], ["place", "oldest", "base", "stored", "standbys", "pages", "entries left", "memory left"])
         self.assertIn(f" {place.address} ", row)
 
 

@@ -23,16 +23,22 @@ sys.path[:0] = [str(HERE), str(HERE.parent / "src")]
 
 import psycopg  # noqa: E402
 
+from by_tls import VARIABLE, trust  # noqa: E402
 from keepers import Keeping, eventually  # noqa: E402
 from long_runs import STOP, LongRun, is_client, text_of, texts_of  # noqa: E402
 from pagelog import Block, Group, Lost, NamedPrimary, PagelogError, Primary, Put, Reader, Unwritten  # noqa: E402
 from pagelog.keeper.rows import Row  # noqa: E402
+from pagelog.keeper.run import fronts_of  # noqa: E402
+from pagelog.place import Keepers  # noqa: E402
 from replicated import Pair  # noqa: E402
+from secured import Secured  # noqa: E402
 from service import PATIENCE, token  # noqa: E402
+from torture_copies import Copies, look
+from torture_secrets import Secrets
 
 TTL = 2.0
 NAME = "shop"
-REQUIRE = "--require-standby"
+REQUIRE, BY_TLS = "--require-standby", "--tls"
 THREADS = 6
 PIDFD_GETFD = 438
 """The number of this call of Linux, which Python does not have."""
@@ -50,7 +56,8 @@ def write(folder: Path, who: str, addresses: list[str], seed: float) -> None:
         books.write(json.dumps({"what": what, **facts}) + "\n")
 
     def new() -> object:
-        return Primary.named(NAME, keepers=addresses, principal=id, token=token(id), operator=(1, token(1)), patience=20.0, timeout=TTL)
+        return Primary.named(NAME, keepers=addresses, principal=id, token=token(id), operator=(1, token(1)), patience=20.0, timeout=TTL,
+                             trust=trust())  # fmt: skip
 
     primary = new()
     while not (stops := (folder / STOP).exists()) or open_commits:
@@ -102,7 +109,7 @@ class Sharing:
 
     def _share(self) -> None:
         with Primary.named(NAME, keepers=self._addresses, principal=self._id, token=token(self._id), operator=(1, token(1)), patience=5.0,
-                           timeout=TTL) as primary:  # fmt: skip
+                           timeout=TTL, trust=trust()) as primary:  # fmt: skip
             group, self._begun = Group(primary), []
             threads = [threading.Thread(target=self._commit, args=(primary, group, thread)) for thread in range(THREADS)]
             for thread in threads:
@@ -144,7 +151,7 @@ def read(folder: Path, who: str, addresses: list[str], _: float) -> None:
     """Follows what is durable, and notes each block."""
     id = int(who)
     books = (folder / f"reader{id}").open("a", buffering=1)
-    reader = Reader.named(NAME, keepers=addresses, principal=id, token=token(id), durable_only=True, patience=60.0, timeout=TTL)
+    reader = Reader.named(NAME, keepers=addresses, principal=id, token=token(id), durable_only=True, patience=60.0, timeout=TTL, trust=trust())
     position = 1
     while not (folder / STOP).exists():
         try:
@@ -192,19 +199,37 @@ def shut(line: socket.socket) -> bool:
         return False
 
 
+class SecureAlone(Secured):
+    """Keepers that nobody reaches but by TLS."""
+
+    def __init__(self, **options: object) -> None:
+        super().__init__(also="plain = false", **options)
+        os.environ[VARIABLE] = str(self.certificates.ca)  # of clients
+
+    @property
+    def addresses(self) -> list[str]:
+        return self.secure_addresses
+
+    def keepers(self, name: str = NAME) -> Keepers:
+        return Keepers(name, self.addresses, PATIENCE, trust())
+
+
 class Torture(LongRun):
-    def __init__(self, seconds: float, seed: int, *, requires_standby: bool) -> None:
+    def __init__(self, seconds: float, seed: int, *, requires_standby: bool, by_tls: bool) -> None:
         self.seconds, self.chance = seconds, random.Random(seed)
         self.pair = Pair()
-        more = "require_standby = true\n" if requires_standby else ""
-        super().__init__(__file__, Keeping(ttl=TTL, url=self.pair.url, more=more))
+        more = "unproved = false\n" + "require_standby = true\n" * requires_standby
+        super().__init__(__file__, (SecureAlone if by_tls else Keeping)(ttl=TTL, url=self.pair.url, more=more))
         self.done: Counter[str] = Counter()
         self.is_first_round, self.shut = True, 0
         self.deeds: list[tuple[int, Callable[[], None]]] = [
             (4, self.kill_service), (2, self.stop_service), (3, self.kill_keeper), (1, self.kill_keeper_for_long),
             (2, self.stop_keeper), (1, self.stop_machine), (2, self.switch_over), (1, self.end_keeper), (2, self.cut_lines),
-            (2, self.shut_lines), (1, self.fail_over_postgresql), (1, self.zombie_postgresql),
+            (2, self.shut_lines), (1, self.fail_over_postgresql), (1, self.zombie_postgresql), (2, self.kill_pages), (2, self.stop_pages),
         ]  # fmt: skip
+        if by_tls:
+            self.deeds += [(3, self.kill_front), (1, self.stop_front), (1, self.renew)]
+        self.copies = Copies(self.keeping, self.chance)
 
     def names(self) -> list[str]:
         return [name for name, process in self.keeping.processes.items() if process.poll() is None]
@@ -240,6 +265,25 @@ class Torture(LongRun):
         for pid in pids:
             if pid is not None:
                 self.send(pid, signal.SIGCONT)
+
+    def front(self) -> int | None:
+        """The process of the front of a keeper."""
+        fronts = fronts_of(self.keeping.folder / self.some_keeper())
+        for each in fronts:
+            os.close(each.descriptor)
+        return fronts[0].facts.pid if fronts else None
+
+    def kill_front(self) -> None:
+        if (pid := self.front()) is not None:
+            self.send(pid, signal.SIGKILL)
+
+    def stop_front(self) -> None:
+        self.hold(self.front())
+
+    def renew(self) -> None:
+        """All keepers get another certificate."""
+        assert isinstance(self.keeping, Secured)
+        self.keeping.put(self.chance.choice(["good", "renewed"]))
 
     def stop_service(self) -> None:
         self.hold(self.service())
@@ -323,14 +367,21 @@ class Torture(LongRun):
         while True:
             yield from self.chance.choices(deeds, weights)
 
+    def kill_pages(self) -> None:
+        self.copies.kill()
+
+    def stop_pages(self) -> None:
+        self.hold(*self.copies.hold())
+
     # The run.
 
     def run(self) -> int:
-        keeping = self.keeping
+        keeping, secrets = self.keeping, Secrets(self.keeping)
         keeping.word("create", NAME, "--table", keeping.table)
         keeping.start("a", "b")
         keeping.place()
-        clients = [self.client(what, id, self.chance.random()) for what, id in (("write", 2), ("share", 5), ("read", 3))]
+        self.copies.start()
+        clients = [self.client(what, id, self.chance.random()) for what, id in (("write", 2), ("share", 5), ("read", 3), ("look", 3))]
         began = time.monotonic()
         for fault in self.deeds_in_turn():
             if time.monotonic() - began > self.seconds and not self.is_first_round:
@@ -342,7 +393,7 @@ class Torture(LongRun):
         eventually(lambda: keeping.place() is not None)
         (keeping.folder / STOP).touch()
         ended = [self.ended(client, PATIENCE) for client in clients]
-        return self.report(Check(keeping).violations() + self.faults(ended))
+        return self.report(Check(keeping).violations() + self.copies.violations() + self.faults(ended) + secrets.found())
 
     def report(self, violations: list[str]) -> int:
         for violation in violations[:20]:
@@ -350,12 +401,14 @@ class Torture(LongRun):
         books = Check(self.keeping).books
         counts = Counter(line["what"] for line in books if line["what"] != "end")
         print("faults: " + ", ".join(f"{name} {count}" for name, count in self.done.most_common()) + f"; {self.shut} lines were shut")
+        print("page servers: " + ", ".join(f"{what} {count}" for what, count in self.copies.done.most_common()))
         print("told: " + ", ".join(f"{what} {count}" for what, count in counts.most_common()))
         print(f"torture: {counts['durable']} durable commits over {self.keeping.row(NAME).generation} generations, "
               f"{sum(self.done.values())} faults, {len(violations)} violations")  # fmt: skip
         return 1 if violations or not counts["durable"] else 0
 
     def stop(self) -> None:
+        self.copies.stop()
         super().stop()
         self.pair.stop()
 
@@ -400,11 +453,11 @@ class Check:
 
 
 def main(words: list[str]) -> int:
-    if is_client(words, {"write": write, "share": share, "read": read}):
+    if is_client(words, {"write": write, "share": share, "read": read, "look": look}):
         return 0
-    requires_standby = words[:1] == [REQUIRE]
-    words = words[requires_standby:]
-    return Torture(float(words[0]) if words else 120.0, int(words[1]) if len(words) > 1 else 1, requires_standby=requires_standby).whole()
+    requires_standby, by_tls = REQUIRE in words, BY_TLS in words
+    words = [word for word in words if word not in (REQUIRE, BY_TLS)]
+    return Torture(float(words[0]) if words else 120.0, int(words[1]) if len(words) > 1 else 1, requires_standby=requires_standby, by_tls=by_tls).whole()
 
 
 if __name__ == "__main__":

@@ -7,6 +7,7 @@ import time
 import uuid
 from typing import Callable
 
+from by_tls import trust
 from pagelog import AboveTheEnd, BelowBase, Group, Lost, NamedPrimary, PagelogError, Primary, Put, Reader, Unwritten
 from service import token
 from torture_notes import ENTRIES, SIZE, Job, Notes, entry, now
@@ -29,7 +30,8 @@ def puts(life: str, who: str, number: int) -> list[Put]:
 
 def life_at(job: Job) -> str:
     """The life of the database that is there now; an empty text where it has none yet."""
-    with Reader.named(job.name, keepers=job.addresses, principal=3, token=token(3), patience=PATIENCE, timeout=TIMEOUT) as reader:
+    with Reader.named(job.name, keepers=job.addresses, principal=3, token=token(3), patience=PATIENCE, timeout=TIMEOUT,
+                      trust=trust()) as reader:  # fmt: skip
         if not reader.end():
             return ""
         return reader.page(LIFE).data[:12].strip(b"\0").decode()
@@ -49,7 +51,7 @@ class Session:
         if not before and not self.who.endswith("-0"):
             return False  # the first writer of a database begins its life
         self.primary = Primary.named(self.job.name, keepers=self.job.addresses, principal=2, token=token(2), operator=(1, token(1)),
-                                     patience=PATIENCE, timeout=TIMEOUT)  # fmt: skip
+                                     patience=PATIENCE, timeout=TIMEOUT, trust=trust())  # fmt: skip
         self.life = before or uuid.uuid4().hex[:12]
         self.primary.append(Put(HELLO, 0, b"hello") if before else Put(LIFE, 0, self.life.encode()))
         self.primary.commit()
@@ -173,7 +175,7 @@ class Looker:
     def open(self) -> None:
         self.opened += 1
         self.reader = Reader.named(self.job.name, keepers=self.job.addresses, principal=3, token=token(3), durable_only=self.durable,
-                                   patience=PATIENCE, timeout=TIMEOUT)  # fmt: skip
+                                   patience=PATIENCE, timeout=TIMEOUT, trust=trust())  # fmt: skip
 
     def look(self, who: str) -> bool:
         """At all pages of a writer. Returns whether it was shown any."""

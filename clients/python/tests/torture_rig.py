@@ -19,6 +19,8 @@ import psycopg
 from click.testing import CliRunner
 
 from pagelog.desk.words import pagelogctl
+from by_tls import VARIABLE
+from pagelog.keeper.front import end_fronts
 from quick_library import build
 from replicated import Pair, Server
 from service import PATIENCE, PROGRAM, SOURCE, Port, token
@@ -155,16 +157,29 @@ class Keepers:
                              f'trail = {int(trail)}\nrequire_standby = {str(kind == "synchronous").lower()}\n')  # fmt: skip
         self.table = folder / "table.toml"
         self.table.write_text("".join(f'[[principal]]\nid = {id}\ntoken = "{token(id)}"\n' for id in (1, 2, 3)) + '[[row]]\nverdict = "allow"\n')
+        self.secure: dict[str, Port] = {}
+        """Where they are reached, where clients speak TLS."""
+        if VARIABLE in os.environ:
+            self.secure = {name: Port() for name in self.ports}
         build()
 
     @property
     def addresses(self) -> list[str]:
-        return [port.address for port in self.ports.values()]
+        return [port.address for port in (self.secure or self.ports).values()]
+
+    def file_of(self, name: str) -> Path:
+        """The credentials of a keeper, with its TLS."""
+        if not self.secure:
+            return self.file
+        file, pair = self.folder / f"{name}.toml", Path(os.environ[VARIABLE]).with_name("good.both")
+        file.touch(mode=0o600)
+        file.write_text(f'{self.file.read_text()}tls = "{pair}"\ntls_lines = "{self.secure[name].address}"\ntls_ports = 64\nplain = false\n')
+        return file
 
     def start(self, name: str, *, called: str | None = None) -> subprocess.Popen[bytes]:
         """`called`: the name of another keeper, whose file is copied."""
-        words = [sys.executable, "-B", "-m", "pagelog", "keep", "--name", called or name, "--lines", self.ports[name].address, "--serve", "127.0.0.1",
-                 "--folder", self.disk / name, "--program", PROGRAM, "--credentials", self.file]  # fmt: skip
+        words = [sys.executable, "-m", "pagelog", "keep", "--name", called or name, "--lines", self.ports[name].address, "--serve", "127.0.0.1",
+                 "--folder", self.disk / name, "--program", PROGRAM, "--credentials", self.file_of(name)]  # fmt: skip
         with (self.folder / f"{name}.log").open("a") as log:
             self.processes[name] = subprocess.Popen(list(map(str, words)), stdout=subprocess.DEVNULL, stderr=log, env=environment())
         return self.processes[name]
@@ -206,12 +221,14 @@ class Keepers:
             process.wait()
         for pid in self.services():
             send(pid, signal.SIGKILL)
-        for port in self.ports.values():
+        for folder in self.disk.glob("*"):
+            end_fronts(folder)
+        for port in (*self.ports.values(), *self.secure.values()):
             port.close()
 
 
 def environment() -> dict[str, str]:
-    return {**os.environ, "PYTHONPATH": str(SOURCE), "PYTHONPYCACHEPREFIX": tempfile.gettempdir() + "/pagelog-pycache-torture"}
+    return {**os.environ, "PYTHONPATH": str(SOURCE)}
 
 
 def send(pid: int, number: int) -> None:

@@ -35,7 +35,8 @@ class Torn(Exception):
 def build() -> None:
     LIBRARY.parent.mkdir(exist_ok=True)
     made = LIBRARY.with_suffix(f".{os.getpid()}")
-    words = ["gcc", "-std=c11", "-D_GNU_SOURCE", "-fPIC", "-O2", "-g", "-fvisibility=hidden", "-shared", "-o", made, *sorted(SOURCES.glob("pagelog*.c"))]
+    words = ["gcc", "-std=c11", "-D_GNU_SOURCE", "-fPIC", "-O2", "-g", "-fvisibility=hidden", "-shared", "-o", made, *sorted(SOURCES.glob("pagelog*.c")),
+             "-lssl", "-lcrypto"]
     subprocess.run(list(map(str, words)), check=True)
     made.replace(LIBRARY)
 

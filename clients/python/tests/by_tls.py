@@ -1,0 +1,16 @@
+"""A torture by TLS: its clients have whom they trust of their environment, as the VFS of SQLite does by itself."""
+
+from __future__ import annotations
+
+import functools
+import os
+
+from pagelog.secure import Trust
+
+VARIABLE = "PAGELOG_SSLROOTCERT"
+
+
+@functools.cache
+def trust() -> Trust | None:
+    """Whom this process trusts; None where it is to speak no TLS."""
+    return Trust(os.environ[VARIABLE]) if VARIABLE in os.environ else None

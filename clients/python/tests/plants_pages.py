@@ -1,0 +1,53 @@
+"""Of page servers: what `plants.py` takes out of them. A plant of clients/pages is built with its edit by the test that has to see it."""
+
+from plant import Plant
+
+_FOLLOWING, _STORES, _C = "../pages/following", "../pages/stores", "../../../../pages"
+
+PLANTS = {
+    "pages, a deleted store": Plant(_FOLLOWING, "        if where is not None and not (was_confirmed and where.confirmed):\n", "        if True:\n", "pages", "set_aside_named_and_read"),
+    "pages, set aside without what is in memory": Plant(_FOLLOWING, "            process.put_away()\n", "            process.kill()\n", "pages", "in_memory_alone"),
+    "pages, a store and not from where on": Plant(_STORES, '    for ending in (_OLDEST, ""):\n        if (source', '    for ending in ("",):\n        if (source', "pages",
+                                                  "begins_with_a_base"),
+    "pages, asides without a bound": Plant(_STORES, "[:-MOST_ASIDE]", "[:0]", "pages", "than_the_bound"),
+    "pages, asides in vain": Plant(_FOLLOWING, "not (was_confirmed and where.confirmed)", "not where.confirmed", "pages", "never_confirmed"),
+    "pages, asides that are empty": Plant(_FOLLOWING, "not (was_confirmed and where.confirmed)", "not was_confirmed", "pages", "was_cut_off"),
+    "pages, cut off beside": Plant(_STORES, "sorted(beside | aside)", "sorted(aside)", "pages", "was_cut_off"),
+    "pages, cut off aside": Plant(_STORES, "sorted(beside | aside)", "sorted(beside)", "pages", "was_cut_off"),
+    "pages, back to nothing": Plant(_FOLLOWING, "        if written > found.position:\n", "        if False:\n", "pages", "than_the_bound"),
+    "pages, answers before the digest": Plant(_FOLLOWING, "        self._look()\n        self._fill()\n",
+                                              "        self._look()\n        self._set_table(self._archived)\n        self._fill()\n", "pages", "never_confirmed"),
+    "pages, without a second chance": Plant("../named_reader", "                if (copied := self._copied(numbers, at)) is None:\n                    raise\n",
+                                            "                if (copied := None) is None:\n                    raise\n", "pages", "do_without_it"),
+    "pages, chain not compared": Plant(f"{_C}/store_write.c", "(store->chain.length != CHAIN_BYTES || memcmp(chain, store->chain.bytes, CHAIN_BYTES) != 0)", "store->chain.length > CHAIN_BYTES", "pages", "another_chain"),
+    "pages, half a base": Plant(f"{_C}/store.c", "    if (!has_rows) return true;\n", "    if (!has_rows || !*why) return true;\n", "pages", "begins_with_images"),
+    "pages, records of the filter": Plant(f"{_C}/store_forget.c", "key[PAGE_KEY - 1] == IMAGE ||", "true ||", "pages", "is_forgotten_goes"),
+    "pages, not the next block": Plant(f"{_C}/store_write.c", "    if (length < 8 || number_at(block, 8) != position) return", "    if (length < 8) return", "pages",
+                                       "no_next_block"),
+    "pages, retention after the filter": Plant(f"{_C}/store_forget.c", "write_whole(fresh, text) && rename(fresh, name) == 0;", "write_whole(fresh, text);", "pages",
+                                               "is_forgotten_goes"),
+    "pages, position before the write": Plant(f"{_C}/store_write.c", "    enum store_end end = write_batch(store);\n    if (end != STORE_DONE) return end;\n    store->has_begun",
+                                              "    if (chain) atomic_store(&store->confirmed, store->added);\n    enum store_end end = write_batch(store);\n"
+                                              "    if (end != STORE_DONE) return end;\n    store->has_begun", "pages", "once_it_can_be_read"),
+    "pages, a view without its stamp": Plant(f"{_C}/store_view.c", "    if (view->rows && view->seen == writes) return view->rows;\n",
+                                             "    if (view->rows && view->seen <= writes) return view->rows;\n", "pages", "once_it_can_be_read"),
+    "pages, none is gone": Plant("page_servers", "self._all[row.id] - len(living)", "0", "pages", "shown_until"),
+    "pages, forgets the living": Plant("../desk/forget_words", "    if not pages.is_gone and not pages.has_ended:\n", "    if False:\n", "pages", "shown_until"),
+    "pages, silent for ever": Plant("../pages/directory", ",\n    seen = now() RETURNING", " RETURNING", "pages", "shown_until"),
+    "pages, nothing on the console": Plant("../console/source", 'if found["has_pages"] else ()', "if False else ()", "pages", "shown_until"),
+    "pages, not waited for": Plant("../desk/table_changes", "if pages.table_number < row.table_number and not pages.has_ended:", "if False:", "pages", "rotated_token"),
+    "pages, waited for in vain": Plant("../desk/table_changes", "return self._beats.may_answer(each.run) if each.is_pages else", "return each.is_pages or", "pages",
+                                       "rotated_token"),
+    "pages, ended and named": Plant("../pages/following", "                note_end(self._referee, self._store.run)\n", "                pass\n", "pages", "rotated_token"),
+    "pages, silent and waited for": Plant("../desk/table_changes", 'float("-inf") if each.is_gone and each.run not in self._pages else now', "now", "pages", "rotated_token"),
+    "pages, by a keeper's word": Plant(_FOLLOWING, "        if digest(self._chain, blocks) != told.chain:\n", "        if False:\n", "pages", "have_that_digest"),
+    "pages, behind and silent": Plant(_FOLLOWING, "                self._enter()  # it is behind, and not gone\n", "                pass\n", "pages",
+                                      "while_it_catches_up"),
+    "pages, by no bell": Plant("quick_way_referee.c", "    way->news_due |= way->is_watched;\n", "", "pages", "each_commit_can"),
+    "pages, nobody is watched": Plant("confirmations", "            self.watch(True)\n", "            pass\n", "pages", "each_commit_can"),
+    "pages, told of the same": Plant("confirmations", "if reached > each.position]", "if reached >= each.position]", "pages", "is_held_back"),
+    "pages, two questions": Plant("confirmations", "        if line in self._waiting:\n            self._give_up", "        if False:\n            self._give_up", "pages",
+                                  "is_held_back"),
+    "pages, of any database": Plant("keeping", "        if database is None or of is None or of.database != database.row.identity:\n            line.say(\"elsewhere\", name, position",
+                                    "        if database is None or of is None:\n            line.say(\"elsewhere\", name, position", "pages", "is_held_back"),
+}  # fmt: skip

@@ -1,0 +1,11 @@
+"""Of what changes between two statements or two threads."""
+
+from plant import Plant
+
+PLANTS = {
+    "a pack that was cut": Plant("../store/tables", "AND p.state = 0 AND i.range", "AND i.range", "store", "cut_meanwhile_is_no_damage"),
+    "standbys, the only copy": Plant("standing", "            if not await self._shared.ask(self._shared.referee.lacks, database.row):  # else",
+                                     "            if True:  # else", "beginnings", "has_lost_since_the_look"),
+    "standbys, another history": Plant("referee", "return not found or not (found[0][0] > row.archived or", "return not found and not (found[0][0] > row.archived or",
+                                       "referee", "what_a_look_has_shown"),
+}
