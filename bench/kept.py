@@ -1,11 +1,12 @@
 """Named databases under keepers, beside PostgreSQL's own commits and plain archiving: needs Debian's packages of clients/python/test.
 
 Usage: python3 -B bench/kept.py [--share SHARE] [--alone] [--blocks N [--pages P]] [PART ..]
-(parts: commits, archiving, kills, restore, switchover, idle; by default all)
+(parts: commits, loop, many, archiving, kills, restore, switchover, idle; by default all)
 """
 
 import argparse
 import contextlib
+import json
 import os
 import pathlib
 import select
@@ -27,8 +28,8 @@ sys.path[:0] = [str(CLIENT / "tests"), str(CLIENT / "src")]
 import psycopg  # noqa: E402
 
 import service  # noqa: E402
-from keepers import Keeping, eventually  # noqa: E402
-from pagelog import Block, Group, Put  # noqa: E402
+from keepers import Keeping, eventually, token  # noqa: E402
+from pagelog import Block, Group, Primary, Put  # noqa: E402
 from pagelog.keeper.ahead import pieces_of  # noqa: E402
 from pagelog.keeper.referee import Referee, digest  # noqa: E402
 from pagelog.keeper.rows import Batch  # noqa: E402
@@ -237,6 +238,182 @@ def rate_of_threads(commit, count):
     return len(times) / (time.perf_counter() - began), times
 
 
+def loop(pair, share):
+    """One writer and PostgreSQL, each some hundred commits one directly after the other: by turns all find cold caches, and a hop is hidden."""
+    count, rounds, plain = max(50, round(300 * share)), 7, PlainCommits(pair.url)
+    ours, theirs, trips = [], [], []
+    with keeping(pair, standby=False) as kept, kept.primary() as primary:
+        pid = kept.processes["a"].pid
+
+        def commit(durable):
+            primary.append(RECORD)
+            return primary.commit(durable=durable)
+
+        timed(lambda: commit(True), 50), timed(plain.commit, 50)
+        spent = 0.0
+        for _ in range(rounds):
+            before = processor_seconds(pid)
+            ours.append(statistics.median(timed(lambda: commit(True), count)))
+            spent += processor_seconds(pid) - before
+            theirs.append(statistics.median(timed(plain.commit, count)))
+            trips.append(statistics.median(timed(lambda: commit(False), count)))
+            primary.durable(primary.end)
+    shares = sorted(one / other for one, other in zip(ours, theirs))
+    print(f"one writer in a loop, medians of {rounds} rounds of {count}: durable {1e3 * statistics.median(ours):.3f} ms, PostgreSQL "
+          f"{1e3 * statistics.median(theirs):.3f}, a trip {1e3 * statistics.median(trips):.3f}; durable of PostgreSQL's {statistics.median(shares):.2f} "
+          f"({shares[0]:.2f} to {shares[-1]:.2f}); {1e3 * spent / rounds / count:.3f} ms of the keeper's processor a commit; "
+          f"load {os.getloadavg()[0]:.1f}")  # fmt: skip
+
+
+# Many databases.
+
+PROCESSES = 4
+
+
+class DatabaseWriter:
+    """One database, whose commits are begun and waited for apart, over a line of its own."""
+
+    def __init__(self, name, options):
+        self.primary = Primary.named(name, keepers=options["keepers"], principal=2, token=token(2), operator=(1, token(1)), patience=service.PATIENCE)
+        self.primary.append(RECORD)
+        self.primary.commit(durable=True)
+        place = self.primary.place
+        host, _, port = place.lines.rpartition(":")
+        self.line = socket.create_connection((host, int(port)), service.PATIENCE)
+        self.question = f"durable {name} {place.generation} "
+        self.fileno = self.line.fileno
+
+    def begin(self):
+        self.primary.append(RECORD)
+        self.line.sendall(f"{self.question}{self.primary.commit()}\n".encode())
+
+    def take(self):
+        answer = self.line.recv(200)
+        assert answer.startswith(b"durable "), answer
+        return True
+
+    def rest(self):
+        self.primary.durable(self.primary.end)
+
+
+class SessionWriter:
+    """One session of PostgreSQL's own."""
+
+    def __init__(self, url, number):
+        self.session = psycopg.connect(url + "&target_session_attrs=read-write", autocommit=True)
+        self.session.execute(f"CREATE TABLE IF NOT EXISTS plain{number} (id serial PRIMARY KEY, data bytea NOT NULL)")
+        self.session.pgconn.prepare(b"put", f"INSERT INTO plain{number} (data) VALUES ($1)".encode())
+        self.data = Block.of(1, (RECORD,)).data
+        self.fileno = self.session.fileno
+
+    def begin(self):
+        self.session.pgconn.send_query_prepared(b"put", [self.data], [1])
+        self.session.pgconn.flush()
+
+    def take(self):
+        self.session.pgconn.consume_input()
+        while not self.session.pgconn.is_busy():
+            result = self.session.pgconn.get_result()
+            if result is None:
+                return True
+            assert result.status == 1, result.error_message
+        return False
+
+    def rest(self):
+        pass
+
+
+def commit_for(writers, seconds):
+    """How long each commit took, each writer one after the other, by one thread."""
+    poll, by_number, began, times = select.poll(), {each.fileno(): each for each in writers}, {}, []
+    for number in by_number:
+        poll.register(number, select.POLLIN)
+    ends = time.perf_counter() + seconds
+    for number, each in by_number.items():
+        began[number] = time.perf_counter()
+        each.begin()
+    while began:
+        for number, _ in poll.poll():
+            if by_number[number].take():
+                now = time.perf_counter()
+                times.append(now - began.pop(number))
+                if now < ends:
+                    began[number] = now
+                    by_number[number].begin()
+    return times
+
+
+def writers_of_one_process(words):
+    """`kept.py --writers JSON`: told a line, it commits so long, and says how many and how long they took."""
+    made = [DatabaseWriter(name, words) for name in words["names"]] + [SessionWriter(words["url"], number) for number in words["numbers"]]
+    print("ready", flush=True)
+    for line in sys.stdin:
+        times = commit_for(made, float(line))
+        print(json.dumps([len(times), statistics.median(times), at(99, times) / 1000]), flush=True)
+        for each in made:
+            each.rest()
+
+
+class Writers:
+    """Processes that write, each for a share of the databases or of the sessions."""
+
+    def __init__(self, stack, words):
+        self.processes = []
+        for each in words:
+            command = [sys.executable, "-B", __file__, "--writers", json.dumps(each)]
+            process = subprocess.Popen(command, stdin=subprocess.PIPE, stdout=subprocess.PIPE, text=True)
+            stack.callback(process.wait)
+            stack.callback(process.stdin.close)
+            self.processes.append(process)
+        for process in self.processes:
+            assert process.stdout.readline() == "ready\n", "a writer broke off"
+
+    def rate(self, seconds):
+        """Commits a second, the medians of a commit, and the greatest p99."""
+        for process in self.processes:
+            process.stdin.write(f"{seconds}\n")
+            process.stdin.flush()
+        told = [json.loads(process.stdout.readline()) for process in self.processes]
+        return sum(count for count, _, _ in told) / seconds, statistics.median(each for _, each, _ in told), max(each for _, _, each in told)
+
+
+def many(pair, share):
+    """Ten and a hundred databases with a writer each, beside as many sessions of PostgreSQL, by turns."""
+    for count in (10, 100):
+        for trail in (0, 7):
+            many_of(pair, count, trail, max(1.0, 4 * share))
+
+
+def many_of(pair, count, trail, seconds):
+    names = [f"{'trail' if trail else 'many'}{number}of{count}" for number in range(count)]
+    options = {"more": f"trail = {trail}\n"} if trail else {}
+    with contextlib.ExitStack() as stack:
+        kept = stack.enter_context(Keeping(ttl=5.0, url=pair.url, audit=1 << 24, standby=False, **options))
+        kept.referee.prepare()
+        for name in names:
+            kept.referee.create(name, kept.table.read_text(), b"s" * 16)
+        kept.start("a")
+        shares = [list(range(first, count, PROCESSES)) for first in range(min(PROCESSES, count))]
+        ours = Writers(stack, [{"names": [names[at] for at in some], "numbers": [], "keepers": kept.addresses} for some in shares])
+        theirs = Writers(stack, [{"names": [], "numbers": some, "url": pair.url} for some in shares])
+        ours.rate(0.5), theirs.rate(0.5)
+        pid, rounds, spent, made = kept.processes["a"].pid, [], 0.0, 0.0
+        threads, descriptors = len(os.listdir(f"/proc/{pid}/task")), len(os.listdir(f"/proc/{pid}/fd"))
+        for _ in range(5):
+            before = processor_seconds(pid)
+            mine = ours.rate(seconds)
+            spent += processor_seconds(pid) - before
+            made += mine[0] * seconds
+            rounds.append((mine, theirs.rate(seconds)))
+        kept.kill("a", signal.SIGKILL)
+    shares = sorted(mine[0] / other[0] for mine, other in rounds)
+    print(f"{count} databases{' with a trail' if trail else ''}, a writer each, {len(rounds)} rounds of {seconds:.0f} s: "
+          f"{statistics.median(mine[0] for mine, _ in rounds):,.0f} durable commits a second, PostgreSQL {statistics.median(other[0] for _, other in rounds):,.0f}: "
+          f"{statistics.median(shares):.2f} ({shares[0]:.2f} to {shares[-1]:.2f}); p50 {1e3 * statistics.median(mine[1] for mine, _ in rounds):.2f} and "
+          f"{1e3 * statistics.median(other[1] for _, other in rounds):.2f} ms; {1e3 * spent / made:.3f} ms of the keeper's processor a commit, "
+          f"{threads} threads, {descriptors} descriptors; load {os.getloadavg()[0]:.1f}", flush=True)  # fmt: skip
+
+
 # Archiving.
 
 
@@ -399,10 +576,12 @@ def idle(pair, share):
     print(f"{count} idle databases: {100 * spent / period:.1f} % of a processor, {sessions} connections to PostgreSQL")
 
 
-PARTS = {"commits": commits, "archiving": archiving, "kills": kills, "restore": restore, "switchover": switchover, "idle": idle}
+PARTS = {"commits": commits, "loop": loop, "many": many, "archiving": archiving, "kills": kills, "restore": restore, "switchover": switchover, "idle": idle}
 
 
 def main():
+    if sys.argv[1:2] == ["--writers"]:
+        return writers_of_one_process(json.loads(sys.argv[2]))
     parser = argparse.ArgumentParser()
     parser.add_argument("parts", nargs="*", metavar="PART", help=", ".join(PARTS))
     parser.add_argument("--share", type=float, default=1.0, help="of the work of a whole run")
@@ -413,6 +592,7 @@ def main():
     unknown = set(words.parts) - set(PARTS)
     if unknown:
         parser.error(f"there is no part {', '.join(unknown)}")
+    Server.connections = 200  # for the sessions of `many`
     pair = Alone() if words.alone else Pair()
     pair.blocks, pair.pages = words.blocks, words.pages
     try:

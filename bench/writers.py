@@ -1,0 +1,162 @@
+"""Times several processes that write one table, each a transaction after the other (begin immediate, an insert of a hundred bytes, commit):
+SQLite over a database of keepers (check=50), with synchronous=full and normal, beside PostgreSQL by psycopg and plain SQLite in WAL, in one run and in
+turns. Of each it prints the commits a second, what a commit takes, the least and most commits of a process, and the load.
+
+Usage: python3 -B bench/writers.py [--seconds S] [--rounds N] [PROCESSES ..]     (1.5 seconds, 3 rounds; 1, 2 and 8 processes)
+
+The service is crates/pagelog/out/pagelog, or the program that PAGELOG names. PostgreSQL is the one of the keepers, with fsync, on the disk of
+TMPDIR, where plain SQLite's file is too; what an fdatasync of 8 KiB takes there is printed first."""
+
+import argparse
+import contextlib
+import multiprocessing
+import os
+import pathlib
+import sqlite3
+import statistics
+import sys
+import tempfile
+import time
+
+ROOT = pathlib.Path(__file__).resolve().parent.parent
+os.environ.setdefault("PAGELOG", str(ROOT / "crates" / "pagelog" / "out" / "pagelog"))
+os.environ.setdefault("PAGELOG_EXTENSION", str(ROOT / "clients" / "c" / "pagelog_vfs.so"))
+sys.path[:0] = [str(ROOT / "clients" / "c" / "tests"), str(ROOT / "clients" / "python" / "src")]
+TABLE = "create table w(id {}, who integer, text text)"
+TEXT = "x" * 100
+
+
+class System:
+    """What is written to: how a process opens it, how its transactions begin, and its mark for a value."""
+
+    def __init__(self, name, opened, begin="begin immediate", mark="?"):
+        self.name, self.opened, self.begin, self.mark = name, opened, begin, mark
+        self.rounds = []
+
+    def write(self, who, seconds, start, told):
+        """A process: how long each commit took. An error ends its transaction, and is counted."""
+        insert = f"insert into w(who, text) values ({self.mark}, {self.mark})"
+        connection, taken, errors = self.opened(), [], 0
+        start.wait()
+        end = time.perf_counter() + seconds
+        while (since := time.perf_counter()) < end:
+            try:
+                connection.execute(self.begin)
+                connection.execute(insert, (who, TEXT))
+                connection.execute("commit")
+                taken.append(time.perf_counter() - since)
+            except Exception as error:  # noqa: BLE001
+                errors += 1
+                sys.stderr.write(f"{self.name}: {error!r}\n")
+                with contextlib.suppress(Exception):
+                    connection.execute("rollback")
+        told.put((taken, errors))
+        connection.close()
+
+    def round(self, processes, seconds):
+        context = multiprocessing.get_context("fork")
+        start, told = context.Event(), context.Queue()
+        made = [context.Process(target=self.write, args=(who, seconds, start, told)) for who in range(processes)]
+        for each in made:
+            each.start()
+        time.sleep(0.4)
+        start.set()
+        said = [told.get(timeout=300) for _ in made]
+        for each in made:
+            each.join()
+        self.rounds.append((said, seconds))
+
+    def show(self, processes):
+        rates, least, most, errors = [], [], [], 0
+        taken = sorted(each for said, _ in self.rounds for one, _ in said for each in one)
+        for said, seconds in self.rounds:
+            counts = [len(one) for one, _ in said]
+            rates.append(sum(counts) / seconds)
+            least.append(min(counts))
+            most.append(max(counts))
+            errors += sum(count for _, count in said)
+        at = [1000 * taken[min(len(taken) - 1, int(len(taken) * share))] for share in (0.5, 0.99, 1)]
+        print(f"{processes} processes, {self.name:28} {statistics.median(rates):8.0f} a second; {at[0]:6.2f}, {at[1]:7.2f}, {at[2]:7.1f} ms "
+              f"(half, 99 in 100, longest); of a process {statistics.median(least):.0f} to {statistics.median(most):.0f}; {errors} errors", flush=True)
+        self.rounds = []
+
+
+def fdatasync_ms(folder):
+    taken = []
+    with tempfile.TemporaryFile(dir=folder) as file:
+        for _ in range(50):
+            os.pwrite(file.fileno(), os.urandom(8192), 0)
+            since = time.perf_counter()
+            os.fdatasync(file.fileno())
+            taken.append(time.perf_counter() - since)
+    return 1000 * statistics.median(taken)
+
+
+def plain(path, level):
+    connection = sqlite3.connect(path, isolation_level=None, timeout=60)
+    connection.execute("pragma journal_mode = wal")
+    connection.execute(f"pragma synchronous = {level}")
+    return connection
+
+
+@contextlib.contextmanager
+def systems(folder):
+    from database import sqlite_of
+
+    del sys.modules["service"]  # the tests of the keepers have one of their own
+    sys.path.insert(0, str(ROOT / "clients" / "python" / "tests"))
+    import postgres
+    import psycopg
+    from keepers import Keeping
+
+    run = postgres.Postgres.run
+    postgres.Postgres.run = lambda server, program, *words: run(
+        server, program, *(str(word).replace("max_connections=30", "max_connections=200") for word in words))
+
+    def kept(name, level):
+        connection = sqlite_of(addresses, name, 2, busy=60, check=50)
+        connection.execute(f"pragma synchronous = {level}")
+        return connection
+
+    with Keeping(ttl=3.0) as keeping:
+        for name in ("full", "normal"):
+            keeping.referee.create(name, (ROOT / "clients" / "c" / "table.toml").read_text(), b"s" * 16)
+        keeping.start("a")
+        addresses = ",".join(keeping.addresses)
+        made = []
+        for name in ("full", "normal"):
+            keeping.place(name)
+            made.append(System(f"keepers, synchronous={name}", lambda name=name: kept(name, name)))
+        made.append(System("PostgreSQL", lambda: psycopg.connect(keeping.url, autocommit=True), "begin", "%s"))
+        for level in ("full", "normal"):
+            made.append(System(f"plain SQLite, WAL, {level}", lambda level=level: plain(folder / f"{level}.db", level)))
+        for each in made:
+            connection = each.opened()
+            connection.execute(TABLE.format("integer primary key" if each.mark == "?" else "bigserial primary key"))
+            connection.close()
+        yield made
+
+
+def main():
+    words = argparse.ArgumentParser(description=__doc__, formatter_class=argparse.RawDescriptionHelpFormatter)
+    words.add_argument("--seconds", type=float, default=1.5)
+    words.add_argument("--rounds", type=int, default=3)
+    words.add_argument("--only", default="", help="systems whose names have this alone")
+    words.add_argument("processes", nargs="*", type=int, default=[1, 2, 8])
+    asked = words.parse_args()
+    with tempfile.TemporaryDirectory() as folder, systems(pathlib.Path(folder)) as made:
+        print(f"fdatasync of 8 KiB: {fdatasync_ms(folder):.2f} ms; {os.cpu_count()} processors; load {os.getloadavg()[0]:.1f}")
+        for processes in asked.processes or [1, 2, 8]:
+            before = os.getloadavg()[0]
+            for _ in range(asked.rounds):
+                for each in made:
+                    if asked.only in each.name:
+                        each.round(processes, asked.seconds)
+            print(f"load {before:.1f} before, {os.getloadavg()[0]:.1f} after:")
+            for each in made:
+                if asked.only in each.name:
+                    each.show(processes)
+
+
+if __name__ == "__main__":
+    main()
