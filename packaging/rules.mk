@@ -14,21 +14,27 @@ WORDS_OF = PYTHONPATH=clients/python/src python3 -B
 %:
 	dh $@ --buildsystem=pybuild --sourcedirectory=clients/python --with python3,installsysusers
 
-override_dh_auto_build: c units pages
+override_dh_auto_build: c servers units pages
 	dh_auto_build
 
 c:
 	$(MAKE) -C $(C) CFLAGS="$(FLAGS)" pagelog_vfs.so out/pagelog_preload.so out/libpagelog.a
 
+servers:
+	$(MAKE) -C clients/pages CFLAGS="$(FLAGS)"
+
 units:
 	mkdir -p $(MADE)
-	for unit in $(UNITS); do cat packaging/units/$$unit packaging/units/limits.conf > $(MADE)/$$unit; done
+	for unit in $(UNITS); do { cat packaging/units/limits.conf; echo; cat packaging/units/$$unit; } > $(MADE)/$$unit; done
+	cp packaging/units/*.socket $(MADE)
 	install $(PROGRAM) $(MADE)/pagelog
 	sed 's/@RELEASE@/$(RELEASE)/; s/@MULTIARCH@/$(MULTIARCH)/' packaging/pagelog.pc.in > $(MADE)/pagelog.pc
 
 pages: units
 	sed -e '1s/.*/# NAME\n\npagelog - log and page service for databases\n\n# DESCRIPTION/' -e 's/^##/#/' -e '/^`scripts/d' docs/PAGELOG.md | \
 	    lowdown -s -t man --nroff-nolinks -M title=pagelog -M section=1 -M source="pagelog $(RELEASE)" > $(MADE)/pagelog.1
+	sed -e '1s/.*/# NAME\n\npagelog-pages - keeps the pages of a named database; run by pagelogctl pages\n\n# DESCRIPTION/' -e 's/^##/#/' docs/PAGES.md | \
+	    lowdown -s -t man --nroff-nolinks -M title=pagelog-pages -M section=1 -M source="pagelog $(RELEASE)" > $(MADE)/pagelog-pages.1
 	help2man -N -s 8 --version-string=$(RELEASE) -n 'makes and looks after services of pagelog' \
 	    -o $(MADE)/pagelog-service.8 packaging/pagelog-service
 	$(WORDS_OF) packaging/pages_of_words.py $(MADE)
@@ -62,4 +68,4 @@ override_dh_gencontrol:
 	dh_gencontrol -- -Vpagelog:Commit='$(COMMIT)' -Vpagelog:Proved=$(PROVED) -Vpagelog:Kit='$(KIT)' -Vpagelog:Noted='$(NOTED)' -Vpagelog:Words='$(WORDS)' \
 	    -Vpagelog:Mark='$(MARK)' -Vpagelog:Sum=$(SUM)
 
-.PHONY: c units pages
+.PHONY: c servers units pages

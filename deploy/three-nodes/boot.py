@@ -14,7 +14,7 @@ import time
 from dataclasses import dataclass
 from pathlib import Path
 
-UNITS = ("etcd", "patroni", "pagelog-keeper")
+UNITS = ("etcd", "patroni", "pagelog-runner", "pagelog-keeper")
 OWNERS = {"etcd": "etcd", "postgresql": "postgres"}
 PROGRAMS = {key: os.environ[key] for key in ("PATH", "PYTHONPATH")}
 """Where a unit finds programs; it gets nothing else of the environment of the trial."""
@@ -34,11 +34,15 @@ def mount(folder: Path) -> None:
     run("mount", "--bind", folder / "state", STATE)
     run("mount", "-t", "tmpfs", "-o", "mode=755", "tmpfs", RUN)
     run("ip", "link", "set", "lo", "up")
-    subprocess.run(["useradd", "--system", "--no-create-home", "pagelog"], stderr=subprocess.DEVNULL)  # it is there at the second start
+    for user in ("pagelog", "pagelog-run"):  # they are there at the second start
+        subprocess.run(["useradd", "--system", "--no-create-home", user], stderr=subprocess.DEVNULL)
     shutil.chown(ETC / "pagelog" / "keeper.toml", "pagelog")
+    shutil.chown(ETC / "patroni" / "server.key", "postgres")
     for name, owner in OWNERS.items():
         own_folder(STATE / name, owner)
     own_folder(RUN / "postgresql", "postgres")
+    own_folder(RUN / "pagelog-runner", "pagelog-run")  # it makes its socket there, as no systemd does
+    (RUN / "pagelog-runner").chmod(0o755)
 
 
 def own_folder(folder: Path, owner: str) -> None:
@@ -68,7 +72,7 @@ class Unit:
 
     def specified(self, text: str) -> str:
         """The text with its specifiers in place."""
-        known = {"%E": ETC, "%S": STATE, "%H": os.uname().nodename, "%p": self.name}
+        known = {"%E": ETC, "%S": STATE, "%t": RUN, "%H": os.uname().nodename, "%p": self.name}
         return re.sub(r"%\w", lambda found: str(known[found[0]]), text)
 
     def environment(self) -> dict[str, str]:

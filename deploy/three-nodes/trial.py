@@ -20,14 +20,14 @@ TOP = HERE.parent.parent
 sys.path.insert(0, str(TOP / "clients" / "python" / "src"))
 
 from pagelog import Block  # noqa: E402
-from pagelog.keeper import quick_way  # noqa: E402
+from pagelog.keeper import quick_calls  # noqa: E402
 
 from clients import NAME, text_of  # noqa: E402
 from cluster import KEEPERS, PATIENCE, Cluster, eventually  # noqa: E402
 from nodes import ADDRESSES, Node, make_bridge  # noqa: E402
 
 SOURCE = TOP / "clients" / "python" / "src" / "pagelog"
-UNIT = TOP / "packaging" / "units" / "pagelog-keeper.service"
+UNITS = [TOP / "packaging" / "units" / f"pagelog-{name}.service" for name in ("keeper", "runner")]
 TABLE = TOP / "clients" / "c" / "table.toml"
 DEFAULT = ("kill:holder", "kill:leader", "kill:both", "cut:both", "stop:both", "alone:both")
 GO_ON = 50
@@ -86,9 +86,13 @@ class Trial:
         subprocess.run([sys.executable, "-B", HERE / "configure", folder / "machines", *machines], check=True, stdout=subprocess.DEVNULL)
         (folder / "machines").chmod(0o711)
         for name in ADDRESSES:
-            shutil.copy(UNIT, folder / "machines" / name / "etc" / "systemd" / "system")
+            for unit in UNITS:
+                shutil.copy(unit, folder / "machines" / name / "etc" / "systemd" / "system")
         self.nodes = {name: Node(name, folder / "machines" / name) for name in ADDRESSES}
-        self.keeper_file = folder / "machines" / "a" / "etc" / "pagelog" / "keeper.toml"
+        self.keeper_file = folder / "keeper.toml"  # outside of the machines the CA has another place
+        self.keeper_file.touch(mode=0o600)
+        text = (folder / "machines" / "a" / "etc" / "pagelog" / "keeper.toml").read_text()
+        self.keeper_file.write_text(text.replace("/etc/patroni/ca.pem", str(folder / "machines" / "ca.pem")))
         self.cluster = Cluster(self.keeper_file)
 
     def say(self, text: str) -> None:
@@ -216,7 +220,7 @@ def main() -> int:
     parser.add_argument("steps", nargs="*", type=step)
     parser.add_argument("--logs", type=Path)
     told = parser.parse_intermixed_args()
-    if quick_way._library() is None:
+    if quick_calls.library() is None:
         sys.exit("trial: the quick way is not built")
     signal.signal(signal.SIGTERM, lambda *_: sys.exit("trial: it was ended"))  # with this first process all others end
     trial = Trial(told.folder, os.environ["PAGELOG"])
