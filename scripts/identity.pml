@@ -105,9 +105,9 @@ inline go_back() {
     last = NOTHING
 }
 
-// referee.py: create
+// statements.py: CREATE
                     // ..
-                    // COALESCE((SELECT max(d.next_generation) + 1 FROM pagelog_log d WHERE d.dropped AND d.name = %s
+                    // COALESCE((SELECT max(d.next_generation) + 1 FROM pagelog_log d WHERE d.dropped AND d.name = %(name)s
                     // ..
 inline drop_and_create() {
 #ifndef NAMES_GO_ON_AT_ONCE

@@ -82,7 +82,7 @@ inline keep(r, p) {
 
 // statements.py: SUCCEED
                     // ..
-                    // UPDATE pagelog_log SET generation = %(next)s, run = %(next_run)s, holder = %(me)s, address = %(address)s, shift = %(shift)s,
+                    // UPDATE pagelog_log SET generation = %(next)s, run = %(next_run)s, holder = %(me)s, address = %(address)s, secure = %(secure)s, shift = %(shift)s,
                     // ..
                     // WHERE id = %(id)s AND run = %(run)s AND generation = %(generation)s AND archived = %(old)s AND next_generation > %(next)s AND NOT dropped
                     // ..
@@ -143,6 +143,23 @@ inline fill(r, p) {
     od;
     i = 0;
     reached[r] = p; hard[r] = p
+}
+
+/* The same from the present service, whose log has all that is archived of it. */
+// succession.py: _bring
+                    // ..
+                    // successor.begin(self._referee, self._database.row.id, reached)
+                    // if successor.reached < reached:
+                    // successor.fill(served.logged(successor.loaded, reached), reached, chain)
+                    // ..
+inline bring(n, r, p) {
+    i = reached[n];
+    do
+    :: i < p -> i++; AT(n, i) = AT(r, i)
+    :: else -> break
+    od;
+    i = 0;
+    reached[n] = p; hard[n] = p
 }
 
 inline start(r) {
@@ -262,6 +279,7 @@ end:
           fill(next, reached[mine]);
           stage = MAKING }
     :: d_step { stage == MAKING && !doubts && alive[next] && reached[next] < reached[mine] -> fill(next, reached[mine]) }
+    :: d_step { stage == MAKING && !doubts && alive[next] && alive[mine] && reached[next] < reached[mine] -> bring(next, mine, reached[mine]) }
 // succession.py: _closed
                     // ..
                     // end = patiently(served, served.close)
@@ -338,7 +356,7 @@ end:
 // statements.py: TAKE
                     // ..
                     // UPDATE pagelog_log SET generation = GREATEST(next_generation, %(least)s), next_generation = GREATEST(next_generation, %(least)s) + 1, run = %(run)s, holder = %(me)s,
-                    // address = %(address)s, shift = COALESCE(%(shift)s::bigint, shift), images = COALESCE(%(images)s::bigint, images), base = archived,
+                    // address = %(address)s, secure = %(secure)s, shift = COALESCE(%(shift)s::bigint, shift), images = COALESCE(%(images)s::bigint, images), base = archived,
                     // wanted = NULL, succeed = false
                     // WHERE id = %(id)s AND generation = %(generation)s AND archived = %(archived)s AND run IS NOT DISTINCT FROM %(seen_run)s::text
                     // AND (%(address)s::text IS NULL OR chain = %(chain)s) AND NOT paused AND NOT dropped

@@ -14,18 +14,23 @@
  * a lower generation than its own. It may be interrupted, which ends the move. While a commit waits for the archive another
  * connection of its process may move the file.
  *
+ * With TURNS a writer begins a transaction that writes with the turn alone, and gives it back once the service has the commit: the next
+ * one builds upon that before it is durable. A keeper that hears nothing passes the turn on.
+ *
  * What holds:
  *   - A commit that was told durable is in the archive, at its position. What is archived stays.
  *   - A commit that was told as failed is in no log of the present generation and never in the archive, now or later.
  *   - An acknowledged commit is in the log of each generation that its writer has come to, or the writer has told the loss.
  *   - A block stands at one position, upon the block that it was made upon.
  *   - The transaction that is read is the same one in the next generation, if that has it.
- *   - A reader of what is durable sees what the archive has, and no more.
+ *   - A reader of what is durable sees what the archive has, all up to there, and no more.
+ *   - What a commit was made upon is durable before it is told so.
+ *   - Where no turn is passed on, and one generation is there, no commit meets another writer's epoch.
  *
  * Under the name of a function of clients/c come its decisive lines, as in primary.pml.
  *
  * Left out: commits of several blocks; epochs within a generation, but for who has begun the last one, and whether another has since
- * (primary.pml has them); turns; commits that nobody waits for; the keepers' own steps; an archive that goes back, and a name that is used again (identity.pml).
+ * (primary.pml has them); commits that nobody waits for; the keepers' own steps; an archive that goes back, and a name that is used again (identity.pml).
  */
 #ifndef GENS
 #define GENS 3
@@ -69,6 +74,9 @@ bit failed[BLOCKS + 1], acknowledged[BLOCKS + 1];
 byte late_generation[WRITERS + 1], late_block[WRITERS + 1];
 bit is_same_epoch[WRITERS + 1];
 byte stopped; /* how many writers have ended */
+#ifdef TURNS
+byte turn_of; /* who has the turn; 0: nobody */
+#endif
 
 inline harden(g, b) {
     assert(place_of[b] == hard[g] + 1);
@@ -79,7 +87,11 @@ inline harden(g, b) {
 }
 
 inline keep_next() {
+#ifdef KEEPS_THE_NEWEST_FIRST
+    archived = hard[now];
+#else
     archived++;
+#endif
     assert(!failed[AT(now, archived)]);
     archive[archived] = AT(now, archived)
 }
@@ -135,6 +147,11 @@ end:
     :: d_step { alive[1] -> alive[1] = 0; begin_epoch(1, 0) }
 #if GENS > 2
     :: d_step { alive[2] -> alive[2] = 0; begin_epoch(2, 0) }
+#endif
+#ifdef TURNS
+#ifndef NO_LOSS
+    :: turn_of != 0 -> turn_of = 0
+#endif
 #endif
     :: stopped == WRITERS -> break
     od
@@ -212,7 +229,10 @@ inline tell_failed(b) {
     failed[b] = 1
 }
 
-inline tell_durable(b) { assert(archived >= place_of[b] && archive[place_of[b]] == b) }
+inline tell_durable(b) {
+    assert(archived >= place_of[b] && archive[place_of[b]] == b);
+    assert(archive[place_of[b] - 1] == made_upon[b])
+}
 
 /* ---- A move ---- */
 
@@ -608,6 +628,39 @@ inline follow() {
                     // ..
 #define MAY_BECOME_WRITER (alive[gen] && !closed[gen] && hard[gen] == READ)
 
+// pagelog_named.c: take_hand_over
+                    // ..
+                    // pagelog_become_follower(file);
+                    // enum pagelog_outcome outcome = pagelog_hand_over(
+                    // ..
+                    // if (outcome == PAGELOG_DONE) outcome = pagelog_take_pulled(file, &pulled);
+                    // if (outcome != PAGELOG_DONE || file->mark.lsn != pagelog_end(file->log)) return false;
+                    // file->is_fenced = file->named.is_doubted = false;
+                    // ..
+#ifdef TAKES_OVER_UNREAD
+#define READS_AT_THE_HAND_OVER skip
+#else
+#define READS_AT_THE_HAND_OVER follow()
+#endif
+
+// pagelog_vfs_file.c: file_sync
+                    // ..
+                    // if (code == SQLITE_OK) give_turn_before_wait(connection);
+                    // if (code == SQLITE_OK) code = pagelog_wait_until_durable(connection);
+                    // ..
+#ifdef TURNS
+#define HAS_TURN (turn_of == ME)
+#define GIVE_TURN turn_of = (turn_of == ME -> 0 : turn_of)
+#else
+#define HAS_TURN true
+#define GIVE_TURN skip
+#endif
+#ifdef GIVES_THE_TURN_BEFORE_THE_REPORT
+#define GIVE_TURN_EARLY GIVE_TURN
+#else
+#define GIVE_TURN_EARLY skip
+#endif
+
 /* The block takes its place in the tail before it is sent. */
 // pagelog_mark.c: pagelog_append_ended
                     // ..
@@ -624,7 +677,13 @@ inline append() {
     :: d_step { alive[gen] && owner[gen] == ME && late_block[ME] == 0 -> late_generation[ME] = gen; late_block[ME] = made; outcome = IN_DOUBT }
 #endif
     :: !alive[gen] -> outcome = IN_DOUBT
-    :: alive[gen] && owner[gen] != ME -> outcome = FENCED
+    :: alive[gen] && owner[gen] != ME ->
+#ifdef TURNS
+#ifdef NO_LOSS
+       assert(gen > 1 || owner[gen] == 0);
+#endif
+#endif
+       outcome = FENCED
     fi
 }
 
@@ -734,6 +793,10 @@ inline wait_until_durable() {
     :: d_step { made != 0 -> tell_durable(made); made = 0; asked = 0 }
        break
 #endif
+#ifdef TOLD_WITH_WHAT_IT_WAS_MADE_UPON
+    :: d_step { made != 0 && place_of[made] <= safe + 1 -> tell_durable(made); made = 0; asked = 0 }
+       break
+#endif
     :: made != 0 && place_of[made] > safe && asked == 0 -> asked = gen
     :: d_step { asked != 0 && told < place_of[made] && safe < place_of[made] -> outcome = CONFLICT; made = 0; asked = 0 }
        break
@@ -771,8 +834,16 @@ end:
     :: gen == 0 && alive[now] || gen != 0 && (gen < now || is_between) -> move(LOST); is_over = 0
     /* A begin, where the service answers. A move that was cut off is ended before. A log that was closed makes it ask where the database is. */
     :: d_step { gen != 0 && alive[gen] && HAS_ARRIVED && (!closed[gen] || is_gone) && (is_gone || is_over || read == 0 || hard[gen] != READ) -> follow() }
+#ifdef TURNS
+    :: d_step { gen != 0 && turn_of == 0 -> turn_of = ME }
+    /* The one before has said its epoch: what it wrote is read by the message that begins the next one. */
+    :: d_step { gen != 0 && alive[gen] && !closed[gen] && HAS_ARRIVED && !is_gone && !is_over && HAS_TURN && hard[gen] != READ ->
+          begin_epoch(gen, ME);
+          READS_AT_THE_HAND_OVER;
+          is_writer = 1 }
+#endif
     /* A commit. */
-    :: d_step { gen != 0 && HAS_ARRIVED && !is_gone && !is_over && MAY_BECOME_WRITER && READ < LAST ->
+    :: d_step { gen != 0 && HAS_ARRIVED && !is_gone && !is_over && HAS_TURN && (is_writer || MAY_BECOME_WRITER) && READ < LAST ->
           if
           :: !is_writer -> begin_epoch(gen, ME); is_writer = 1
           :: is_writer
@@ -780,6 +851,7 @@ end:
           made = FIRST_BLOCK + tried; tried++;
           n = READ + 1; place_of[made] = n; made_upon[made] = read;
           tail_add(n, made);
+          GIVE_TURN_EARLY;
           n = 0; outcome = DONE }
        if
        :: append(); end_append()
@@ -787,6 +859,7 @@ end:
        :: hold_nothing()
 #endif
        fi;
+       GIVE_TURN;
        if
        :: made != 0 -> wait_until_durable()
        :: made == 0
@@ -810,7 +883,8 @@ end:
         od;
         gen = 0; mark = 0; read = 0; first = 0; next = 0; settled = 0; told = 0; own = 0; safe = 0; made = 0; tried = 0; asked = 0;
         log_end = 0; differs = 0; cause = 0; i = 0; n = 0; m = 0;
-        is_writer = 0; is_between = 0; is_gone = 0; is_over = 0; stopped++
+        is_writer = 0; is_between = 0; is_gone = 0; is_over = 0; stopped++;
+        GIVE_TURN
     }
 }
 
@@ -869,8 +943,12 @@ end:
     :: d_step { gen != 0 && alive[gen] ->
           seen = (hard[gen] < LIMIT -> hard[gen] : LIMIT);
           assert(seen <= archived);
-          assert(seen == 0 || seen < base[gen] || AT(gen, seen) == archive[seen]);
-          seen = 0 }
+          i = base[gen];
+          do
+          :: i <= seen -> assert(i == 0 || AT(gen, i) == archive[i]); i++
+          :: else -> break
+          od;
+          i = 0; seen = 0 }
     :: stopped == WRITERS -> break
     od
 }

@@ -1,4 +1,4 @@
-"""Packs the program, its clients and their tools for Debian: pagelog, pagelog-sqlite and pagelog-tools.
+"""Packs the program, its clients and their tools for Debian: pagelog, pagelog-sqlite, pagelog-tools and pagelog-pages.
 
 Usage: scripts/package [--quick PROGRAM] [--out FOLDER]
 

@@ -542,9 +542,12 @@ inline fail_over(names_its_own) {
 #define MAY_BE_OURS (epoch - mine <= lost)
 
 /* DONE: nothing of this epoch is in the window. */
+// pagelog_calls.c: enter_epoch
+                    // log->writing_epoch = epoch; log->owns_epoch = owns;
+                    // ..
 // pagelog_calls.c: begin_epoch
                     // ..
-                    // log->writing_epoch = epoch; log->owns_epoch = owns;
+                    // enter_epoch(log, epoch, owns);
                     // ..
                     // enum pagelog_outcome outcome = pagelog_status(log, PAGELOG_PRIMARY, &status);
                     // ..

@@ -33,10 +33,12 @@ byte returned = 1;
 
 /* Reads the table, and starts a service with it. It is read without a write: an old leader of PostgreSQL has the one before. */
 // statements.py: TABLE
-                    // TABLE = "SELECT t.text, t.secret, l.table_number FROM pagelog_table t JOIN pagelog_log l ON l.id = t.log WHERE t.log = %s"
+                    // ..
+                    // SELECT l.identity, l.table_number, t.text, t.secret, t.sealed, t.key FROM pagelog_table t JOIN pagelog_log l ON l.id = t.log WHERE t.log = %s
+                    // ..
 // database.py: new_served
                     // ..
-                    // text, secret, number = await self.shared.ask(self.shared.referee.table, self.row.id)
+                    // text, secret, number, _ = await self.shared.ask(self.shared.referee.table, self.row.id)
                     // made = Served(self.row.name, run, text, secret, timeout=self.shared.settings.ttl, is_read_only=self.row.read_only, table_number=number)
                     // ..
 inline start(r, before) {
@@ -115,7 +117,7 @@ end:
                     // ..
                     // UPDATE pagelog_log SET table_number = table_number + 1
                     // WHERE id = %(id)s AND identity = %(identity)s::uuid AND table_number = %(seen)s AND NOT dropped RETURNING id, table_number),
-                    // noted AS (UPDATE pagelog_table SET text = %(text)s FROM told WHERE log = told.id RETURNING log)
+                    // noted AS (UPDATE pagelog_table SET {_STORED} FROM told WHERE log = told.id RETURNING log)
                     // ..
 #ifdef NUMBERS_BEFORE_THE_TEXT
        number++;
