@@ -3,6 +3,10 @@
 from plant import Plant
 
 PLANTS = {
+    "a descriptor that was closed": Plant("acknowledged", "    with suppress(FileNotFoundError):\n        return os", "    if True:\n        return os",
+                                          "runs", "closes_other_descriptors_meanwhile"),
+    "a run that continues": Plant("../named", "        elif fate.continues is None:\n", "        elif True:\n", "named",
+                                  "what_a_writer_that_has_ended_left"),
     "a pack that was cut": Plant("../store/tables", "AND p.state = 0 AND i.range", "AND i.range", "store", "cut_meanwhile_is_no_damage"),
     "standbys, the only copy": Plant("standing", "            if not await self._shared.ask(self._shared.referee.lacks, database.row):  # else",
                                      "            if True:  # else", "beginnings", "has_lost_since_the_look"),

@@ -106,6 +106,36 @@ class Writers(Named):
         self.assertEqual(self.texts(), [b"1", b"other"])
 
 
+class Continued(Named):
+    """PostgreSQL went back, and has lost the generation; its run continues under a later number, and is archived again."""
+
+    def ended(self) -> tuple[NamedPrimary, int]:
+        """A writer that another has ended, and a position of it that is in the log, and not yet durable."""
+        self.begin()
+        writer = self.writer()
+        writer.append(put(0, b"1"))
+        position = writer.commit()
+        self.of_run(pagelog.Operator, 1).failover(2)
+        writer.append(put(0, b"2"))
+        self.assertRaises(pagelog.OlderEpoch, writer.commit)
+        return writer, position
+
+    def test_what_a_writer_that_has_ended_left_in_the_log_becomes_durable(self) -> None:
+        writer, position = self.ended()
+        later = replace(self.places[0], generation=7)
+        self.keepers.fate.side_effect = lambda place, position, *_: (
+            Fate(position, False) if place == later else Fate(position - 1, True, continues=later))  # fmt: skip
+        writer.durable(position)
+        self.assertEqual((writer.durable_end, self.texts()), (position, [b"1"]))
+
+    def test_of_a_run_that_is_over_it_is_lost(self) -> None:
+        writer, position = self.ended()
+        self.keepers.fate.side_effect = lambda place, position, *_: Fate(position - 1, True)
+        with self.assertRaises(Lost) as raised:
+            writer.durable(position)
+        self.assertEqual(raised.exception.position, position)
+
+
 class Tokens(Named):
     """A service that knows no such principal may be another's."""
 
@@ -523,6 +553,14 @@ class Words(Saying):
             with self.subTest(answer):
                 self.assertEqual((self.keepers.where(), self.keepers.standby()), (None, None))
                 self.assertRaises(pagelog.TimedOut, self.keepers.fate, of_generation(1), 5)
+
+    def test_a_run_that_continues_under_a_later_number_is_named_with_what_is_archived(self) -> None:
+        lines = self.keeper(lambda words: b"elsewhere shop 1\n" if words[0] == "durable" else f"at shop 7 r 127.0.0.1:1 4 {lines} 0 0 0\n".encode())
+        keepers = Keepers("shop", [lines], PATIENCE)
+        self.addCleanup(keepers.close)
+        fate = keepers.fate(of_generation(1), 5)
+        assert fate.continues is not None
+        self.assertEqual((fate.end, fate.is_over, fate.continues.generation, fate.continues.run), (4, True, 7, "r"))
 
     def test_what_became_of_another_generation_is_no_answer(self) -> None:
         self.said = lambda _: b"over shop 1 5\n"

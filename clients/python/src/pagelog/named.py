@@ -137,10 +137,18 @@ class NamedPrimary(Following):
             if fate.is_over:
                 self._over = self.place.generation
                 self._leave()  # the next commit asks nothing of a service that is about to end
-                if position > fate.end and self._ended is not None:
-                    raise Lost(fate.end + 1)
                 if position > fate.end:
-                    self._move()
+                    self._go_on(fate)
+
+    def _go_on(self, fate: Fate) -> None:
+        """Its generation is over, before all was durable. A writer that has ended writes nothing of that again: it is lost, unless its run
+        continues."""
+        if self._ended is None:
+            self._move()
+        elif fate.continues is None:
+            raise Lost(fate.end + 1)
+        else:
+            self.place = fate.continues
 
     def pack(self, commits: Sequence[Sequence[Record]]) -> list[int]:
         """Makes blocks of the records of some commits, which `commit` writes then. Those of one that fit into a block are in one. Returns
