@@ -2,6 +2,7 @@
 
 from __future__ import annotations
 
+import hashlib
 import itertools
 import select
 import socket
@@ -134,6 +135,71 @@ class Continued(Named):
         with self.assertRaises(Lost) as raised:
             writer.durable(position)
         self.assertEqual(raised.exception.position, position)
+
+
+class Overtaken(Named):
+    """Its generation is over before what it has committed was durable, and it writes that again, until another writer comes."""
+
+    def setUp(self) -> None:
+        super().setUp()
+        self.keepers.fate.side_effect = lambda place, position, *_: (
+            Fate(self.places[place.generation].kept, True) if place.generation < len(self.places) else Fate(position, False))  # fmt: skip
+        self.begin()
+        self.overtaken = self.writer()
+        for text in (b"1", b"2"):
+            self.overtaken.append(put(0, text))
+            self.overtaken.commit()
+        self.blocks = list(self.overtaken._tail)
+
+    def come(self) -> None:
+        """Another writer begins an epoch."""
+        self.of_run(pagelog.Operator, 1).failover(2)
+
+    def write_again(self, meanwhile: Callable[[], None], written: int) -> Any:
+        """In the next generation. So many blocks come into its log, and then the writer is told nothing but what this raises."""
+        harden = pagelog.Primary.harden
+
+        def hardened(primary: pagelog.Primary, blocks: Sequence[Any], **options: Any) -> Any:
+            list(harden(primary, list(blocks)[:written], **options))
+            meanwhile()
+            return iter(())
+
+        self.begin()
+        return patch.object(pagelog.Primary, "harden", hardened)
+
+    def test_what_a_failover_has_kept_of_it_is_not_lost(self) -> None:
+        def meanwhile() -> None:
+            self.come()
+            raise pagelog.OlderEpoch(pagelog.Section.A, 2, 3)
+
+        with self.write_again(meanwhile, 1), self.assertRaises(Lost) as raised:
+            self.overtaken.durable(2)
+        self.assertEqual((raised.exception.position, self.texts()), (2, [b"1"]))
+
+    def test_what_is_in_the_images_of_the_next_generation_is_not_lost(self) -> None:
+        """Another writer was faster there, by a hair."""
+        begun = NamedPrimary._begun
+
+        def meanwhile() -> None:
+            self.begin(kept=2)
+            with self.of_run(pagelog.Primary, 2) as images:
+                images.append(put(7, b"images"))
+                images.commit()
+                images.append(put(8, b"images"))
+                images.commit()
+            raise pagelog.ConnectionLost
+
+        def overtaken(*arguments: Any) -> Any:
+            if len(self.places) == 3:
+                self.come()
+            return begun(*arguments)
+
+        self.keepers.block.side_effect = lambda position: hashlib.sha256(self.blocks[position - 1].data).hexdigest()
+        with self.write_again(meanwhile, 2), patch.object(NamedPrimary, "_begun", overtaken):
+            self.overtaken.durable(2)
+        self.assertEqual((self.overtaken.durable_end, self.texts()), (2, [b"images"] * 2))
+        self.overtaken.append(put(0, b"3"))
+        self.assertRaises(pagelog.OlderEpoch, self.overtaken.commit)
 
 
 class Tokens(Named):

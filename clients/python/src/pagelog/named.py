@@ -195,6 +195,8 @@ class NamedPrimary(Following):
         except OutOfMemory as error:
             self._make_room(error)
         except (*GONE, *_DENIED) as error:
+            if isinstance(error, OlderEpoch):
+                self.end = max(self.end, self._primary.durable + shift)  # a failover keeps what was in a quorum of copies
             self._move(error)
 
     def _make_room(self, error: OutOfMemory) -> None:
@@ -254,8 +256,10 @@ class NamedPrimary(Following):
         return True
 
     def _count_at(self, place: Place) -> None:
-        """What of the blocks above the end is in the log, though no reply has said so."""
+        """What of the blocks above the end is in the log, though no reply has said so, or in the images that it began with."""
         try:
+            if self._lost_below(place) is not None:
+                return
             with Reader(self._connection(place), self._account.of(place)) as witness:
                 for block in [block for block in self._tail if block.lsn > self.end]:
                     if block.lsn > witness.status().hard + place.shift or not self._is_there(place, witness, block):
