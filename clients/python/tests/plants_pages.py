@@ -2,7 +2,7 @@
 
 from plant import Plant
 
-_FOLLOWING, _STORES, _C = "../pages/following", "../pages/stores", "../../../../pages"
+_FOLLOWING, _STORES, _COMPARING, _C = "../pages/following", "../pages/stores", "../pages/comparing", "../../../../pages"
 
 PLANTS = {
     "pages, a deleted store": Plant(_FOLLOWING, "        if where is not None and not (was_confirmed and where.confirmed):\n", "        if True:\n", "pages", "set_aside_named_and_read"),
@@ -50,4 +50,15 @@ PLANTS = {
                                   "is_held_back"),
     "pages, of any database": Plant("keeping", "        if database is None or of is None or of.database != database.row.identity:\n            line.say(\"elsewhere\", name, position",
                                     "        if database is None or of is None:\n            line.say(\"elsewhere\", name, position", "pages", "is_held_back"),
+    "pages compared, a base without its images": Plant(_COMPARING, "    for number in bases.ranges(base.position):\n        found.add(number)\n", "", "pages_compared", "two_are_alike"),
+    "pages compared, nothing behind a base": Plant(_COMPARING, "    for piece in bases.pieces(base.position + 1, position):\n",
+                                                   "    for piece in ():\n", "pages_compared", "two_are_alike"),
+    "pages compared, at the newest": Plant(_COMPARING, "    position = min(most, *(copy.last for copy in copies))\n",
+                                           "    position = min(copy.last for copy in copies)\n", "pages_compared", "two_are_alike"),
+    "pages compared, below the oldest": Plant(_COMPARING, "        if position < copy.oldest:\n", "        if False:\n", "pages_compared", "two_are_alike"),
+    "pages compared, whose is right": Plant("../desk/comparing_words", "position, service, told)", "position, None, told)", "pages_compared", "two_are_alike"),
+    "pages compared, one with itself": Plant("../desk/comparing_words", "            copies.append(service)\n", "            copies.append(copies[0])\n",
+                                             "pages_compared", "with_the_service"),
+    "pages compared, gone for good": Plant(_COMPARING, "    may_pass = True\n", "    may_pass = False\n", "pages_compared", "forgotten_meanwhile"),
+    "pages compared, a bit for two": Plant(_COMPARING, "1 << range % 8", "1 << range % 4", "pages_compared", "a_bit_each"),
 }  # fmt: skip
