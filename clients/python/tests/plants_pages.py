@@ -61,4 +61,24 @@ PLANTS = {
                                              "pages_compared", "with_the_service"),
     "pages compared, gone for good": Plant(_COMPARING, "    may_pass = True\n", "    may_pass = False\n", "pages_compared", "forgotten_meanwhile"),
     "pages compared, a bit for two": Plant(_COMPARING, "1 << range % 8", "1 << range % 4", "pages_compared", "a_bit_each"),
+    "pages by TLS, any client": Plant(f"{_C}/shown.c", "is_verified && has_name(", "is_verified | has_name(",
+                                      "pages_secured", "certificate_of_the_database"),
+    "pages by TLS, a name that begins so": Plant(f"{_C}/shown.c", "memcmp(text, name, (size_t)length) == 0;", "memcmp(text, name, 0) == 0;",
+                                                 "pages_secured", "certificate_of_the_database"),
+    "pages by TLS, never renewed": Plant(f"{_C}/shown.c", "    if (!has_changed) return;\n", "    if (!has_changed || shown->context) return;\n",
+                                         "pages_secured", "newest_certificate"),
+    "pages by TLS, no plain one is left out": Plant("../pages/process", "return NOWHERE if self.is_only else", "return", "pages_secured", "led_there_by_tls"),
+    "pages by TLS, told to all": Plant("rows", "    secure: str | None = None\n    \"\"\"The way to it by TLS, as `ways` reads it.\"\"\"\n\n"
+                                       "    def told(self, is_secure: bool) -> str | None:\n"
+                                       "        \"\"\"Its address, as it is told to who came by TLS or without.\"\"\"\n"
+                                       "        return address_for(self.address, way_of(self.secure, self.run), is_secure=is_secure)\n\n    @property\n    def is_gone",
+                                       "    secure: str | None = None\n\n    def told(self, is_secure: bool) -> str | None:\n        return self.address\n\n"
+                                       "    @property\n    def is_gone", "pages_secured", "led_to_plain_text"),
+    "pages by TLS, read in plain text": Plant("../page_copies", "attempts=1, trust=self._trust)", "attempts=1)", "pages_secured", "names_a_plain_one"),
+    "pages by TLS, a keeper in plain text": Plant("../pages/bell", "_ANSWER, self._trust)", "_ANSWER)", "pages_secured", "led_there_by_tls"),
+    "pages by TLS, a keeper's plain lines": Plant("../pages/following", "is_secure=self._settings.trust is not None)", "is_secure=False)", "pages_secured", "led_there_by_tls"),
+    "pages by TLS, for another host": Plant("../desk/pages_words", "    if not Pair.read(Path(file)).is_for(host):\n", "    if False:\n", "pages_secured", "says_amiss"),
+    "pages by TLS, a saved store in plain text": Plant("../desk/pages_words", "replace(serving, is_only=True)", "None", "pages_secured", "as_the_keepers_file"),
+    "pages by TLS, compared in plain text": Plant("../desk/comparing_words", "pages.told(self._trust is not None)", "pages.told(False) or pages.address",
+                                                  "pages_secured", "led_there_by_tls"),
 }  # fmt: skip

@@ -14,6 +14,7 @@ from pagelog.place import Keepers, PageServerPlace
 from pagelog.reader import Reader
 from pagelog.reply import Page
 from pagelog.rules import Denial, UnknownPrincipal
+from pagelog.secure import Trust
 
 Result = TypeVar("Result")
 _ANSWER = 1.0
@@ -27,9 +28,9 @@ _LEFT_OUT = 5.0
 class PageCopies:
     """Not for several threads at once."""
 
-    def __init__(self, keepers: Keepers, credentials: Callable[[str], Credentials]) -> None:
-        """`credentials` are those in a run."""
-        self._keepers, self._credentials = keepers, credentials
+    def __init__(self, keepers: Keepers, credentials: Callable[[str], Credentials], trust: Trust | None = None) -> None:
+        """`credentials` are those in a run. With `trust` all of them are reached by TLS."""
+        self._keepers, self._credentials, self._trust = keepers, credentials, trust
         self._known: list[PageServerPlace] = []
         self._asked = float("-inf")
         self._readers: dict[str, Reader] = {}
@@ -85,7 +86,8 @@ class PageCopies:
 
     def _reader(self, place: PageServerPlace) -> Reader:
         if place.run not in self._readers:
-            self._readers[place.run] = Reader(Connection(place.address, timeout=_ANSWER, attempts=1), self._credentials(place.run))
+            connection = Connection(place.address, timeout=_ANSWER, attempts=1, trust=self._trust)
+            self._readers[place.run] = Reader(connection, self._credentials(place.run))
         return self._readers[place.run]
 
     def _leave(self, place: PageServerPlace) -> None:

@@ -18,6 +18,7 @@ from pagelog.keeper.rows import Look, PagesRow, Row, TableOf
 from pagelog.keeper.table import keeper_of
 from pagelog.pages.comparing import Copy, compare, position_of_all, written
 from pagelog.reader import Reader
+from pagelog.secure import Trust
 
 
 def verify_pages(accounts: Accounts, name: str, last: int | None, as_json: bool) -> None:
@@ -27,7 +28,7 @@ def verify_pages(accounts: Accounts, name: str, last: int | None, as_json: bool)
         row = look.row(named(name))
         if row is None:
             fail(f"there is no database {name}")
-        asked = _Asked(row, referee.table(row.id), stack)
+        asked = _Asked(row, referee.table(row.id), accounts.trust, stack)
         copies = [asked.page_server(each) for each in _living(look, row)]
         if not copies:
             fail(f"{name} has no page server")
@@ -58,19 +59,22 @@ def _name(pages: PagesRow) -> str:
 class _Asked:
     """Who is asked, as the keepers' principal: its rows allow all of it."""
 
-    def __init__(self, row: Row, table: TableOf, stack: ExitStack) -> None:
-        self._row, self._secret, self._stack = row, table.secret, stack
+    def __init__(self, row: Row, table: TableOf, trust: Trust | None, stack: ExitStack) -> None:
+        self._row, self._secret, self._trust, self._stack = row, table.secret, trust, stack
 
     def page_server(self, pages: PagesRow) -> Copy:
-        reader = self._reader(pages.address, pages.run)
+        reader = self._reader(_name(pages), pages.told(self._trust is not None), pages.run)
         return Copy(_name(pages), reader, pages.oldest, reader.status().hard)
 
     def service(self) -> Copy:
         """That of the row, which has an address."""
         row = self._row
-        assert row.address is not None and row.run is not None
-        return Copy(f"service {row.run} at {row.address}", self._reader(row.address, row.run), row.images, row.archived, row.shift)
+        assert row.run is not None
+        name = f"service {row.run} at {row.address}"
+        return Copy(name, self._reader(name, row.told(self._trust is not None), row.run), row.images, row.archived, row.shift)
 
-    def _reader(self, address: str, run: str) -> Reader:
-        connection = Connection(address, timeout=timeout(), attempts=8)
+    def _reader(self, name: str, address: str | None, run: str) -> Reader:
+        if address is None:
+            fail(f"{name} is reached {'without' if self._trust is not None else 'by'} TLS alone")
+        connection = Connection(address, timeout=timeout(), attempts=8, trust=self._trust)
         return self._stack.enter_context(Reader(connection, keeper_of(self._secret, self._row.name, run)))
