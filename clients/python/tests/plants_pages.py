@@ -19,6 +19,7 @@ PLANTS = {
                                               "        self._look()\n        self._set_table(self._archived)\n        self._fill()\n", "pages", "never_confirmed"),
     "pages, without a second chance": Plant("../named_reader", "                if (copied := self._copied(numbers, at)) is None:\n                    raise\n",
                                             "                if (copied := None) is None:\n                    raise\n", "pages", "do_without_it"),
+    "pages, one that stands still": Plant("../page_copies", "        self._ask_again()\n        return self._first", "        return self._first", "pages", "one_that_lives"),
     "pages, chain not compared": Plant(f"{_C}/store_write.c", "(store->chain.length != CHAIN_BYTES || memcmp(chain, store->chain.bytes, CHAIN_BYTES) != 0)", "store->chain.length > CHAIN_BYTES", "pages", "another_chain"),
     "pages, half a base": Plant(f"{_C}/store.c", "    if (!has_rows) return true;\n", "    if (!has_rows || !*why) return true;\n", "pages", "begins_with_images"),
     "pages, records of the filter": Plant(f"{_C}/store_forget.c", "key[PAGE_KEY - 1] == IMAGE ||", "true ||", "pages", "is_forgotten_goes"),
