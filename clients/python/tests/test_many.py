@@ -13,6 +13,7 @@ from typing import Any, Callable, Iterator
 from unittest.mock import patch
 
 import psycopg
+from psycopg.waiting import Ready, Wait
 
 from keepers import Gate, Keeping, Kept, Tried, batch_of, blocks, eventually
 from pagelog.keeper import hosts, quick_calls
@@ -338,13 +339,13 @@ class Waits(unittest.TestCase):
         told: list[int] = []
 
         def steps() -> Iterator[int]:
-            told.append((yield hosts.Wait.W))  # a pipe that nobody writes to can take something
+            told.append((yield Wait.W))  # a pipe that nobody writes to can take something
             os.write(right, b"x")
-            told.append((yield hosts.Wait.RW))
+            told.append((yield Wait.RW))
             return 2
 
         def read() -> Iterator[int]:
-            told.append((yield hosts.Wait.R))
+            told.append((yield Wait.R))
             return 3
 
         writes: Callable[[], Any] = steps
@@ -353,7 +354,7 @@ class Waits(unittest.TestCase):
             waits = thread.submit(hosts.wait_by_poll, reads(), left, 0.001)
             self.assertEqual(hosts.wait_by_poll(writes(), right), 2)
             self.assertEqual(waits.result(PATIENCE), 3)
-        self.assertEqual(sorted(told), [hosts.Ready.R, hosts.Ready.W, hosts.Ready.W])
+        self.assertEqual(sorted(told), [Ready.R, Ready.W, Ready.W])
 
 
 @unittest.skipUnless(IS_LONG, "PAGELOG_TEST_LONG is not set")

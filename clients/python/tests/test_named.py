@@ -416,7 +416,7 @@ class Unopened(Saying):
         self.next_asked = lambda: None if len(self.asked) == 1 else self.served.open()  # type: ignore[method-assign]
         with patch("pagelog.place._HELD", 0.01):
             self.commit()
-        self.assertEqual(sorted(self.asked), [1, 2])  # the first question was given up, and may be read after the second
+        self.assertEqual((self.asked.count(1), set(self.asked)), (1, {1, 2}))  # how often for the next one is a matter of time
 
 
 class Left(Saying):
