@@ -31,6 +31,7 @@ PARTS = {
     "test_reader": "readers, page servers and operators",
     "test_credentials": "credentials",
     "test_archive": "archives, whole up to their LSN",
+    "test_engine": "the databases of archives, by their drivers",
     "test_care": "damaged archives, and files and URLs that are wrong",
     "test_ends": "what fills, hangs or is told to end",
     "test_followers": "archivers that are killed, cut off and told to end",
