@@ -64,6 +64,11 @@ class Alone(Read):
         self.both(self.enter(1, 2, 3))
         reader = self.reading(page_servers="only")
         self.assertEqual(self.numbers(reader), [1, 2, 3])
+        pid = self.keeping.pid()
+        self.keeping.kill("a", signal.SIGSTOP)
+        os.kill(pid, signal.SIGKILL)  # of no service it asks anything
+        self.assertEqual(self.numbers(reader), [1, 2, 3])
+        self.keeping.kill("a", signal.SIGCONT)
         self.enter(4)
         eventually(lambda: self.numbers(reader) == [1, 2, 3, 4], "what is durable since")
         self.superseded()
@@ -113,22 +118,32 @@ class Behind(Read):
     """One of two stands still, and keepers call it alive for a while yet."""
 
     def new_keeping(self) -> Keeping:
-        return Keeping(ttl=20.0, standby=False)
+        return Keeping(ttl=60.0, standby=False)
+
+    def told(self) -> set[str]:
+        """The runs of those that keepers call alive, who look now."""
+        self.keeping.ring()
+        with closing(self.keeping.keepers()) as keepers:
+            return {each.run for each in keepers.page_servers() or ()}
 
     def test_nobody_goes_back(self) -> None:
-        still, position = self.apart(), self.enter(1)
-        eventually(lambda: self.at("there").position >= position, "the first one")
-        servers = self.servers()
+        servers, position = self.servers(), self.enter(1)
+        eventually(lambda: self.at("here").position >= position, "the first one")
+        eventually(lambda: len(self.told()) == 1, "that it is told")
+        reader = self.reading(page_servers="only", move=3000)
+        eventually(lambda: self.numbers(reader) == [1], "what it has")
+        still = self.apart()
+        eventually(lambda: self.at("there").position >= position, "the second one")
+        eventually(lambda: len(self.told()) == 2, "that both are told")
         still.send_signal(signal.SIGSTOP)  # its program goes on answering
         position = self.enter(2)
-        eventually(lambda: self.at("here").position >= position, "the second one")
-        reader = self.reading(page_servers="only", move=3000)
-        eventually(lambda: self.numbers(reader) == [1, 2], "all of it, there")
+        eventually(lambda: self.numbers(reader) == [1, 2], "all of it, at the first one")
         servers.end()
         for _, thread in list(servers._running.values()):
             thread.join()
         with self.assertRaises(sqlite3.OperationalError):
             self.numbers(reader)
+        self.assertIn(self.at("there").run, self.told())
         still.send_signal(signal.SIGCONT)
         eventually(lambda: self.at("there").position >= position, "that it has followed")
         self.assertEqual(self.numbers(reader), [1, 2])
