@@ -19,6 +19,8 @@ PLANTS = {
                                               "        self._look()\n        self._set_table(self._archived)\n        self._fill()\n", "pages", "never_confirmed"),
     "pages, without a second chance": Plant("../named_reader", "                if (copied := self._copied(numbers, at)) is None:\n                    raise\n",
                                             "                if (copied := None) is None:\n                    raise\n", "pages", "do_without_it"),
+    "pages, begun by half": Plant(_FOLLOWING, "        self._stop()\n        self._has_begun = False\n", "        self._stop()\n        self._has_begun = True\n", "pages",
+                                  "once_postgresql_is_there"),
     "pages, one that stands still": Plant("../page_copies", "        self._ask_again()\n        return self._first", "        return self._first", "pages", "one_that_lives"),
     "pages of SQLite, one that stands still": Plant("c/pagelog_paged.c", "return is_alive(file) ? PAGELOG_DONE : pagelog_move(file, PAGELOG_LOST);", "return PAGELOG_DONE + 0 * is_alive(file);",
                                                     "pages_sqlite", "stands_still"),
