@@ -919,6 +919,7 @@ end:
                     // note_durable(file, place.archived);
                     // return file->options.durable_only && !file->options.at ? hurry(file) : PAGELOG_DONE;
 // pagelog_named.c: pagelog_limit_of
+                    // ..
                     // return file->options.durable_only ? lsn_of(file, file->named.durable) : UINT64_MAX;
 #ifdef SEES_WHAT_IS_NOT_DURABLE
 #define LIMIT LAST

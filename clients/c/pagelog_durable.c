@@ -193,6 +193,7 @@ enum pagelog_outcome pagelog_file_reach(struct pagelog_file *file, uint64_t posi
     struct pagelog_file_patience patience = pagelog_file_patience(file);
     file->reason = NULL;
     if (position <= named->durable) return PAGELOG_DONE;
+    if (named->place.is_page_server) return pagelog_reach_at_page_server(file, position);
     while (named->durable < position) {
         struct pagelog_place place = named->place;
         struct pagelog_fate fate;
@@ -236,6 +237,7 @@ enum pagelog_outcome pagelog_glance(struct pagelog_file *file) {
     struct named *named = &file->named;
     struct pagelog_place place;
     uint64_t now = pagelog_now();
+    if (named->place.is_page_server) return pagelog_look_at_page_server(file);
     bool was_suspect = named->is_suspect, has_tail = !pagelog_tail_is_empty(&named->tail);
     bool is_wanted = was_suspect || (has_tail && now - named->glanced >= GLANCE_MS);
     if (!is_wanted && !file->options.durable_only && !named->is_closing) return PAGELOG_DONE;

@@ -31,6 +31,10 @@ enum { PAGELOG_NAME_BYTES = 255 }; /* of a database's name, at most */
 
 struct pagelog_file;
 
+/* Whether a reader goes to page servers: for positions that the service does not have any more; never; or
+ * alone, and then all that it reads is durable. */
+enum pagelog_pages { PAGELOG_PAGES_FOR_OLDER, PAGELOG_PAGES_NEVER, PAGELOG_PAGES_ONLY };
+
 struct pagelog_file_options {
     struct pagelog_options service;
     bool reads_only; /* a secondary: it follows what others commit */
@@ -55,8 +59,9 @@ struct pagelog_file_options {
      * copied; NULL: the service has the address of `service`. Positions take the place of LSNs in `at`. A
      * writer needs an operator, and its principal has to be allowed to act as a secondary. */
     const char *keepers, *database_name;
-    unsigned move_ms;  /* how long a call waits for a generation that it can go on in; 0: 30,000 */
-    bool durable_only; /* a reader of a named database sees nothing that could still be lost */
+    unsigned move_ms;         /* how long a call waits for a generation that it can go on in; 0: 30,000 */
+    bool durable_only;        /* a reader of a named database sees nothing that could still be lost */
+    enum pagelog_pages pages; /* whether such a reader goes to its page servers */
 };
 
 struct pagelog_file_state {

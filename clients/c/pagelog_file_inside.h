@@ -67,6 +67,7 @@ struct named {
     bool is_closing;     /* that was the keeper, which closes the generation */
     const char *dropped; /* why the database is no more, and nothing goes on; NULL: it is there */
     const char *lost;    /* why commits were lost, until a begin; NULL: another writer has gone on */
+    uint64_t shown;      /* position: of the newest transaction that was read at a page server */
     bool is_accepted;    /* the service of this run has answered: it knows the principal */
     uint64_t refused;    /* when that of this run said first that it does not; 0: it has not */
     bool is_superseded;  /* PostgreSQL went on without the run that the file is in: another place is to be had

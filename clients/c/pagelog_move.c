@@ -66,6 +66,10 @@ static void give_up_transaction(struct pagelog_file *file) {
     file->named.given_up++;
 }
 
+void pagelog_give_up_transaction(struct pagelog_file *file) {
+    give_up_transaction(file);
+}
+
 static uint64_t carried(uint64_t lsn, int64_t by) {
     int64_t now = (int64_t)lsn + by;
     return lsn == 0 || now < 0 ? 0 : (uint64_t)now;
@@ -92,7 +96,7 @@ static enum pagelog_outcome enter(struct pagelog_file *file, const struct pagelo
     carry(file, named->place.shift - place->shift);
     if (named->has_place) named->moves++;
     named->place = *place;
-    pagelog_keepers_are_of(named->keepers, place);
+    if (!place->is_page_server) pagelog_keepers_are_of(named->keepers, place);
     named->has_place = named->is_between = true;
     if (!is_same_run) {
         named->is_accepted = false;
@@ -391,6 +395,13 @@ static enum pagelog_outcome refuse_principal(struct pagelog_file *file) {
     return pagelog_refuse_token(file, "principal", file->options.service.principal);
 }
 
+/* Whether the file is at a page server that has less than another one has shown. */
+static bool is_behind(const struct pagelog_file *file, uint64_t end) {
+    const struct named *named = &file->named;
+    bool lacks_transaction = !named->is_gone && file->mark.lsn > end;
+    return named->place.is_page_server && (end < named->shown || lacks_transaction);
+}
+
 /* Goes on in the generation that the file is in. What is LOST is tried again, there or in the next one. */
 static enum pagelog_outcome go_on(struct pagelog_file *file) {
     struct named *named = &file->named;
@@ -399,6 +410,7 @@ static enum pagelog_outcome go_on(struct pagelog_file *file) {
     if (outcome == PAGELOG_DENIED && pagelog_refused(file->log)->section == SECTION_B)
         return pagelog_file_fail(file, outcome, "the principal has to be allowed to read as a secondary");
     if (outcome == PAGELOG_DENIED && pagelog_is_unknown_principal(file)) return refuse_principal(file);
+    if (outcome == PAGELOG_DONE && is_behind(file, status.hard)) return PAGELOG_LOST;
     if (outcome == PAGELOG_DONE) named->is_accepted = true;
     if (outcome == PAGELOG_DONE) outcome = learn_end(file);
     if (outcome == PAGELOG_DONE) outcome = settle_tail(file, &status);
@@ -429,6 +441,22 @@ static enum pagelog_outcome ask_own_fate(struct pagelog_file *file) {
     return PAGELOG_LOST;
 }
 
+/* Goes to one of the page servers. LOST where none can be used. */
+static enum pagelog_outcome go_to_page_server(struct pagelog_file *file,
+                                              const struct pagelog_place *service) {
+    struct pagelog_place found[PAGELOG_MOST_PAGE_SERVERS];
+    size_t count = pagelog_page_server_places(file, service, found);
+    enum pagelog_outcome outcome = PAGELOG_LOST;
+    for (size_t i = 0; i < count && outcome != PAGELOG_DONE; i++) {
+        outcome = enter(file, &found[i]);
+        if (outcome == PAGELOG_DONE) outcome = go_on(file);
+        bool is_decided = file->reason && file->options.pages == PAGELOG_PAGES_ONLY;
+        if (outcome == PAGELOG_NO_MEMORY || is_decided) return outcome;
+        if (outcome != PAGELOG_DONE) file->reason = NULL; /* the service decides */
+    }
+    return outcome == PAGELOG_DONE ? outcome : PAGELOG_LOST;
+}
+
 /* One try: to the place that the keepers say, if it is another one, and on from there. */
 static enum pagelog_outcome try_to_move(struct pagelog_file *file, bool is_over) {
     struct named *named = &file->named;
@@ -438,8 +466,14 @@ static enum pagelog_outcome try_to_move(struct pagelog_file *file, bool is_over)
     enum pagelog_outcome outcome = pagelog_where(named->keepers, least, &place);
     if (outcome == PAGELOG_DENIED) return pagelog_take_denial(file);
     if (outcome != PAGELOG_DONE) return outcome;
+    if (pagelog_wants_page_server(file, &place)) {
+        bool is_alone = file->options.pages == PAGELOG_PAGES_ONLY;
+        outcome = go_to_page_server(file, &place);
+        if (outcome != PAGELOG_LOST || is_alone) return outcome;
+    }
     bool is_same = named->has_place && strcmp(place.run, named->place.run) == 0;
     bool is_other = !named->has_place || place.generation > least || (named->is_superseded && !is_same);
+    is_other |= named->place.is_page_server;
     if (!is_other && !is_same) return ask_own_fate(file);
     is_over |= named->is_superseded;
     if (!is_other && (is_over || pagelog_is_restarted(file->log))) return PAGELOG_LOST;
@@ -475,6 +509,7 @@ static void leave_if_full(struct pagelog_file *file, struct leaving *leaving) {
 static enum pagelog_outcome give_up_move(struct pagelog_file *file, const struct leaving *leaving) {
     static const struct pagelog_reply no_memory = {.kind = PAGELOG_REPLY_NO_MEMORY};
     const char *why = pagelog_explain_wait(file, "no generation could be used in time", "");
+    file->named.shown = 0; /* it was told once: PostgreSQL may have gone back */
     if (leaving->is_full) why = "the service has no memory left, and no other has followed it in time";
     if (leaving->cause == PAGELOG_NO_MEMORY) pagelog_restore(file->log, leaving->cause, &no_memory);
     return pagelog_file_fail(file, may_be_there(&file->named) ? PAGELOG_IN_DOUBT : leaving->cause, why);

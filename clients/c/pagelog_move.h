@@ -71,6 +71,25 @@ enum pagelog_outcome pagelog_arrive(struct pagelog_file *file);
 /* As pagelog_move, where the keepers have said that the generation which the file is in is over. */
 enum pagelog_outcome pagelog_move_on(struct pagelog_file *file);
 
+/* Whether a reader goes to a page server in place of the service of this place: it is to ask no other, or
+ * what it reads is from before the base there. */
+bool pagelog_wants_page_server(const struct pagelog_file *file, const struct pagelog_place *place);
+
+/* The page servers that have what the file reads, but for the one that it is at, as places beside the one of
+ * the service. */
+size_t pagelog_page_server_places(struct pagelog_file *file, const struct pagelog_place *service,
+                                  struct pagelog_place found[PAGELOG_MOST_PAGE_SERVERS]);
+
+/* At the begin of a transaction of a file that is at a page server: whether it may stay there. It leaves one
+ * that no keeper calls alive. DONE, or as of a move. */
+enum pagelog_outcome pagelog_look_at_page_server(struct pagelog_file *file);
+
+/* The same as pagelog_file_reach, of one that is at a page server. */
+enum pagelog_outcome pagelog_reach_at_page_server(struct pagelog_file *file, uint64_t position);
+
+/* The transaction that was read cannot be had any more. */
+void pagelog_give_up_transaction(struct pagelog_file *file);
+
 /* Takes the blocks that were ended into the tail. Where that is full it waits until a part is durable; LOST
  * where that cannot be had. After any outcome but DONE they are not in the tail, and must not be sent. */
 enum pagelog_outcome pagelog_hold_blocks(struct pagelog_file *file);

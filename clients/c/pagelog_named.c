@@ -18,6 +18,7 @@ enum { MOST_HELD = 1024 };
 /* ---- What is read ---- */
 
 uint64_t pagelog_limit_of(const struct pagelog_file *file) {
+    if (file->named.place.is_page_server) return UINT64_MAX; /* all that it has is durable */
     return file->options.durable_only ? lsn_of(file, file->named.durable) : UINT64_MAX;
 }
 

@@ -262,6 +262,11 @@ static void read_before(char **words, size_t count, struct pagelog_place *place)
     snprintf(place->after, sizeof place->after, "%s", after ? after : "");
     if (count < 10 || !read_number(words[9], &place->kept)) place->kept = 0;
     if (!copied || !read_number(copied, &place->copied)) place->copied = 0;
+    const char *pages = value_of(words, count, "pages");
+    uint64_t servers = 0;
+    if (pages && !read_number(pages, &servers)) servers = 0;
+    place->pages = servers < PAGELOG_MOST_PAGE_SERVERS ? (unsigned)servers : PAGELOG_MOST_PAGE_SERVERS;
+    place->is_page_server = false;
 }
 
 /* at NAME GENERATION RUN ADDRESS ARCHIVED LINES BASE SHIFT KEPT .. of=DATABASE/RUN */
@@ -488,6 +493,38 @@ enum pagelog_outcome pagelog_fate_at_once(struct pagelog_keepers *keepers, const
                                           uint64_t position, uint64_t ms, struct pagelog_fate *fate) {
     struct pagelog_line *holder = find_keeper(keepers, place->lines);
     return holder && ask_fate(keepers, holder, place, position, ms, fate) ? PAGELOG_DONE : PAGELOG_LOST;
+}
+
+/* pages NAME, and of each ADDRESS RUN POSITION OLDEST */
+static size_t read_page_servers(char **words, size_t count,
+                                struct pagelog_page_server found[PAGELOG_MOST_PAGE_SERVERS]) {
+    size_t read = 0;
+    for (size_t at = 2; at + 4 <= count && read < PAGELOG_MOST_PAGE_SERVERS; at += 4) {
+        struct pagelog_page_server *server = &found[read];
+        bool is_one = copy_word(server->address, sizeof server->address, words[at]) &&
+                      copy_word(server->run, sizeof server->run, words[at + 1]) &&
+                      read_number(words[at + 2], &server->position) &&
+                      read_number(words[at + 3], &server->oldest);
+        if (!is_one) break;
+        read++;
+    }
+    return read;
+}
+
+enum pagelog_outcome pagelog_page_servers(struct pagelog_keepers *keepers,
+                                          struct pagelog_page_server found[PAGELOG_MOST_PAGE_SERVERS],
+                                          size_t *count) {
+    char line[LINE_BYTES], answer[PAGELOG_LINE_BYTES], *words[MOST_WORDS];
+    bool is_told = false;
+    snprintf(line, sizeof line, "pages %s of=%s\n", keepers->name, keepers->own.database);
+    *count = 0;
+    for (size_t i = 0; i < keepers->count && *count == 0; i++) {
+        size_t length = ask_one(keepers, &keepers->keepers[i], line, ANSWER_MS, answer, words);
+        bool is_answer = length >= 2 && strcmp(words[0], "pages") == 0;
+        is_told |= is_answer;
+        if (is_answer) *count = read_page_servers(words, length, found);
+    }
+    return is_told ? PAGELOG_DONE : PAGELOG_LOST;
 }
 
 /* Nothing answers `full` itself: the answer that is waited for is that of the line after it. */

@@ -20,6 +20,7 @@ enum {
     PAGELOG_RUN_BYTES = 80,      /* of the name of a run, with the 0 at its end */
     PAGELOG_IDENTITY_BYTES = 40, /* of what no other database ever has, with the 0 at its end */
     PAGELOG_MOST_KEEPERS = 16,
+    PAGELOG_MOST_PAGE_SERVERS = 8, /* that are told of one database */
 };
 
 /* The principal of the keepers, which no table of a named database lists. */
@@ -39,6 +40,14 @@ struct pagelog_place {
     int64_t shift;
     uint64_t kept, copied; /* positions: where the run before ended; and up to which the database began as a
                             * copy, whose marks are those of others. 0: with nothing */
+    unsigned pages;        /* how many page servers the database has */
+    bool is_page_server;   /* this is one of them: its LSNs are positions, and all that it has is durable */
+};
+
+/* A page server: it has pages at positions from `oldest` to `position`, or a later one by now. */
+struct pagelog_page_server {
+    char address[PAGELOG_PLACE_BYTES], run[PAGELOG_RUN_BYTES];
+    uint64_t position, oldest;
 };
 
 /* Why a run is lost. */
@@ -129,6 +138,12 @@ enum pagelog_outcome pagelog_fate_of(struct pagelog_keepers *keepers, const char
 /* The same, as the holder's keeper alone says within so many milliseconds. */
 enum pagelog_outcome pagelog_fate_at_once(struct pagelog_keepers *keepers, const struct pagelog_place *place,
                                           uint64_t position, uint64_t ms, struct pagelog_fate *fate);
+
+/* The page servers of the database whose clients these are that live, those first that have most. LOST: no
+ * keeper answers. */
+enum pagelog_outcome pagelog_page_servers(struct pagelog_keepers *keepers,
+                                          struct pagelog_page_server found[PAGELOG_MOST_PAGE_SERVERS],
+                                          size_t *count);
 
 /* Tells the keeper of a place that its service had no memory: it begins the next generation, if it may. */
 void pagelog_keepers_tell_full(struct pagelog_keepers *keepers, const struct pagelog_place *place);

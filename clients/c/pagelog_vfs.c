@@ -52,6 +52,8 @@
  *   name=NAME        what they call it. A writer needs `op`, and has to be allowed to read as a secondary
  *   move=MS          how long a call waits for a generation that it can go on in; 30000
  *   durable=1        a secondary that sees nothing that could still be lost
+ *   page_servers=W   older: a secondary goes to one for what is from before the base of the generation, as
+ *                    `at` or the transaction that it reads; only: and for all, so that all is durable; never
  *
  * There `at` is a position, and synchronous=full and extra say that a COMMIT waits until the archive has it;
  * normal, until the service has, and a close waits for the archive. What was acknowledged and is not durable
@@ -82,7 +84,7 @@
  *                        time; with the extended code 269 the audit list is
  *   SQLITE_PERM          the table denies it, or there is no such database
  *   SQLITE_PROTOCOL      another session writes in this epoch, or what answers is no such service; of a named
- *                        database: `at` is a position below the base of the generation
+ *                        database: `at` is below the base of the generation, and no page server has it
  *   SQLITE_NOTADB        another client has written page 0 of the database; SQLite's log and the pragma below
  *                        say from which `at` it can still be read
  *   SQLITE_MISUSE        the URI lacks a parameter, or has one that is unknown or cannot be read, as the name

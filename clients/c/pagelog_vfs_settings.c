@@ -17,11 +17,12 @@ enum { MOST_ENTRIES = 1 << 24 };
 
 /* The parameters of a URI: these, and SQLite's own. */
 static const char *const known[] = {
-    "to",    "db",      "id",       "token",         "op",          "optoken", "mode",
-    "at",    "check",   "stale",    "pages",         "copies",      "quorum",  "written",
-    "spin",  "timeout", "patience", "async_commits", "credentials", "audit",   "vfs",
-    "cache", "psow",    "nolock",   "immutable",     "modeof",      "where",   "name",
-    "move",  "durable", "errors",   "sslmode",       "sslrootcert", "sslcert", "sslkey"};
+    "to",          "db",      "id",          "token",   "op",       "optoken",
+    "mode",        "at",      "check",       "stale",   "pages",    "copies",
+    "quorum",      "written", "spin",        "timeout", "patience", "async_commits",
+    "credentials", "audit",   "vfs",         "cache",   "psow",     "nolock",
+    "immutable",   "modeof",  "where",       "name",    "move",     "durable",
+    "errors",      "sslmode", "sslrootcert", "sslcert", "sslkey",   "page_servers"};
 
 /* Opens a file of credentials. NULL where it cannot be read, and where others may read it, as `*is_shared`
  * says. */
@@ -160,6 +161,17 @@ static bool is_shown_or_hidden(sqlite3_filename uri) {
     return !find_setting(uri, "errors", text) || strcmp(text, shown) == 0 || strcmp(text, hidden) == 0;
 }
 
+/* Whether a reader goes to page servers; false where it says something else. */
+static bool read_pages(sqlite3_filename uri, enum pagelog_pages *pages) {
+    static const char *const words[] = {
+        [PAGELOG_PAGES_FOR_OLDER] = "older", [PAGELOG_PAGES_NEVER] = "never", [PAGELOG_PAGES_ONLY] = "only"};
+    char text[VALUE_BYTES];
+    bool is_known = !find_setting(uri, "page_servers", text);
+    for (unsigned i = 0; i < sizeof words / sizeof *words && !is_known; i++)
+        if ((is_known = strcmp(text, words[i]) == 0)) *pages = (enum pagelog_pages)i;
+    return is_known;
+}
+
 /* Where the database is: the name of the first setting that is wrong, or NULL. */
 static const char *read_place(sqlite3_filename uri, struct pagelog_file_options *options,
                               struct settings *settings) {
@@ -171,6 +183,7 @@ static const char *read_place(sqlite3_filename uri, struct pagelog_file_options 
     if (!find_setting(uri, "name", settings->name) || !*settings->name) return "name";
     if (!read_setting(uri, "move", MOST_MS, &move)) return "move";
     if (!read_setting(uri, "durable", 1, &durable)) return "durable";
+    if (!read_pages(uri, &options->pages)) return "page_servers";
     options->keepers = settings->address;
     options->database_name = settings->name;
     options->move_ms = (unsigned)move;

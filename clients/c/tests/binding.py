@@ -354,7 +354,8 @@ DATABASE = "00000000-0000-4000-8000-000000000001"  # of a stub, by default
 
 class Place(Structure):
     _fields_ = [("generation", c_uint64), ("database", ctypes.c_char * 40), ("ancestor", ctypes.c_char * 256), ("run", ctypes.c_char * 80), ("after", ctypes.c_char * 80), ("address", ctypes.c_char * 256), ("lines", ctypes.c_char * 256),
-                ("archived", c_uint64), ("base", c_uint64), ("shift", ctypes.c_int64), ("kept", c_uint64), ("copied", c_uint64)]
+                ("archived", c_uint64), ("base", c_uint64), ("shift", ctypes.c_int64), ("kept", c_uint64), ("copied", c_uint64),
+                ("pages", c_uint), ("is_page_server", c_bool)]
 
 
 class Fate(Structure):
@@ -424,7 +425,7 @@ class FileOptions(Structure):
     _fields_ = [("service", Options), ("reads_only", c_bool), ("has_operator", c_bool), ("operator", c_uint32),
                 ("operator_token", Token), ("written", c_uint), ("unwaited", c_uint), ("check_ms", c_uint), ("cache_pages", c_size_t),
                 ("at", c_uint64), ("may_be_stale", c_bool), ("name", c_char_p), ("keepers", c_char_p), ("database_name", c_char_p),
-                ("move_ms", c_uint), ("durable_only", c_bool)]
+                ("move_ms", c_uint), ("durable_only", c_bool), ("pages", c_uint)]
 
 
 class State(Structure):

@@ -91,6 +91,20 @@ static void read_answer(const char *answer) {
     }
 }
 
+static void read_servers(const char *answer) {
+    char copy[PAGELOG_LINE_BYTES], *words[MOST_WORDS];
+    struct pagelog_page_server found[PAGELOG_MOST_PAGE_SERVERS];
+    strcpy(copy, answer);
+    size_t count = read_page_servers(words, split(copy, words), found);
+    must("there is room for all", count <= PAGELOG_MOST_PAGE_SERVERS);
+    for (size_t i = 0; i < count; i++) {
+        must_fit(found[i].address, sizeof found[i].address);
+        must_fit(found[i].run, sizeof found[i].run);
+        must("its positions are numbers",
+             found[i].position <= PAGELOG_LAST_LSN && found[i].oldest <= PAGELOG_LAST_LSN);
+    }
+}
+
 static void read_address(const char *answer) {
     static struct pagelog_line line;
     size_t length = strlen(answer);
@@ -118,6 +132,7 @@ int LLVMFuzzerTestOneInput(const uint8_t *bytes, size_t size) {
         must("the same answer", strcmp(whole.answers[i], pieces.answers[i]) == 0);
         read_answer(whole.answers[i]);
         read_address(whole.answers[i]);
+        read_servers(whole.answers[i]);
     }
     return 0;
 }

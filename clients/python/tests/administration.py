@@ -20,21 +20,25 @@ from typing import Any
 HERE = Path(__file__).resolve().parent
 sys.path[:0] = [str(HERE), str(HERE.parent / "src")]
 
+import pages_program  # noqa: E402
 import torture_pages  # noqa: E402
 import torture_sqlite  # noqa: E402
 from by_tls import VARIABLE  # noqa: E402
 from secured import Certificates  # noqa: E402
 from service import PATIENCE  # noqa: E402
 from torture_check import BOUND, Check, Drop, Past, Restored  # noqa: E402
+from torture_copies import MACHINES, Servers  # noqa: E402
 from torture_faults import Faults, slowness  # noqa: E402
 from torture_notes import STOP, Job, fail_loudly, notes_of, now  # noqa: E402
-from torture_rig import KINDS, SUBCOMMANDS, Called, Counts, Keepers, load_subcommands  # noqa: E402
+from torture_rig import KINDS, SUBCOMMANDS, Called, Counts, Keepers, environment, load_subcommands  # noqa: E402
 
 NAMES = ("s1", "s2", "s3", "p1", "p2")
 WRITERS = (("full", "s1.full", ""), ("normal", "s1.normal", ""), ("behind", "s2.behind", ""), ("pool", "s2.pool", ""), ("forks", "s2.forks", ""),
            ("attached", "s3.attached", "s1"), ("writes", "p1.writes-0", ""), ("writes", "p1.writes-1", ""), ("groups", "p2.groups-0", ""))  # fmt: skip
 READERS = (("readers", "s1.readers", ""), ("readers", "s2.readers", ""), ("readers", "s3.readers", ""),
            ("page_readers", "p1.readers", "p1.writes-0 p1.writes-1"), ("page_readers", "p2.readers", "p2.groups-0"))  # fmt: skip
+PAGED = ("p1", "p2")
+"""Those of Python's clients have page servers."""
 BY_TLS = "--tls"
 CLIENTS = torture_sqlite.KINDS | torture_pages.KINDS
 QUIET = 25.0
@@ -64,6 +68,9 @@ class Segment:
             stack.callback(self.postgres.stop)
             self.keepers = Keepers(self.folder, self.postgres.kept_url, self.kind, trail=self.chance.random() < 0.5)
             stack.callback(self.keepers.stop)
+            self.pages = self._made_pages()
+            if self.pages is not None:
+                stack.callback(self.pages.stop)
             stack.callback(self._kill_clients)
             self._begin()
             began, slow = now(), slowness()
@@ -84,8 +91,22 @@ class Segment:
         deadline = now() + PATIENCE
         while not all(facts.get("state") == "serving" for facts in (self.kept() or {"": {}}).values()):
             assert now() < deadline, "no keeper serves"
+        if self.pages is not None:
+            self.pages.start()
         for kind, who, other in (*WRITERS, *READERS):
             self.start_client(kind, who, other)
+
+    def _made_pages(self) -> Servers | None:
+        """Two page servers, where their program is built."""
+        if torture_pages.PAGE_SERVERS not in os.environ:
+            return None
+        return Servers(self.folder / "pages", self.folder, self.keepers.file_of("a"), PAGED, environment(), self.chance)
+
+    def start_what_ended(self) -> None:
+        """Keepers and page servers."""
+        self.keepers.start_what_ended()
+        if self.pages is not None:
+            self.pages.start()
 
     def start_client(self, kind: str, who: str, other: str) -> subprocess.Popen[bytes]:
         job = Job(self.folder, self.keepers.addresses, who.partition(".")[0], who, self.seed, other)
@@ -152,7 +173,7 @@ class Segment:
             for name, (subcommand, called) in calls:
                 self.finish(name, subcommand, called, death)
             strike.after()
-        self.keepers.start_what_ended()
+        self.start_what_ended()
 
     def begin(self, name: str, death: str, facts: dict[str, Any] | None) -> tuple[str, Called | None]:
         subcommand = self.counts.rarest(self.possible(name, facts), death, self.kind, self.chance)
@@ -193,7 +214,7 @@ class Segment:
 
     def heal(self) -> None:
         self.keepers.kill("copy")
-        self.keepers.start_what_ended()
+        self.start_what_ended()
         deadline = now() + PATIENCE
         while (kept := self.kept()) is None:
             assert now() < deadline, "PostgreSQL is down"
@@ -254,6 +275,25 @@ class Segment:
             writers = " ".join(who for _, who, _ in WRITERS if who.startswith(name))
             if self.start_client(kind, f"{name}.final", writers if kind == "page_final" else "").wait(PATIENCE) != 0:
                 self.stuck.append(f"nobody can look at {name} in the end")
+        for name in PAGED if self.pages is not None else ():
+            self._compare_pages(name)
+
+    def _compare_pages(self, name: str) -> None:
+        """Both page servers have all that is archived, and the same pages."""
+        deadline = now() + PATIENCE
+        while not self._have_all(facts := (self.kept() or {}).get(name, {})):
+            if now() > deadline:
+                return self.stuck.append(f"page servers of {name} lack something: {facts.get('archived')}, {facts.get('page_servers')}")
+            time.sleep(0.5)
+        called = self.call("verify", name, "--pages", *(("--last", facts["archived"]) if facts else ()))
+        if called.wait() != 0:
+            self.stuck.append(f"page servers of {name}: {called.text}")
+        self.log(f"{name}: {called.text.strip()}")
+
+    @staticmethod
+    def _have_all(facts: dict[str, Any]) -> bool:
+        known = {each["machine"] for each in facts.get("page_servers", ()) if each["address"] and each["position"] == facts["archived"]}
+        return known == set(MACHINES)
 
 
 # Segments, one after the other or side by side.
@@ -283,6 +323,9 @@ def segment(words: list[str]) -> int:
 def segments(seconds: float, seed: int, only: list[str]) -> int:
     """The kind that has come least often is next."""
     torture_sqlite.build()
+    if subprocess.run(["gcc", "-fsyntax-only", "-xc", "-include", "rocksdb/c.h", os.devnull], stderr=subprocess.DEVNULL).returncode == 0:
+        pages_program.program()
+        os.environ[torture_pages.PAGE_SERVERS] = "1"
     counts, began, worst, number = Counts(), now(), 0, 0
     each = max(20.0, min(120.0, seconds / len(only or KINDS) - 10))
     while now() - began < seconds or number < len(only or KINDS):

@@ -596,6 +596,8 @@ def failure(plant: Plant) -> str | None:
         file.write_text(file.read_text().replace(plant.old, plant.new))
         if plant.is_of_pages:  # which does not compile is no plant
             subprocess.run(["make", "-s", "-C", str(copy.parent / "pages"), "checked"], check=True)
+        if plant.module.startswith("c/") and not plant.part.startswith("c/"):  # before the test's time begins
+            subprocess.run(["make", "-s", "-C", str(copy.parent / "c"), "CFLAGS=-O0", "pagelog_vfs.so"], check=True)
         words = [str(copy / "test"), plant.part, plant.test]
         environment = {**os.environ, "PAGELOG_TEST_PATIENCE": "40"}
         if plant.part.startswith("c/"):

@@ -88,6 +88,7 @@ PARTS = {
     "test_pages": "page servers beside the service",
     "test_pages_compared": "page servers beside one another",
     "test_pages_secured": "page servers by TLS",
+    "test_pages_sqlite": "SQLite at page servers",
     "test_tasks_page": "the commands of docs/TASKS.md, as they are printed",
     "test_disks": "what durable means as PostgreSQL loses its standby, its leader, or room",
     "test_soak": "named databases that live on for a while",

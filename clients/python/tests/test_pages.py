@@ -17,6 +17,7 @@ import unittest
 from contextlib import closing
 from itertools import accumulate
 from pathlib import Path
+from typing import Any
 from unittest.mock import patch
 
 import pages_program
@@ -32,9 +33,10 @@ from pagelog.desk.words import pagelogctl
 from pagelog.errors import ConnectionLost, Unreachable
 from pagelog.keeper.bases import make_base
 from pagelog.keeper.images import Replay
-from pagelog.keeper.referee import Referee, digest
+from pagelog.keeper.referee import Doubt, Referee, digest
 from pagelog.keeper.rows import PagesRow
 from pagelog.keeper.table import token_of
+from pagelog.pages import following
 from pagelog.pages.bell import Told as Word
 from pagelog.pages.following import Follower, Settings
 from pagelog.pages.process import OtherChain, PagesProcess, StoreFailed
@@ -473,6 +475,26 @@ class Kept(Served):
         with self.assertRaises((ConnectionLost, Unreachable)):
             reader.status()
         self.assertIn(f"of a database that is gone: store {run} of shop", self.keeping.word("pages", "--folder", self.folder, "--list"))
+
+
+class Begun(Served):
+    """PostgreSQL is away as a page server begins."""
+
+    def test_it_begins_once_postgresql_is_there(self) -> None:
+        with self.keeping.primary() as primary:
+            position = self.commit(primary, 1)
+        left, look = [3], following.look
+
+        def failing(*given: Any, **options: Any) -> Any:
+            left[0] -= 1
+            if left[0] >= 0:
+                raise Doubt("PostgreSQL is away")
+            return look(*given, **options)
+
+        with patch("pagelog.pages.following.look", failing):
+            self.servers()
+            run, address = self.follows_to(position)
+        self.assertEqual(self.reader(run, address).page(1, position).data[:8], b"%08d" % 1)
 
 
 class Told(Served):

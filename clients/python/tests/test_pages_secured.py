@@ -33,6 +33,7 @@ from pagelog.request import Role
 from pagelog.secure import Trust
 from secured import Certificates, Secured
 from service import PATIENCE, TABLE, token
+from sqlite_named import connected
 from test_pages import Log, Paged
 
 IDENTITY = "11111111-2222-4333-8444-555555555555"
@@ -274,6 +275,19 @@ class Only(Told):
         self.assertEqual(done.exit_code, 0, done.output)
         self.assertEqual({key: json.loads(done.output)[key] for key in ("position", "pages")}, {"position": position, "pages": 4})
 
+
+    def test_sqlite_reads_there_by_tls(self) -> None:
+        trust = {"sslrootcert": self.keeping.certificates.ca}
+        with closing(connected(self.keeping.secure_addresses, **trust)) as writer:
+            writer.execute("create table t(n)")
+            writer.execute("insert into t values(1)")
+        self.servers(Serving(self.keeping.pair, None, True))
+        eventually(lambda: len(self.known(self.trust)) == 1, f"one that is told by TLS: {self.said}")
+        with closing(connected(self.keeping.secure_addresses, id=3, mode="ro", page_servers="only", **trust)) as reader:
+            eventually(lambda: reader.execute("select n from t").fetchall() == [(1,)], "what is durable")
+            self.keeping.kill("a", signal.SIGSTOP)  # nor is its service needed
+            self.assertEqual(reader.execute("select count(*) from t").fetchall(), [(1,)])
+            self.keeping.kill("a", signal.SIGCONT)
 
     def word(self, *words: object) -> list[str]:
         found = [sys.executable, "-m", "pagelog", "--sslrootcert", self.keeping.certificates.ca, "pages", "--program", pages_program.program(),

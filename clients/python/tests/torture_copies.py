@@ -12,7 +12,7 @@ import time
 from collections import Counter
 from contextlib import closing
 from pathlib import Path
-from typing import Iterator
+from typing import Iterator, Mapping
 
 import pages_program
 from keepers import Keeping, eventually
@@ -45,22 +45,25 @@ def look(folder: Path, who: str, addresses: list[str], seed: float) -> None:
         time.sleep(0.02)
 
 
-class Copies:
-    """Two page servers, each with a folder of its own."""
+MACHINES = ("one", "two")
 
-    def __init__(self, keeping: Keeping, chance: random.Random) -> None:
-        self._keeping, self._chance = keeping, chance
+
+class Servers:
+    """Two page servers of some databases, each with a folder of its own."""
+
+    def __init__(self, folder: Path, logs: Path, file: Path, names: tuple[str, ...], environment: Mapping[str, str], chance: random.Random) -> None:
+        """`folder` is for their stores, and `file` their credentials."""
+        self._folder, self._logs, self._file, self._names, self._environment, self._chance = folder, logs, file, names, environment, chance
         self._words: dict[str, subprocess.Popen[bytes]] = {}
-        self.done: Counter[str] = Counter()
 
     def start(self) -> None:
         """Those that do not run."""
-        for name in ("one", "two"):
+        for name in MACHINES:
             if name not in self._words or self._words[name].poll() is not None:
-                words = [sys.executable, "-m", "pagelog", "pages", NAME, "--folder", self._keeping.folder / "copies" / name, "--program", pages_program.program(),
-                         "--machine", name, "--cache", "8", "--credentials", self._keeping.file]  # fmt: skip
-                with (self._keeping.folder / f"pages-{name}.log").open("ab") as log:
-                    self._words[name] = subprocess.Popen(list(map(str, words)), stderr=log, env=self._keeping.environment)
+                words = [sys.executable, "-m", "pagelog", "pages", *self._names, "--folder", self._folder / name, "--program", pages_program.program(),
+                         "--machine", name, "--cache", "8", "--credentials", self._file]  # fmt: skip
+                with (self._logs / f"pages-{name}.log").open("ab") as log:
+                    self._words[name] = subprocess.Popen(list(map(str, words)), stderr=log, env=self._environment)
 
     def kill(self) -> None:
         """A program, or who feeds it, which is started again: its program ends as it does."""
@@ -88,6 +91,22 @@ class Copies:
         except OSError:
             return
 
+    def stop(self) -> None:
+        for word in self._words.values():
+            for pid in (word.pid, *self._programs(word)):
+                _send(pid, signal.SIGCONT)
+            word.kill()
+            word.wait()
+
+
+class Copies(Servers):
+    """Of one database, and what their readers were shown."""
+
+    def __init__(self, keeping: Keeping, chance: random.Random) -> None:
+        super().__init__(keeping.folder / "copies", keeping.folder, keeping.file, (NAME,), keeping.environment, chance)
+        self._keeping = keeping
+        self.done: Counter[str] = Counter()
+
     def violations(self) -> list[str]:
         """What was shown is the archive replayed, by both in the end too, and nothing was set aside: nothing was lost."""
         heads = list(self._heads())
@@ -95,8 +114,8 @@ class Copies:
         self.done.update(note["what"] for note in notes)
         found = [f"page 0 at {note['position']} was shown as {note['head']}" for note in notes if note["what"] == "page" and not _is_at(heads, note)]
         found += [f"the end of page servers fell: {note}" for note in notes if note["what"] == "back"]
-        found += [f"{name} has set aside {each}" for name in ("one", "two") for each in asides_in(self._keeping.folder / "copies" / name)]
-        for name in ("one", "two"):
+        found += [f"{name} has set aside {each}" for name in MACHINES for each in asides_in(self._keeping.folder / "copies" / name)]
+        for name in MACHINES:
             found += self._compared(name, heads)
         return found + ([] if self.done["page"] else ["nobody was shown a page"])
 
@@ -119,13 +138,6 @@ class Copies:
         with closing(Reader(Connection(pages.address, timeout=PATIENCE), credentials)) as reader:
             positions = self._chance.sample(range(len(heads)), min(SAMPLE, len(heads)))
             return [f"{name} has another page 0 at {at}" for at in positions if reader.page(0, at).data[:HEAD] != heads[at]]
-
-    def stop(self) -> None:
-        for word in self._words.values():
-            for pid in (word.pid, *self._programs(word)):
-                _send(pid, signal.SIGCONT)
-            word.kill()
-            word.wait()
 
 
 def _is_at(heads: list[bytes], note: dict[str, str]) -> bool:

@@ -21,7 +21,7 @@ from torture_rig import TTL, Lone, Two, postgres_of, send
 if TYPE_CHECKING:
     from administration import Segment
 
-DISK, KEEPERS_DISK = 400 << 20, 24 << 20
+DISK, KEEPERS_DISK, PAGES_DISK = 400 << 20, 24 << 20, 256 << 20
 
 
 class Strike:
@@ -36,8 +36,9 @@ class Faults:
         self.segment, self.chance = segment, segment.chance
         self.done: Counter[str] = Counter()
         self.mounted: list[Path] = []
-        (segment.folder / "disk").mkdir()
-        self._mount(segment.folder / "disk", KEEPERS_DISK)
+        for name, size in (("disk", KEEPERS_DISK), ("pages", PAGES_DISK)):
+            (segment.folder / name).mkdir()
+            self._mount(segment.folder / name, size)
 
     def said(self) -> str:
         return ", ".join(f"{name} {count}" for name, count in self.done.most_common()) or "none"
@@ -133,10 +134,16 @@ class Faults:
             "memory of a service": self._little_memory, "descriptors of a keeper": self._few_descriptors, "a keeper stands": self._keeper_stands,
             "a service stands": self._service_stands, "a client is killed": self._client_is_killed,
         }  # fmt: skip
+        folder, pages = self.segment.folder, self.segment.pages
         if self.mounted:
-            kinds["the keepers' disk is full"] = lambda: self._fill(self.segment.folder / "disk")
-        if len(self.mounted) > 1 and death not in ("postgresql", "set back"):
-            kinds["PostgreSQL's disk is full"] = lambda: self._fill(self.segment.folder / "postgres")
+            kinds["the keepers' disk is full"] = lambda: self._fill(folder / "disk")
+        if pages is not None:
+            kinds["a page server is killed"] = self._page_server_is_killed
+            kinds["a page server stands"] = self._page_server_stands
+        if pages is not None and self.mounted:
+            kinds["the page servers' disk is full"] = lambda: self._fill(folder / "pages")
+        if folder / "postgres" in self.mounted and death not in ("postgresql", "set back"):
+            kinds["PostgreSQL's disk is full"] = lambda: self._fill(folder / "postgres")
         if self.chance.random() < 0.5:
             yield
             return
@@ -186,6 +193,23 @@ class Faults:
     def _service_stands(self) -> Callable[[], None]:
         pid = self._some_service()
         return self._stand(pid) if pid else lambda: None
+
+    def _page_server_is_killed(self) -> Callable[[], None]:
+        """A program, or who feeds it."""
+        assert self.segment.pages is not None
+        self.segment.pages.kill()
+        return lambda: None
+
+    def _page_server_stands(self) -> Callable[[], None]:
+        """A program, who feeds it, or both."""
+        assert self.segment.pages is not None
+        ends = [self._stand(pid) for pid in self.segment.pages.hold()]
+
+        def go_on() -> None:
+            for end in ends:
+                end()
+
+        return go_on
 
     def _stand(self, pid: int) -> Callable[[], None]:
         try:

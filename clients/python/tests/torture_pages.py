@@ -2,6 +2,7 @@
 
 from __future__ import annotations
 
+import os
 import threading
 import time
 import uuid
@@ -16,6 +17,8 @@ LIFE, HELLO, PAGES, MIRROR = 0, 1, 1000, 65536
 """The page that names the life; one that is only written to find out whether one may write; how many pages a writer has; where those
 come once more."""
 PATIENCE, TIMEOUT = 8.0, 2.0
+PAGE_SERVERS = "PAGELOG_TORTURE_PAGE_SERVERS"
+"""In the environment where Python's databases have page servers."""
 
 
 def page_of(who: str, number: int) -> int:
@@ -169,16 +172,16 @@ def _share(session: Session, group: Group, numbers: Numbers) -> None:
 class Looker:
     """A reader of one kind: what it was shown once has to be shown again."""
 
-    def __init__(self, job: Job, *, durable: bool) -> None:
-        self.job, self.durable = job, durable
+    def __init__(self, job: Job, *, durable: bool, pages: str = "prefer") -> None:
+        self.job, self.durable, self.pages = job, durable, pages
         self.kind = "durable" if durable else "plain"
-        self.notes = Notes(job.folder, f"{job.who}-{self.kind}")
+        self.notes = Notes(job.folder, f"{job.who}-{'copies' if pages == 'only' else self.kind}")
         self.opened = 0
         self.open()
 
     def open(self) -> None:
         self.opened += 1
-        self.reader = Reader.named(self.job.name, keepers=self.job.addresses, principal=3, token=token(3), durable_only=self.durable,
+        self.reader = Reader.named(self.job.name, keepers=self.job.addresses, principal=3, token=token(3), durable_only=self.durable, pages=self.pages,
                                    patience=PATIENCE, timeout=TIMEOUT, trust=trust())  # fmt: skip
 
     def look(self, who: str) -> bool:
@@ -225,11 +228,11 @@ class Looker:
 
 
 def page_readers(job: Job) -> None:
-    """A plain one and a durable one. `other` of the job names the writers."""
+    """A plain one, a durable one, and where there are page servers one that asks nobody else. `other` of the job names the writers."""
 
-    def work(durable: bool) -> Callable[[], None]:
+    def work(durable: bool, pages: str = "prefer") -> Callable[[], None]:
         def on() -> None:
-            looker = Looker(job, durable=durable)
+            looker = Looker(job, durable=durable, pages=pages)
             for chance in job.until_over(0.25):
                 if not looker.look(chance.choice(job.other.split())):
                     time.sleep(0.2)
@@ -237,6 +240,8 @@ def page_readers(job: Job) -> None:
         return on
 
     threads = [threading.Thread(target=work(durable)) for durable in (True, False)]
+    if PAGE_SERVERS in os.environ:
+        threads.append(threading.Thread(target=work(True, "only")))
     for thread in threads:
         thread.start()
     for thread in threads:

@@ -76,6 +76,8 @@ class Follower:
         self._bell = Bell(name, identity, self._wake.set, settings.trust)
         self._store: Store | None = None
         self._process: PagesProcess | None = None
+        self._has_begun = False
+        """Whether its process has followed up to what was archived. PostgreSQL may be away before."""
         self._archived: Archived | None = None
         self._table_number = self._said_table = 0
         """The number of its table, and the one that its row has."""
@@ -132,9 +134,20 @@ class Follower:
 
     def _begin(self) -> None:
         """Opens the store, or makes one. Nobody is answered before what it has is known to be of the history that PostgreSQL has."""
-        if self._process is not None and self._is_alive():
+        if self._process is None or not self._is_alive():
+            self._open()
+        if self._has_begun:
             return
+        self._look()
+        self._fill()
+        self._catch_up()
+        assert self._process is not None
+        self._has_begun = True
+        self._say(f"pages at {self.address}, positions {self._process.where.oldest} to {self._process.where.confirmed}")
+
+    def _open(self) -> None:
         self._stop()
+        self._has_begun = False
         found = Store.found(self._settings.folder, self.name, self.identity)
         self._store = found or Store(self.name, self.identity, new_run())
         if found is None:
@@ -145,10 +158,6 @@ class Follower:
         self._table_number, self._chain = 0, None
         self._process = self._settings.start(self._store.folder(self._settings.folder), self.identity)
         self.address, self._was_confirmed = self._process.address, self._process.where.confirmed > 0
-        self._look()
-        self._fill()
-        self._catch_up()
-        self._say(f"pages at {self.address}, positions {self._process.where.oldest} to {self._process.where.confirmed}")
 
     def _is_alive(self) -> bool:
         assert self._process is not None

@@ -1,0 +1,107 @@
+/* Readers of a named database that go to a page server in place of its service: there positions are LSNs, all
+ * of them are durable, and the epoch is 1. */
+#include "pagelog_move.h"
+
+#include <string.h>
+
+enum { GLANCE_MS = 1000 };
+
+/* Whether a position is not to be had at the service of a place. */
+static bool is_below(uint64_t position, const struct pagelog_place *place) {
+    return position < place->base && place->shift != 0;
+}
+
+/* The position that is read: of `at`, or of the transaction; 0: there is none yet. */
+static uint64_t position_read(const struct pagelog_file *file) {
+    if (file->options.at > 0) return file->options.at;
+    bool has_one = file->mark.lsn > 0 && !file->named.is_gone;
+    return has_one ? position_of(file, file->mark.lsn) : 0;
+}
+
+bool pagelog_wants_page_server(const struct pagelog_file *file, const struct pagelog_place *place) {
+    uint64_t position = position_read(file);
+    if (!file->options.reads_only || file->options.pages == PAGELOG_PAGES_NEVER) return false;
+    if (file->options.pages == PAGELOG_PAGES_ONLY) return true;
+    return place->pages > 0 && position > 0 && is_below(position, place);
+}
+
+/* A page server, as a place. */
+static struct pagelog_place place_of(const struct pagelog_place *service,
+                                     const struct pagelog_page_server *server) {
+    struct pagelog_place place = *service;
+    strcpy(place.address, server->address);
+    strcpy(place.run, server->run);
+    *place.after = 0;
+    place.archived = server->position;
+    place.base = server->oldest;
+    place.shift = 0;
+    place.kept = 0;
+    place.is_page_server = true;
+    return place;
+}
+
+size_t pagelog_page_server_places(struct pagelog_file *file, const struct pagelog_place *service,
+                                  struct pagelog_place found[PAGELOG_MOST_PAGE_SERVERS]) {
+    struct pagelog_page_server servers[PAGELOG_MOST_PAGE_SERVERS];
+    struct named *named = &file->named;
+    uint64_t position = position_read(file);
+    size_t count, chosen = 0, last = PAGELOG_MOST_PAGE_SERVERS;
+    if (!named->has_place) pagelog_keepers_are_of(named->keepers, service);
+    if (pagelog_page_servers(named->keepers, servers, &count) != PAGELOG_DONE) return 0;
+    for (size_t i = 0; i < count; i++) {
+        bool is_here = named->has_place && strcmp(servers[i].run, named->place.run) == 0;
+        if (position > 0 && servers[i].oldest > position) continue;
+        if (is_here)
+            last = i;
+        else
+            found[chosen++] = place_of(service, &servers[i]);
+    }
+    if (last < count) found[chosen++] = place_of(service, &servers[last]);
+    return chosen;
+}
+
+/* Whether keepers call the page server alive that the file is at. Where none answers it stays. */
+static bool is_alive(struct pagelog_file *file) {
+    struct pagelog_page_server servers[PAGELOG_MOST_PAGE_SERVERS];
+    size_t count;
+    if (pagelog_page_servers(file->named.keepers, servers, &count) != PAGELOG_DONE) return true;
+    for (size_t i = 0; i < count; i++)
+        if (strcmp(servers[i].run, file->named.place.run) == 0) return true;
+    return false;
+}
+
+enum pagelog_outcome pagelog_look_at_page_server(struct pagelog_file *file) {
+    struct named *named = &file->named;
+    uint64_t now = pagelog_now();
+    bool stays = file->options.pages == PAGELOG_PAGES_ONLY || file->options.at > 0;
+    named->is_suspect = false;
+    if (file->mark.lsn > named->shown) named->shown = file->mark.lsn;
+    if (!stays) { /* the transaction for which it came is over */
+        pagelog_give_up_transaction(file);
+        return pagelog_move(file, PAGELOG_LOST);
+    }
+    if (now - named->glanced < GLANCE_MS) return PAGELOG_DONE;
+    named->glanced = now;
+    return is_alive(file) ? PAGELOG_DONE : pagelog_move(file, PAGELOG_LOST);
+}
+
+/* Whether it has a position: DONE, or LOST. */
+static enum pagelog_outcome has_position(struct pagelog_file *file, uint64_t position) {
+    struct pagelog_reply status;
+    enum pagelog_outcome outcome = pagelog_status(file->log, PAGELOG_SECONDARY, &status);
+    return outcome == PAGELOG_DONE && status.hard < position ? PAGELOG_LOST : outcome;
+}
+
+enum pagelog_outcome pagelog_reach_at_page_server(struct pagelog_file *file, uint64_t position) {
+    struct pagelog_file_patience patience = pagelog_file_patience(file);
+    enum pagelog_outcome outcome = pagelog_look_at_page_server(file);
+    if (outcome == PAGELOG_DONE && !file->named.place.is_page_server)
+        return pagelog_file_reach(file, position);
+    while (outcome == PAGELOG_DONE && file->named.place.is_page_server &&
+           has_position(file, position) != PAGELOG_DONE) {
+        if (!pagelog_file_may_wait(file, &patience))
+            return pagelog_file_fail(file, PAGELOG_LOST, "no page server has what was read before");
+        outcome = pagelog_look_at_page_server(file);
+    }
+    return outcome;
+}
