@@ -3,6 +3,13 @@
 from plant import Plant
 
 PLANTS = {
+    "a descriptor that was closed": Plant("acknowledged", "    with suppress(FileNotFoundError):\n        return os", "    if True:\n        return os",
+                                          "runs", "closes_other_descriptors_meanwhile"),
+    "a run that continues": Plant("../named", "        elif fate.continues is None:\n", "        elif True:\n", "named",
+                                  "what_a_writer_that_has_ended_left"),
+    "what a failover kept": Plant("../named", "            if isinstance(error, OlderEpoch):\n", "            if False:\n", "named", "what_a_failover_has_kept"),
+    "overtaken, the images": Plant("../named", "            if self._lost_below(place) is not None:\n                return\n", "", "named",
+                                   "in_the_images_of_the_next_generation"),
     "a pack that was cut": Plant("../store/tables", "AND p.state = 0 AND i.range", "AND i.range", "store", "cut_meanwhile_is_no_damage"),
     "standbys, the only copy": Plant("standing", "            if not await self._shared.ask(self._shared.referee.lacks, database.row):  # else",
                                      "            if True:  # else", "beginnings", "has_lost_since_the_look"),

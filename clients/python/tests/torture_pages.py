@@ -116,14 +116,17 @@ def _settle(session: Session, due: dict[int, tuple[int, float]]) -> None:
     link = {"name": session.job.name, "life": session.life}
     try:
         session.primary.durable(max(due))
-        lost = max(due) + 1
+        lost = Lost(max(due) + 1)
     except Lost as error:
-        lost = error.position
+        lost = error
     for position, (number, began) in sorted(due.items()):
-        what = "lost" if position >= lost else "acknowledged"
-        session.notes(what, number=number, links=[link], began=began, durable=True)
-    if lost <= max(due):
-        raise Lost(lost)
+        facts = {"number": number, "links": [link], "began": began, "durable": True}
+        if position < lost.position:
+            session.notes("acknowledged", **facts)
+        else:
+            session.notes("lost", **facts, why=f"{position}: {lost}")
+    if lost.position <= max(due):
+        raise lost
     due.clear()
 
 

@@ -137,10 +137,18 @@ class NamedPrimary(Following):
             if fate.is_over:
                 self._over = self.place.generation
                 self._leave()  # the next commit asks nothing of a service that is about to end
-                if position > fate.end and self._ended is not None:
-                    raise Lost(fate.end + 1)
                 if position > fate.end:
-                    self._move()
+                    self._go_on(fate)
+
+    def _go_on(self, fate: Fate) -> None:
+        """Its generation is over, before all was durable. A writer that has ended writes nothing of that again: it is lost, unless its run
+        continues."""
+        if self._ended is None:
+            self._move()
+        elif fate.continues is None:
+            raise Lost(fate.end + 1)
+        else:
+            self.place = fate.continues
 
     def pack(self, commits: Sequence[Sequence[Record]]) -> list[int]:
         """Makes blocks of the records of some commits, which `commit` writes then. Those of one that fit into a block are in one. Returns
@@ -187,6 +195,8 @@ class NamedPrimary(Following):
         except OutOfMemory as error:
             self._make_room(error)
         except (*GONE, *_DENIED) as error:
+            if isinstance(error, OlderEpoch):
+                self.end = max(self.end, self._primary.durable + shift)  # a failover keeps what was in a quorum of copies
             self._move(error)
 
     def _make_room(self, error: OutOfMemory) -> None:
@@ -246,8 +256,10 @@ class NamedPrimary(Following):
         return True
 
     def _count_at(self, place: Place) -> None:
-        """What of the blocks above the end is in the log, though no reply has said so."""
+        """What of the blocks above the end is in the log, though no reply has said so, or in the images that it began with."""
         try:
+            if self._lost_below(place) is not None:
+                return
             with Reader(self._connection(place), self._account.of(place)) as witness:
                 for block in [block for block in self._tail if block.lsn > self.end]:
                     if block.lsn > witness.status().hard + place.shift or not self._is_there(place, witness, block):
