@@ -231,6 +231,15 @@ class Transactions(Databases):
             with self.assertRaisesRegex(ArchiveError, "a row of the archive is gone"):
                 archive.epoch
 
+    def test_texts_of_a_database_without_an_encoding_are_texts(self) -> None:
+        name = f"plain{time.monotonic_ns()}"
+        postgres().run("createdb", "-h", postgres().folder, "-U", "pagelog", "-E", "SQL_ASCII", "-T", "template0", name)
+        url = f"postgresql://pagelog@/{name}?host={postgres().folder}"
+        self.archive(url, "Läden")
+        trail = self.trail(url, "Läden")
+        trail.end(trail.begin(), "über", 1)
+        self.assertEqual(([log.name for log in logs_of(url)], trail.lists()[0].ended), (["Läden"], "über"))
+
     def test_who_is_second_keeps_nothing(self) -> None:
         for url in self.each():
             one, two = self.trail(url), self.trail(url)
