@@ -311,9 +311,10 @@ class Transactions(Databases):
 class Sessions(Databases):
     def test_connections_are_used_again_and_are_no_ones_at_once(self) -> None:
         engine = self.engine(self.server)
-        with engine.session() as one, engine.session() as two:
-            pids = {one.value(PID), two.value(PID)}
-        self.assertEqual(len(pids), 2)
+        for _ in range(2):  # new ones, and then those that are kept
+            with engine.session() as one, engine.session() as two:
+                pids = {one.value(PID), two.value(PID)}
+            self.assertEqual(len(pids), 2)
         self.assertLessEqual({engine.value(PID) for _ in range(5)}, pids)
 
     def test_after_a_restart_of_postgresql_nobody_is_told(self) -> None:
