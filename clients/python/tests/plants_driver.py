@@ -27,6 +27,7 @@ PLANTS = {
     "driver, rolled back after a signal": Plant(_POSTGRES, "        except Exception:\n            is_free", "        except BaseException:\n            is_free",
                                                 "ends", "what_is_cleaned_up"),
     "driver, bytes for a text": Plant(_POSTGRES, '    "client_encoding": "UTF8",  #', "    #", "engine", "without_an_encoding"),
+    "driver, a statement without end": Plant(_POSTGRES, '"options": f"-c statement_timeout={int(STATEMENT_SECONDS * 1000)}",', "", "engine", "takes_too_long"),
     "driver, one host": Plant(_POSTGRES, "                turn_hosts(self._options)\n                if (left := left - 1) == 0:\n                    raise\n",
                               "                raise\n", "engine", "silent_host"),
     "driver, forms of before": Plant("../libpq", 'return re.sub(r"^postgresql\\+\\w+:", "postgresql:", url)', "return url", "engine", "forms_of_older"),
