@@ -31,7 +31,7 @@ PLANTS = {
     "driver, one host": Plant(_POSTGRES, "                turn_hosts(self._options)\n                if (left := left - 1) == 0:\n                    raise\n",
                               "                raise\n", "engine", "silent_host"),
     "driver, forms of before": Plant("../libpq", 'return re.sub(r"^postgresql\\+\\w+:", "postgresql:", url)', "return url", "engine", "forms_of_older"),
-    "driver, a part of a password": Plant("../libpq", '    if re.search(r"[@#?\\s]", host) or', "    if", "care", "no_password_and"),
+    "driver, a part of a password": Plant("../libpq", '    if re.search(r"[@#?\\s]", host) or', "    if", "engine", "no_url_says"),
     "driver, a password that is shown": Plant(_URL, 'shown = re.sub(r"(//[^:/?@]*:)[^/?@]*@", r"\\1***@", self.text)', "shown = self.text", "engine",
                                               "password_is_not_shown"),
     "driver, in memory": Plant(_SQLITE, "        if url.file is None:\n", "        if False:\n", "engine", "in_memory"),
