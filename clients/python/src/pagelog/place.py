@@ -470,14 +470,15 @@ class Keepers:
                 return found
         return None
 
-    def page_servers(self) -> list[PageServerPlace]:
-        """The page servers of the database that was opened, as the first keeper says that knows of any."""
-        of = "" if self._own is None else self._own.database
+    def page_servers(self) -> list[PageServerPlace] | None:
+        """The page servers of the database that was opened, as the first keeper says that knows of any; None where no keeper answers."""
+        of, is_heard = "" if self._own is None else self._own.database, False
         for address in self._asks():
             fixed, keys = _parted(self._ask(address, ("pages", self.name), of=of))
+            is_heard |= fixed[:1] == ["pages"]
             if fixed[:1] == ["pages"] and keys.get("of", of) == of and (found := _page_servers(fixed[2:])):
                 return found
-        return []
+        return [] if is_heard else None
 
     def block(self, position: int) -> str | None:
         """The SHA-256 of the block that the archive has at a position, of the keeper that answers first; None where it has none."""
