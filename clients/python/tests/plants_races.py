@@ -19,6 +19,7 @@ PLANTS = {
     "orders, what a failover kept": Plant("../named", "            if isinstance(error, OlderEpoch):\n", "            if False:\n", "orders", "told_holds"),
     "orders, the images": Plant("../named", "            if self._lost_below(place) is not None:\n                return\n", "", "orders", "told_holds"),
     "orders, a run that continues": Plant("../named", "        elif fate.continues is None:\n", "        elif True:\n", "orders", "told_holds"),
+    "upon, not held": Plant("c/pagelog_durable.c", "    if (outcome == PAGELOG_DONE) outcome = hold_before(file);\n", "", "upon", "writer_that_has_leapt"),
     "a pack that was cut": Plant("../store/tables", "AND p.state = 0 AND i.range", "AND i.range", "store", "cut_meanwhile_is_no_damage"),
     "standbys, the only copy": Plant("standing", "            if not await self._shared.ask(self._shared.referee.lacks, database.row):  # else",
                                      "            if True:  # else", "beginnings", "has_lost_since_the_look"),
