@@ -157,7 +157,7 @@ class Keeping(Folder):
         put_in(9, good[9].data[:-1] + b"\0\0")
         with self.assertRaisesRegex(BrokenArchive, "LSN 9: its bytes"):
             archive.check()
-        for value in ("'text'", "CAST(data AS TEXT)", "0.5", "-1", "9223372036854775807"):
+        for value in ("'text'", "CAST(x'ff' AS TEXT)", "0.5", "-1", "9223372036854775807"):
             change(archive, f"UPDATE pagelog_block SET data = {value} WHERE lsn = 9")
             with self.assertRaisesRegex(BrokenArchive, "LSN 9: it is no bytes"):
                 archive.check()

@@ -12,15 +12,17 @@ import unittest
 import zlib
 from contextlib import ExitStack
 from pathlib import Path
-from typing import Callable, Iterator
+from typing import Any, Callable, Iterator
 from unittest import mock
 
 import psycopg
+from psycopg.conninfo import conninfo_to_dict
 
 from pagelog import Block
 from pagelog.archive import Archive, ArchiveError, NoArchive, OtherArchiver
 from pagelog.archive_care import drop, logs_of
 from pagelog.archive_engine import engine_of
+from pagelog.archive_postgres import BoundConnection
 from pagelog.archive_session import Engine, statements_of
 from pagelog.archive_tables import MOVE
 from pagelog.archive_tables import TABLES as OF_ARCHIVE
@@ -28,7 +30,7 @@ from pagelog.archive_url import is_in_memory, parsed_url
 from pagelog.keeper.recorder import Recorder
 from pagelog.trail import OtherKeeper, Start, Trail
 from pagelog.trail.statements import TABLES as OF_TRAIL
-from postgres import SilentProxy, postgres
+from postgres import postgres
 from service import PATIENCE, SOURCE, put
 
 OLDER = """
@@ -140,11 +142,21 @@ class Urls(Databases):
             self.assertEqual(parsed_url(url).shown, shown)
 
     def test_a_silent_host_is_passed_over(self) -> None:
-        """The first of two hosts takes the connection, and says nothing."""
-        proxy = self.enterContext(SilentProxy(postgres()))
-        proxy.is_silent.set()
-        hosts = f"host={proxy.folder},{postgres().folder}&connect_timeout=1"
-        self.assertEqual(self.engine(self.server.partition("?")[0] + "?" + hosts).value("SELECT 1"), 1)
+        """At the first of two psycopg gives up, as of a machine that is off, and does not try the other."""
+        connect, tried = BoundConnection.connect, []
+
+        def connected(conninfo: str, **options: Any) -> Any:
+            tried.append(conninfo_to_dict(conninfo)["host"].partition(",")[0])
+            if tried[-1] == "/silent":
+                raise psycopg.errors.ConnectionTimeout("connection timeout expired")
+            return connect(conninfo, **options)
+
+        self.enterContext(mock.patch.object(BoundConnection, "connect", connected))
+        engine = self.engine(self.server.replace("host=", "host=/silent,"))
+        self.assertEqual((engine.value("SELECT 1"), tried), (1, ["/silent", str(postgres().folder)]))
+        with engine.session(), engine.session():
+            self.assertEqual(tried[2:], [str(postgres().folder)])  # it stays with the one that answers
+        self.assertRaises(psycopg.errors.ConnectionTimeout, self.engine("postgresql://u@/d?host=/silent,/silent").value, "SELECT 1")
 
     def test_no_other_driver_is_asked_for(self) -> None:
         for file in SOURCE.rglob("*.py"):
@@ -231,6 +243,15 @@ class Transactions(Databases):
             with self.assertRaisesRegex(ArchiveError, "a row of the archive is gone"):
                 archive.epoch
 
+    def test_texts_of_a_database_without_an_encoding_are_texts(self) -> None:
+        name = f"plain{time.monotonic_ns()}"
+        postgres().run("createdb", "-h", postgres().folder, "-U", "pagelog", "-E", "SQL_ASCII", "-T", "template0", name)
+        url = f"postgresql://pagelog@/{name}?host={postgres().folder}"
+        self.archive(url, "Läden")
+        trail = self.trail(url, "Läden")
+        trail.end(trail.begin(), "über", 1)
+        self.assertEqual(([log.name for log in logs_of(url)], trail.lists()[0].ended), (["Läden"], "über"))
+
     def test_who_is_second_keeps_nothing(self) -> None:
         for url in self.each():
             one, two = self.trail(url), self.trail(url)
@@ -302,9 +323,10 @@ class Transactions(Databases):
 class Sessions(Databases):
     def test_connections_are_used_again_and_are_no_ones_at_once(self) -> None:
         engine = self.engine(self.server)
-        with engine.session() as one, engine.session() as two:
-            pids = {one.value(PID), two.value(PID)}
-        self.assertEqual(len(pids), 2)
+        for _ in range(2):  # new ones, and then those that are kept
+            with engine.session() as one, engine.session() as two:
+                pids = {one.value(PID), two.value(PID)}
+            self.assertEqual(len(pids), 2)
         self.assertLessEqual({engine.value(PID) for _ in range(5)}, pids)
 
     def test_after_a_restart_of_postgresql_nobody_is_told(self) -> None:
@@ -330,10 +352,12 @@ class Sessions(Databases):
         self.assertEqual((archive.archived, archive.keep(blocks(1, 1), 1)), (0, 1))
 
     def test_a_statement_that_takes_too_long_is_ended(self) -> None:
-        engine = self.engine(self.server + "&options=-c%20statement_timeout%3D20")
+        engine = self.engine(self.server)
+        self.assertEqual(engine.value("SHOW statement_timeout"), "30s")
         with self.assertRaises(psycopg.errors.QueryCanceled), engine.begin() as session:
             pid = session.value(PID)
-            session.rows("SELECT pg_sleep(100)")
+            session.change("SET LOCAL statement_timeout = 20")
+            session.rows("SELECT pg_sleep(1000)")
         self.assertEqual(engine.value(PID), pid)  # it is rolled back, and used again
 
     def test_a_forked_process_has_sessions_of_its_own(self) -> None:

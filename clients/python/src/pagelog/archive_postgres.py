@@ -26,6 +26,7 @@ WAIT_SECONDS = STATEMENT_SECONDS
 _OPTIONS = {
     "connect_timeout": CONNECT_SECONDS, "keepalives": 1, "keepalives_idle": 10, "keepalives_interval": 5, "keepalives_count": 3,
     "tcp_user_timeout": 20000, "application_name": "pagelog", "options": f"-c statement_timeout={int(STATEMENT_SECONDS * 1000)}",
+    "client_encoding": "UTF8",  # else psycopg has bytes for the texts of a database that says of none what it is
 }  # fmt: skip
 _Result = TypeVar("_Result")
 
