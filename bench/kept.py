@@ -440,7 +440,7 @@ def archiving(pair, share):
 
 def plainly_archived(pair, count):
     """Blocks a second, and microseconds of a processor a block; what the word takes with nothing to archive is not counted."""
-    url = pair.url.replace("postgresql:", "postgresql+psycopg2:").replace("/kept", "/plainly")
+    url = pair.url.replace("/kept", "/plainly")
     pair.leader.run("createdb", "-h", pair.leader.folder, "-U", "pagelog", "plainly")
     with service.Service() as served, served.primary() as primary:
         words = [sys.executable, "-m", "pagelog", "archive", "--credentials", served.credentials_file(), "--url", url]

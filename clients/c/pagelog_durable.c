@@ -91,6 +91,23 @@ static enum pagelog_outcome let_go(struct pagelog_file *file, enum pagelog_outco
     return outcome;
 }
 
+/* What the next block is made upon, where that may be lost yet and is not held, as after a leap: a log that
+ * has another block there is not to get the next one. */
+static enum pagelog_outcome hold_before(struct pagelog_file *file) {
+    const struct named *named = &file->named;
+    uint64_t known = named->durable > named->place.archived ? named->durable : named->place.archived;
+    size_t length;
+    if (pagelog_blocks_count(file->blocks) == 0) return PAGELOG_DONE;
+    uint64_t lsn = pagelog_read_number(pagelog_blocks_at(file->blocks, 0, &length), 8);
+    uint64_t position = position_of(file, lsn);
+    if (known < named->place.base) known = named->place.base;
+    if (position == named->tail.next || position <= known + 1) return PAGELOG_DONE;
+    struct pagelog_reply pulled;
+    enum pagelog_outcome outcome = pagelog_pull(file->log, lsn - 1, 1, &pulled);
+    if (outcome == PAGELOG_DONE) pagelog_hold_pulled(file, lsn - 1, &pulled);
+    return outcome;
+}
+
 enum pagelog_outcome pagelog_hold_blocks(struct pagelog_file *file) {
     struct named *named = &file->named;
     enum pagelog_outcome outcome = PAGELOG_DONE;
@@ -98,6 +115,7 @@ enum pagelog_outcome pagelog_hold_blocks(struct pagelog_file *file) {
     if (pagelog_tail_bytes(&named->tail) + more > MOST_TAIL)
         outcome = wait_until_durable(file, pagelog_tail_after(&named->tail, part));
     if (outcome == PAGELOG_DONE && !is_writer(file)) outcome = pagelog_write_on(file);
+    if (outcome == PAGELOG_DONE) outcome = hold_before(file);
     for (size_t i = 0; i < pagelog_blocks_count(file->blocks) && outcome == PAGELOG_DONE; i++) {
         const uint8_t *block = pagelog_blocks_at(file->blocks, i, &length);
         uint64_t position = position_of(file, pagelog_read_number(block, 8));

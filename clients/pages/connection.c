@@ -11,16 +11,23 @@
 enum step { GOES_ON, RESTS, IS_OVER };
 
 void connection_close(struct connection *connection) {
+    pagelog_secure_end(connection->secure);
     close(connection->socket);
     free(connection->in);
     free(connection->out);
     free(connection);
 }
 
+static ssize_t put(const struct connection *connection, const uint8_t *bytes, size_t length) {
+    if (connection->secure) return pagelog_secure_send(connection->secure, bytes, length, 0);
+    return send(connection->socket, bytes, length, MSG_NOSIGNAL | MSG_DONTWAIT);
+}
+
 /* Sends what there is room for; RESTS: not all of it. */
-static enum step send_some(int socket, const uint8_t *bytes, size_t length, size_t *sent) {
+static enum step send_some(const struct connection *connection, const uint8_t *bytes, size_t length,
+                           size_t *sent) {
     while (*sent < length) {
-        ssize_t now = send(socket, bytes + *sent, length - *sent, MSG_NOSIGNAL | MSG_DONTWAIT);
+        ssize_t now = put(connection, bytes + *sent, length - *sent);
         if (now > 0) {
             *sent += (size_t)now;
         } else if (errno == EAGAIN || errno == EWOULDBLOCK) {
@@ -34,8 +41,7 @@ static enum step send_some(int socket, const uint8_t *bytes, size_t length, size
 
 static enum step send_left(struct connection *connection) {
     if (!connection->out) return GOES_ON;
-    enum step step =
-        send_some(connection->socket, connection->out, connection->out_length, &connection->out_at);
+    enum step step = send_some(connection, connection->out, connection->out_length, &connection->out_at);
     if (step != GOES_ON) return step;
     free(connection->out);
     connection->out = NULL;
@@ -44,7 +50,7 @@ static enum step send_left(struct connection *connection) {
 
 static enum step send_replies(struct connection *connection, const uint8_t *replies, size_t length) {
     size_t sent = 0;
-    enum step step = send_some(connection->socket, replies, length, &sent);
+    enum step step = send_some(connection, replies, length, &sent);
     if (step != RESTS) return step;
     if (!(connection->out = malloc(length - sent))) return IS_OVER;
     memcpy(connection->out, replies + sent, length - sent);
@@ -104,12 +110,16 @@ static enum step answer_frames(struct connection *connection, struct room *room,
     return is_too_long ? IS_OVER : step;
 }
 
+static ssize_t take(const struct connection *connection, uint8_t *bytes, size_t room) {
+    if (connection->secure) return pagelog_secure_receive(connection->secure, bytes, room, MSG_DONTWAIT);
+    return recv(connection->socket, bytes, room, MSG_DONTWAIT);
+}
+
 static enum step read_once(struct connection *connection) {
     if (!connection->in && !(connection->in = malloc(MOST_FRAME))) return IS_OVER;
     ssize_t got;
     do {
-        got = recv(connection->socket, connection->in + connection->in_length,
-                   MOST_FRAME - connection->in_length, MSG_DONTWAIT);
+        got = take(connection, connection->in + connection->in_length, MOST_FRAME - connection->in_length);
     } while (got < 0 && errno == EINTR);
     if (got < 0) return errno == EAGAIN || errno == EWOULDBLOCK ? RESTS : IS_OVER;
     connection->in_length += (size_t)got;
@@ -123,7 +133,20 @@ static void give_back(struct connection *connection) {
     connection->in = NULL;
 }
 
+/* Goes on with the handshake. RESTS: it waits for the client. */
+static enum step shake(struct connection *connection, const struct room *room) {
+    if (!connection->shakes) return GOES_ON;
+    enum pagelog_shake shake = pagelog_secure_shake(connection->secure);
+    connection->shakes_out = shake == SHAKE_WRITES;
+    if (shake == SHAKE_READS || shake == SHAKE_WRITES) return RESTS;
+    if (shake == SHAKE_FAILED || !shown_lets_in(room->shown, connection->secure)) return IS_OVER;
+    connection->shakes = false;
+    return GOES_ON;
+}
+
 bool connection_turn(struct connection *connection, struct room *room) {
+    enum step shaken = shake(connection, room);
+    if (shaken != GOES_ON) return shaken == RESTS;
     enum step step = send_left(connection), read = GOES_ON;
     while (step == GOES_ON && read == GOES_ON && !connection->is_over) {
         uint8_t *end = room->out;

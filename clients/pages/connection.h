@@ -3,6 +3,7 @@
 #define CONNECTION_H
 
 #include "answer.h"
+#include "shown.h"
 
 enum {
     MOST_FRAME = FRAME_HEAD + MOST_REQUEST,
@@ -12,6 +13,9 @@ enum {
 
 struct connection {
     int socket;
+    struct pagelog_secure *secure; /* NULL: without TLS */
+    bool shakes;                   /* its handshake is not done */
+    bool shakes_out;               /* and waits for room to send */
     uint8_t *in;
     size_t in_length;
     uint8_t *out;
@@ -27,6 +31,7 @@ struct room {
     const struct table *table;
     struct store *store;
     struct store_view *view;
+    const struct shown *shown;
     unsigned wait_ms;
     int64_t now;
     uint8_t *out; /* of OUT_ROOM */

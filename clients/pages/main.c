@@ -1,11 +1,16 @@
 /* pagelog-pages: keeps the pages of one database at every position, and answers for them.
  *
- *   pagelog-pages --folder FOLDER --listen HOST:PORT [--cache MIB] [--memtable MIB] [--workers N]
- * [--connections N] [--wait MS] [--direct]
+ *   pagelog-pages --folder FOLDER --listen HOST:PORT [--secure HOST:PORT --tls FILE [--clients FILE
+ *     --identity ID]] [--cache MIB] [--memtable MIB] [--workers N] [--connections N] [--wait MS] [--direct]
+ *
+ * At --secure it speaks TLS, with the certificate and the key of a file; with `--listen -` there alone. With
+ * --clients who comes there shows a certificate of these authorities, with the common name ID.
  *
  * `pagelogctl pages` starts it, gives it the table, images and archived blocks on its standard input, and
- * ends it by closing that. It prints `listening HOST:PORT` and then where it is, after each command. */
+ * ends it by closing that. It prints `listening ADDRESS`, with --secure also that one's, and then where it
+ * is, after each command. */
 #include "control.h"
+#include "shown.h"
 
 #include <arpa/inet.h>
 #include <getopt.h>
@@ -21,7 +26,8 @@ enum { MIB = 1 << 20, BACKLOG = 128 };
 struct settings {
     struct store_settings store;
     struct server_settings server;
-    const char *listen;
+    struct shown_settings shown;
+    const char *listen, *secure;
 };
 
 static int fail(const char *what, const char *why) {
@@ -52,10 +58,33 @@ static bool set_number(struct settings *settings, int option, unsigned long numb
     }
 }
 
+/* Takes an option that has a text; false: it is none. */
+static bool set_text(struct settings *settings, int option, const char *text) {
+    const char **const texts[] = {
+        ['f'] = &settings->store.folder, ['l'] = &settings->listen,        ['s'] = &settings->secure,
+        ['p'] = &settings->shown.file,   ['a'] = &settings->shown.clients, ['i'] = &settings->shown.identity,
+    };
+    bool is_one = option >= 0 && (size_t)option < sizeof texts / sizeof *texts && texts[option];
+    if (is_one) *texts[option] = text;
+    return is_one;
+}
+
+/* Whether what is said of TLS is whole. */
+static bool has_all(const struct settings *settings) {
+    const struct shown_settings *shown = &settings->shown;
+    bool has_place = strcmp(settings->listen, "-") != 0 || settings->secure;
+    return has_place && !settings->secure == !shown->file && !shown->clients == !shown->identity &&
+           (shown->file || !shown->clients);
+}
+
 static bool read_arguments(int count, char **words, struct settings *settings) {
     static const struct option options[] = {
         {"folder", required_argument, NULL, 'f'},
         {"listen", required_argument, NULL, 'l'},
+        {"secure", required_argument, NULL, 's'},
+        {"tls", required_argument, NULL, 'p'},
+        {"clients", required_argument, NULL, 'a'},
+        {"identity", required_argument, NULL, 'i'},
         {"cache", required_argument, NULL, 'c'},
         {"memtable", required_argument, NULL, 'm'},
         {"workers", required_argument, NULL, 'w'},
@@ -67,17 +96,14 @@ static bool read_arguments(int count, char **words, struct settings *settings) {
     int option;
     unsigned long number;
     while ((option = getopt_long(count, words, "", options, NULL)) != -1) {
-        if (option == 'f')
-            settings->store.folder = optarg;
-        else if (option == 'l')
-            settings->listen = optarg;
-        else if (option == 'd')
+        if (set_text(settings, option, optarg)) continue;
+        if (option == 'd')
             settings->store.direct = true;
         else if (option == '?' || !read_number(optarg, 1 << 20, &number) ||
                  !set_number(settings, option, number))
             return false;
     }
-    return optind == count && settings->store.folder && settings->listen;
+    return optind == count && settings->store.folder && settings->listen && has_all(settings);
 }
 
 /* Listens at HOST:PORT, or returns -1. */
@@ -101,14 +127,35 @@ static int listen_at(const char *address) {
     return -1;
 }
 
-static void say_address(int listener) {
+static void say_address(int listener, const char *end) {
     struct sockaddr_storage at;
     socklen_t length = sizeof at;
     char host[NI_MAXHOST], port[NI_MAXSERV];
+    if (listener < 0) {
+        printf("-%s", end);
+        return;
+    }
     getsockname(listener, (struct sockaddr *)&at, &length);
     getnameinfo((struct sockaddr *)&at, length, host, sizeof host, port, sizeof port,
                 NI_NUMERICHOST | NI_NUMERICSERV);
-    printf(at.ss_family == AF_INET6 ? "listening [%s]:%s\n" : "listening %s:%s\n", host, port);
+    printf(at.ss_family == AF_INET6 ? "[%s]:%s%s" : "%s:%s%s", host, port, end);
+}
+
+static void say_addresses(const struct server_settings *server) {
+    printf("listening ");
+    say_address(server->listener, server->shown ? " " : "\n");
+    if (server->shown) say_address(server->secure_listener, "\n");
+}
+
+/* Opens what it listens at; NULL, or what it cannot listen at. */
+static const char *listen_everywhere(struct settings *settings) {
+    struct server_settings *server = &settings->server;
+    server->listener = server->secure_listener = -1;
+    bool is_plain = strcmp(settings->listen, "-") != 0;
+    if (is_plain && (server->listener = listen_at(settings->listen)) < 0) return settings->listen;
+    if (settings->secure && (server->secure_listener = listen_at(settings->secure)) < 0)
+        return settings->secure;
+    return NULL;
 }
 
 int main(int count, char **words) {
@@ -116,25 +163,29 @@ int main(int count, char **words) {
         .store = {.cache = 256 * MIB, .memtable = 32 * MIB},
         .server = {.workers = 4, .connections = 1024, .wait_ms = 100},
     };
-    char *why;
+    char *why, why_not[PAGELOG_WHY_BYTES];
     if (!read_arguments(count, words, &settings)) {
-        fputs("usage: pagelog-pages --folder FOLDER --listen HOST:PORT [--cache MIB] [--memtable MIB] "
-              "[--workers N] [--connections N]\n"
-              "                     [--wait MS] [--direct]\n",
+        fputs("usage: pagelog-pages --folder FOLDER --listen HOST:PORT [--secure HOST:PORT --tls FILE\n"
+              "                     [--clients FILE --identity ID]] [--cache MIB] [--memtable MIB] "
+              "[--workers N]\n"
+              "                     [--connections N] [--wait MS] [--direct]\n",
               stderr);
         return 2;
     }
     signal(SIGPIPE, SIG_IGN);
+    if (settings.secure && !(settings.server.shown = shown_new(&settings.shown, why_not, sizeof why_not)))
+        return fail("TLS", why_not);
     struct store *store = store_open(&settings.store, &why);
     if (!store) return fail(settings.store.folder, why);
     settings.server.store = store;
-    settings.server.listener = listen_at(settings.listen);
-    if (settings.server.listener < 0) return fail(settings.listen, "nothing can listen there");
+    const char *nowhere = listen_everywhere(&settings);
+    if (nowhere) return fail(nowhere, "nothing can listen there");
     struct server *server = server_start(&settings.server);
     if (!server) return fail("threads", "none could be started");
-    say_address(settings.server.listener);
+    say_addresses(&settings.server);
     int status = control_run(stdin, stdout, store, server);
     server_stop(server);
     store_close(store);
+    shown_free(settings.server.shown);
     return status;
 }

@@ -54,7 +54,8 @@ static void ring(struct worker *worker) {
 /* Which events a connection is polled for: none of its requests while one waits, nor while it does not take
  * its replies. */
 static void watch(struct worker *worker, struct connection *connection, int how) {
-    uint32_t events = connection->out ? EPOLLOUT : connection->wanted ? 0 : EPOLLIN;
+    bool sends = connection->out || connection->shakes_out;
+    uint32_t events = sends ? EPOLLOUT : connection->wanted ? 0 : EPOLLIN;
     struct epoll_event event = {.events = events, .data.ptr = connection};
     epoll_ctl(worker->poll, how, connection->socket, &event);
 }
@@ -81,8 +82,20 @@ static void turn(struct worker *worker, struct connection *connection) {
     watch(worker, connection, EPOLL_CTL_MOD);
 }
 
-static void keep(struct worker *worker, int socket) {
+/* A connection of the socket, or NULL without memory; `shown` NULL: without TLS. */
+static struct connection *made_of(int socket, struct shown *shown) {
     struct connection *connection = calloc(1, sizeof *connection);
+    if (!connection) return NULL;
+    connection->socket = socket;
+    connection->secure = shown ? shown_begin(shown, socket) : NULL;
+    connection->shakes = shown != NULL;
+    if (!shown || connection->secure) return connection;
+    free(connection);
+    return NULL;
+}
+
+static void keep(struct worker *worker, int socket, struct shown *shown) {
+    struct connection *connection = made_of(socket, shown);
     int one = 1;
     if (!connection) {
         close(socket);
@@ -90,7 +103,6 @@ static void keep(struct worker *worker, int socket) {
         return;
     }
     setsockopt(socket, IPPROTO_TCP, TCP_NODELAY, &one, sizeof one);
-    connection->socket = socket;
     connection->before = worker->connections.before;
     connection->after = &worker->connections;
     connection->before->after = connection;
@@ -99,16 +111,16 @@ static void keep(struct worker *worker, int socket) {
 }
 
 /* Above the bound, or before there is a table, a connection ends as it comes. */
-static void accept_one(struct worker *worker) {
+static void accept_one(struct worker *worker, int listener, struct shown *shown) {
     struct server *server = worker->server;
-    int socket = accept4(server->settings.listener, NULL, NULL, SOCK_NONBLOCK | SOCK_CLOEXEC);
+    int socket = accept4(listener, NULL, NULL, SOCK_NONBLOCK | SOCK_CLOEXEC);
     if (socket < 0) return;
     if (server->open++ >= server->settings.connections || !worker->room.table) {
         close(socket);
         server->open--;
         return;
     }
-    keep(worker, socket);
+    keep(worker, socket, shown);
 }
 
 /* Those that wait, and have it or have waited long enough: after that one may wait for the next. */
@@ -148,12 +160,15 @@ static bool look_around(struct worker *worker) {
 }
 
 static void hear(struct worker *worker, const struct epoll_event *event) {
+    struct server_settings *settings = &worker->server->settings;
     uint64_t rung;
     if (event->data.ptr == worker) {
         ssize_t got = read(worker->bell, &rung, sizeof rung);
         (void)got;
-    } else if (event->data.ptr == worker->server) {
-        accept_one(worker);
+    } else if (event->data.ptr == &settings->listener) {
+        accept_one(worker, settings->listener, NULL);
+    } else if (event->data.ptr == &settings->secure_listener) {
+        accept_one(worker, settings->secure_listener, settings->shown);
     } else if (event->events & (EPOLLERR | EPOLLHUP)) {
         forget(worker, event->data.ptr);
     } else {
@@ -185,18 +200,25 @@ static void free_worker(struct worker *worker) {
     free(worker->room.out);
 }
 
+/* Hears of who comes to a listener, if there is one. */
+static bool hear_at(const struct worker *worker, int *listener) {
+    struct epoll_event door = {.events = EPOLLIN | EPOLLEXCLUSIVE, .data.ptr = listener};
+    return *listener < 0 || epoll_ctl(worker->poll, EPOLL_CTL_ADD, *listener, &door) == 0;
+}
+
 static bool start_worker(struct server *server, struct worker *worker) {
     *worker = (struct worker){.server = server, .bell = eventfd(0, EFD_NONBLOCK | EFD_CLOEXEC)};
     worker->poll = epoll_create1(EPOLL_CLOEXEC);
     worker->connections.before = worker->connections.after = &worker->connections;
     worker->room = (struct room){.store = server->settings.store, .wait_ms = server->settings.wait_ms};
+    worker->room.shown = server->settings.shown;
     worker->room.view = store_view_new(server->settings.store);
     worker->room.out = malloc(OUT_ROOM);
     struct epoll_event bell = {.events = EPOLLIN, .data.ptr = worker};
-    struct epoll_event door = {.events = EPOLLIN | EPOLLEXCLUSIVE, .data.ptr = server};
     bool is_ready = worker->bell >= 0 && worker->poll >= 0 && worker->room.view && worker->room.out;
     is_ready = is_ready && epoll_ctl(worker->poll, EPOLL_CTL_ADD, worker->bell, &bell) == 0;
-    is_ready = is_ready && epoll_ctl(worker->poll, EPOLL_CTL_ADD, server->settings.listener, &door) == 0;
+    is_ready = is_ready && hear_at(worker, &server->settings.listener) &&
+               hear_at(worker, &server->settings.secure_listener);
     if (is_ready && pthread_create(&worker->thread, NULL, work, worker) == 0) return true;
     free_worker(worker);
     return false;

@@ -9,7 +9,9 @@
 
 struct server_settings {
     struct store *store;
-    int listener; /* listens, and does not block */
+    /* They listen, and do not block; -1: there is none. */
+    int listener, secure_listener;
+    struct shown *shown; /* to who comes by the secure one */
     unsigned workers, connections;
     unsigned wait_ms; /* how long a get waits for a position that is not there yet */
 };

@@ -5,7 +5,7 @@ Usage: python3 -B clients/python/measure.py [BLOCKS]     (3000; PAGELOG names an
 
 Every figure is the best of three rounds, of wall time; `client` is the processor time that this program took for one, in
 microseconds, which hardly depends on the service. The bare loop has its frames made beforehand and looks at no reply but
-to count them; for an archive it runs the same statements on sqlite3 or psycopg2, with the blocks in a list.
+to count them; for an archive it runs the same statements on sqlite3 or psycopg, with the blocks in a list.
 """
 
 from __future__ import annotations
@@ -22,7 +22,7 @@ from typing import Callable, Iterable, Sequence
 HERE = Path(__file__).resolve().parent
 sys.path[:0] = [str(HERE / "src"), str(HERE / "tests")]
 
-import psycopg2  # noqa: E402
+import psycopg  # noqa: E402
 from postgres import postgres  # noqa: E402
 from service import Service, token  # noqa: E402
 
@@ -190,7 +190,7 @@ def in_sqlite(folder: str) -> Callable[[list[Block]], int]:
 
 def in_postgres(url: str) -> Callable[[list[Block]], int]:
     def keep(blocks: list[Block]) -> int:
-        connection = psycopg2.connect(url.replace("+psycopg2", ""))
+        connection = psycopg.connect(url)
         cursor = connection.cursor()
         cursor.execute("drop table if exists block; drop table if exists log")
         return statements(connection, cursor, blocks, "%s")
@@ -211,9 +211,7 @@ def statements(connection: object, cursor: object, blocks: list[Block], mark: st
         if mark == "?":
             cursor.executemany(INSERT.format(mark), rows)  # type: ignore[attr-defined]
         else:
-            from psycopg2.extras import execute_values
-
-            execute_values(cursor, "insert into block (log, lsn, crc, data) values %s", rows, "(1, %s, %s, %s)", page_size=1000)
+            run("insert into block (log, lsn, crc, data) select 1, * from unnest(%b::bigint[], %b::bigint[], %b::bytea[])", [*map(list, zip(*rows))])
         commit()
     connection.close()  # type: ignore[attr-defined]
     return len(blocks)

@@ -11,7 +11,8 @@ from pathlib import Path
 from typing import Callable, Iterable
 
 import psycopg
-from pagelog.keeper.referee import KeeperError, Referee, digest, plain_url
+from pagelog.keeper.referee import KeeperError, Referee, digest
+from pagelog.libpq import plain_url
 from pagelog.keeper.rows import Look, Row
 from pagelog.place import Keepers
 

@@ -5,6 +5,7 @@ from __future__ import annotations
 import os
 import pickle
 import shutil
+import socket
 import subprocess
 import sys
 import time
@@ -62,15 +63,18 @@ class RunnerOf:
         self.socket = folder / "socket"
         self.process: subprocess.Popen[bytes] | None = None
 
-    def begin(self, environment: dict[str, str] | None = None) -> None:
-        """Starts its process."""
+    def begin(self, environment: dict[str, str] | None = None, listener: socket.socket | None = None) -> None:
+        """Starts its process, with a socket that was made for it, as systemd does, or with none."""
         words = [sys.executable, "-m", "pagelog", "runner", "--for", str(self._friend), "--socket", str(self.socket)]
+        given = [] if listener is None else [listener.fileno()]
+        if given:
+            words = ["sh", "-c", 'LISTEN_FDS=1 LISTEN_PID=$$; export LISTEN_FDS LISTEN_PID; exec "$@" 3<&"$0"', str(*given), *words]
         self.process = subprocess.Popen(words, stdout=subprocess.DEVNULL, env={**os.environ, "PYTHONPATH": str(SOURCE), **(environment or {})},
-                                        **of_user(self._user))  # fmt: skip
+                                        pass_fds=given, **of_user(self._user))  # fmt: skip
 
-    def start(self, environment: dict[str, str] | None = None) -> None:
+    def start(self, environment: dict[str, str] | None = None, listener: socket.socket | None = None) -> None:
         """Begins it, and waits until it answers."""
-        self.begin(environment)
+        self.begin(environment, listener)
         try:
             eventually(self._answers, "a runner")
         except BaseException:

@@ -27,7 +27,7 @@ from prometheus_client.parser import text_string_to_metric_families
 
 from pagelog import Block, NamedPrimary, NamedReader, Primary, Put, Reader
 from pagelog.desk.words import pagelogctl
-from pagelog.keeper.referee import KeeperError, Referee, digest, plain_url
+from pagelog.keeper.referee import KeeperError, Referee, digest
 from pagelog.keeper.rows import Batch, Row
 from pagelog.keeper.run import orphans_of
 from pagelog.place import Keepers, Place, UnknownName
@@ -41,7 +41,7 @@ _shared: list[str] = []
 
 def new_url() -> str:
     """The URL of a new database with the referee's tables."""
-    url = plain_url(postgres().url(f"keepers{next(_numbers)}"))
+    url = postgres().url(f"keepers{next(_numbers)}")
     referee = Referee(url)
     referee.prepare()
     referee.close()

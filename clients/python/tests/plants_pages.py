@@ -2,7 +2,7 @@
 
 from plant import Plant
 
-_FOLLOWING, _STORES, _C = "../pages/following", "../pages/stores", "../../../../pages"
+_FOLLOWING, _STORES, _COMPARING, _C = "../pages/following", "../pages/stores", "../pages/comparing", "../../../../pages"
 
 PLANTS = {
     "pages, a deleted store": Plant(_FOLLOWING, "        if where is not None and not (was_confirmed and where.confirmed):\n", "        if True:\n", "pages", "set_aside_named_and_read"),
@@ -19,6 +19,7 @@ PLANTS = {
                                               "        self._look()\n        self._set_table(self._archived)\n        self._fill()\n", "pages", "never_confirmed"),
     "pages, without a second chance": Plant("../named_reader", "                if (copied := self._copied(numbers, at)) is None:\n                    raise\n",
                                             "                if (copied := None) is None:\n                    raise\n", "pages", "do_without_it"),
+    "pages, one that stands still": Plant("../page_copies", "        self._ask_again()\n        return self._first", "        return self._first", "pages", "one_that_lives"),
     "pages, chain not compared": Plant(f"{_C}/store_write.c", "(store->chain.length != CHAIN_BYTES || memcmp(chain, store->chain.bytes, CHAIN_BYTES) != 0)", "store->chain.length > CHAIN_BYTES", "pages", "another_chain"),
     "pages, half a base": Plant(f"{_C}/store.c", "    if (!has_rows) return true;\n", "    if (!has_rows || !*why) return true;\n", "pages", "begins_with_images"),
     "pages, records of the filter": Plant(f"{_C}/store_forget.c", "key[PAGE_KEY - 1] == IMAGE ||", "true ||", "pages", "is_forgotten_goes"),
@@ -50,4 +51,35 @@ PLANTS = {
                                   "is_held_back"),
     "pages, of any database": Plant("keeping", "        if database is None or of is None or of.database != database.row.identity:\n            line.say(\"elsewhere\", name, position",
                                     "        if database is None or of is None:\n            line.say(\"elsewhere\", name, position", "pages", "is_held_back"),
+    "pages compared, a base without its images": Plant(_COMPARING, "    for number in bases.ranges(base.position):\n        found.add(number)\n", "", "pages_compared", "two_are_alike"),
+    "pages compared, nothing behind a base": Plant(_COMPARING, "    for piece in bases.pieces(base.position + 1, position):\n",
+                                                   "    for piece in ():\n", "pages_compared", "two_are_alike"),
+    "pages compared, at the newest": Plant(_COMPARING, "    position = min(most, *(copy.last for copy in copies))\n",
+                                           "    position = min(copy.last for copy in copies)\n", "pages_compared", "two_are_alike"),
+    "pages compared, below the oldest": Plant(_COMPARING, "        if position < copy.oldest:\n", "        if False:\n", "pages_compared", "two_are_alike"),
+    "pages compared, whose is right": Plant("../desk/comparing_words", "position, service, told)", "position, None, told)", "pages_compared", "two_are_alike"),
+    "pages compared, one with itself": Plant("../desk/comparing_words", "            copies.append(service)\n", "            copies.append(copies[0])\n",
+                                             "pages_compared", "with_the_service"),
+    "pages compared, gone for good": Plant(_COMPARING, "    may_pass = True\n", "    may_pass = False\n", "pages_compared", "forgotten_meanwhile"),
+    "pages compared, a bit for two": Plant(_COMPARING, "1 << range % 8", "1 << range % 4", "pages_compared", "a_bit_each"),
+    "pages by TLS, any client": Plant(f"{_C}/shown.c", "is_verified && has_name(", "is_verified | has_name(",
+                                      "pages_secured", "certificate_of_the_database"),
+    "pages by TLS, a name that begins so": Plant(f"{_C}/shown.c", "memcmp(text, name, (size_t)length) == 0;", "memcmp(text, name, 0) == 0;",
+                                                 "pages_secured", "certificate_of_the_database"),
+    "pages by TLS, never renewed": Plant(f"{_C}/shown.c", "    if (!has_changed) return;\n", "    if (!has_changed || shown->context) return;\n",
+                                         "pages_secured", "newest_certificate"),
+    "pages by TLS, no plain one is left out": Plant("../pages/process", "return NOWHERE if self.is_only else", "return", "pages_secured", "led_there_by_tls"),
+    "pages by TLS, told to all": Plant("rows", "    secure: str | None = None\n    \"\"\"The way to it by TLS, as `ways` reads it.\"\"\"\n\n"
+                                       "    def told(self, is_secure: bool) -> str | None:\n"
+                                       "        \"\"\"Its address, as it is told to who came by TLS or without.\"\"\"\n"
+                                       "        return address_for(self.address, way_of(self.secure, self.run), is_secure=is_secure)\n\n    @property\n    def is_gone",
+                                       "    secure: str | None = None\n\n    def told(self, is_secure: bool) -> str | None:\n        return self.address\n\n"
+                                       "    @property\n    def is_gone", "pages_secured", "led_to_plain_text"),
+    "pages by TLS, read in plain text": Plant("../page_copies", "attempts=1, trust=self._trust)", "attempts=1)", "pages_secured", "names_a_plain_one"),
+    "pages by TLS, a keeper in plain text": Plant("../pages/bell", "_ANSWER, self._trust)", "_ANSWER)", "pages_secured", "led_there_by_tls"),
+    "pages by TLS, a keeper's plain lines": Plant("../pages/following", "is_secure=self._settings.trust is not None)", "is_secure=False)", "pages_secured", "led_there_by_tls"),
+    "pages by TLS, for another host": Plant("../desk/pages_words", "    if not Pair.read(Path(file)).is_for(host):\n", "    if False:\n", "pages_secured", "says_amiss"),
+    "pages by TLS, a saved store in plain text": Plant("../desk/pages_words", "replace(serving, is_only=True)", "None", "pages_secured", "as_the_keepers_file"),
+    "pages by TLS, compared in plain text": Plant("../desk/comparing_words", "pages.told(self._trust is not None)", "pages.told(False) or pages.address",
+                                                  "pages_secured", "led_there_by_tls"),
 }  # fmt: skip

@@ -17,6 +17,7 @@ PLANTS = {
     "runner, kept descriptors": Plant("runner_process", "                self._poll.unregister(descriptor)\n                os.close(descriptor)\n",
                                       "                self._poll.unregister(descriptor)\n", "runner", "no_zombie"),
     "runner, its own end": Plant("runner", "        runner.end(process)\n", "        pass\n", "runner", "with_what_its_memory_has"),
+    "runner, a socket for others": Plant("../desk/runner_words", ", readable=False", "", "runner", "systemd_has_made_for_the_keepers_user"),
     "runner, its memory": Plant("run", "memory_of(pid) if runner is None or is_allowed(pid) else", "memory_of(pid) if True else", "runner",
                                 "with_what_its_memory_has"),
     "runner, unknown memory": Plant("run", "                made.acknowledged  # now", "                pass  # now", "runner", "lives_on_without_its_runner"),

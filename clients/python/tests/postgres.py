@@ -86,7 +86,7 @@ class Postgres:
     def url(self, name: str) -> str:
         """The URL of a new database of this name."""
         self.run("createdb", "-h", self.folder, "-U", "pagelog", name)
-        return f"postgresql+psycopg2://pagelog@/{name}?host={self.folder}"
+        return f"postgresql://pagelog@/{name}?host={self.folder}"
 
 
 def _run(words: list[str], **how: Any) -> subprocess.CompletedProcess[bytes]:

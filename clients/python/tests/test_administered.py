@@ -75,6 +75,14 @@ class Administered(unittest.TestCase):
         self.past.losses = [Loss(9.6, 10.9)]
         self.assert_one("whose life is gone")
 
+    def test_a_position_that_moved(self) -> None:
+        self.past.drops.append(Drop("s1", 20, 21, True))
+        for at, lives, is_excused in ((19, "xx", False), (22, "xx", False), (22, "xy", True), (21 + BOUND + 1, "xy", False)):
+            with self.subTest(at=at, lives=lives):
+                self.note("s1.readers-at", "moved", at + 0.1, name="s1", began=at, lives=[*lives], position=7, seqs=[2, 1])
+                self.assert_one("moved: position 7 has link 1 of life") if not is_excused else self.assertEqual(self.violations(), [])
+                (self.folder / "s1.readers-at.notes").unlink()
+
     def test_acknowledged_after_a_drop(self) -> None:
         self.commit(1, 9)
         self.past.drops = [Drop("s1", 10, 11, True)]

@@ -4,6 +4,7 @@ from __future__ import annotations
 
 import os
 import random
+import sqlite3
 import subprocess
 import sys
 import tempfile
@@ -11,14 +12,14 @@ import threading
 import unittest
 import zlib
 from pathlib import Path
+from typing import Any
 from unittest import mock
-
-import sqlalchemy as sql
 
 import pagelog
 from pagelog import Block, Credentials, Reader
-from pagelog.archive import Archive, BrokenArchive, NoArchive, OtherArchiver, _blocks
+from pagelog.archive import Archive, BrokenArchive, NoArchive, OtherArchiver
 from pagelog.keeping import Archiver, OtherLog, all_blocks, restore, whole
+from pagelog.trail import Trail
 from postgres import postgres
 from service import PATIENCE, SOURCE, CuttingProxy, Service, TurningProxy, fill, put, token
 
@@ -28,6 +29,19 @@ def words(*arguments: object, **environment: str) -> subprocess.Popen[str]:
     command = [sys.executable, "-B", "-m", "pagelog", *map(str, arguments)]
     variables = {**os.environ, "PYTHONPATH": str(SOURCE), **environment}
     return subprocess.Popen(command, stdin=subprocess.DEVNULL, stdout=subprocess.PIPE, stderr=subprocess.PIPE, text=True, env=variables)
+
+
+def change(of: Archive | Trail, statement: str, **values: object) -> int:
+    """How many rows this has changed in the database of an archive or a trail."""
+    with of.engine.begin() as session:
+        return session.change(statement, **values)
+
+
+def row_of_piece(trail: Trail, first: int) -> dict[str, Any]:
+    """The piece of a trail that begins with this line, column by column."""
+    columns = ("list", "first", "count", "seen", "day", "before", "digest", "data")
+    [row] = trail.engine.rows(f"SELECT {', '.join(columns)} FROM pagelog_trail_piece WHERE first = %(first)s", first=first)
+    return dict(zip(columns, row))
 
 
 class Folder(unittest.TestCase):
@@ -87,15 +101,13 @@ class Keeping(Folder):
             with self.assertRaises(OtherArchiver):
                 archive.keep(batch, 1)
         # A block of the next batch is there already, for whatever reason: the whole batch is given up.
-        with archive.engine.begin() as connection:
-            connection.execute(_blocks.insert().values(log=archive.id, lsn=7, crc=0, data=b""))
-        with self.assertRaises(sql.exc.IntegrityError):
+        change(archive, "INSERT INTO pagelog_block VALUES (%(log)s, 7, 0, %(data)s)", log=archive.id, data=b"")
+        with self.assertRaises(sqlite3.IntegrityError):
             archive.keep(blocks[4:], 1)
         self.assertEqual((archive.archived, [block.lsn for block in archive.blocks()]), (4, [1, 2, 3, 4]))
         with self.assertRaises(BrokenArchive):
             archive.check()
-        with archive.engine.begin() as connection:
-            connection.execute(_blocks.delete().where(_blocks.c.lsn == 7))
+        change(archive, "DELETE FROM pagelog_block WHERE lsn = 7")
         self.assertEqual((archive.keep(blocks[4:], 3), archive.epoch, archive.check().blocks), (8, 3, 8))
 
     def test_two_archivers_keep_no_block_twice(self) -> None:
@@ -111,7 +123,7 @@ class Keeping(Folder):
                     ended.append("other")
 
         threads = [threading.Thread(target=run) for _ in range(3)]
-        with mock.patch("pagelog.archive_engine._BUSY_MILLISECONDS", int(1000 * PATIENCE)):  # a disk may take its time
+        with mock.patch("pagelog.archive_sqlite.BUSY_SECONDS", PATIENCE):  # a disk may take its time
             for thread in threads:
                 thread.start()
             for thread in threads:
@@ -139,31 +151,27 @@ class Keeping(Folder):
         Archiver(self.reader, archive).run(follow=False)
         good = {block.lsn: block for block in archive.blocks()}
 
-        def change(lsn: int, **values: object) -> None:
-            with archive.engine.begin() as connection:
-                connection.execute(_blocks.update().where(_blocks.c.lsn == lsn).values(**values))
+        def put_in(lsn: int, data: bytes, crc: int | None = None) -> None:
+            change(archive, "UPDATE pagelog_block SET data = %(data)s, crc = COALESCE(%(crc)s, crc) WHERE lsn = %(lsn)s", lsn=lsn, data=data, crc=crc)
 
-        change(9, data=good[9].data[:-1] + b"\0\0")
+        put_in(9, good[9].data[:-1] + b"\0\0")
         with self.assertRaisesRegex(BrokenArchive, "LSN 9: its bytes"):
             archive.check()
-        for value in ("'text'", "0.5", "-1", "9223372036854775807"):
-            with archive.engine.begin() as connection:
-                connection.execute(sql.text(f"UPDATE pagelog_block SET data = {value} WHERE lsn = 9"))
+        for value in ("'text'", "CAST(data AS TEXT)", "0.5", "-1", "9223372036854775807"):
+            change(archive, f"UPDATE pagelog_block SET data = {value} WHERE lsn = 9")
             with self.assertRaisesRegex(BrokenArchive, "LSN 9: it is no bytes"):
                 archive.check()
-        change(9, data=good[9].data)
-        change(12, data=good[11].data, crc=zlib.crc32(good[11].data))
+        put_in(9, good[9].data)
+        put_in(12, good[11].data, zlib.crc32(good[11].data))
         with self.assertRaisesRegex(BrokenArchive, "says that it has LSN 11"):
             list(archive.blocks())
-        change(12, data=b"short", crc=zlib.crc32(b"short"))
+        put_in(12, b"short", zlib.crc32(b"short"))
         with self.assertRaisesRegex(BrokenArchive, "LSN 12: block fault 1"):
             list(archive.blocks())
-        with archive.engine.begin() as connection:
-            connection.execute(_blocks.delete().where(_blocks.c.lsn == 12))
+        change(archive, "DELETE FROM pagelog_block WHERE lsn = 12")
         with self.assertRaisesRegex(BrokenArchive, "LSN 12: it is missing"):
             archive.check()
-        with archive.engine.begin() as connection:
-            connection.execute(_blocks.delete().where(_blocks.c.lsn > 12))
+        change(archive, "DELETE FROM pagelog_block WHERE lsn > 12")
         with self.assertRaisesRegex(BrokenArchive, "LSN 12: it is missing"):
             archive.check()
 
@@ -171,11 +179,10 @@ class Keeping(Folder):
         """SQLite has values of any type, and quotes a statement that it cannot read."""
         with self.archive() as archive:
             archive.keep([Block.of(lsn, [put(0, b"x")]) for lsn in range(1, 9)], 1)
-            with archive.engine.begin() as connection:
-                connection.execute(sql.text("insert into pagelog_block select log, 'z', crc, data from pagelog_block where lsn = 8"))
+            change(archive, "INSERT INTO pagelog_block SELECT log, 'z', crc, data FROM pagelog_block WHERE lsn = 8")
         self.offline("BrokenArchive: the archive is broken at LSN z: a block is kept above")
-        with self.archive() as archive, archive.engine.begin() as connection:
-            connection.execute(sql.text("update pagelog_log set archived = 'abc'"))
+        with self.archive() as archive:
+            change(archive, "UPDATE pagelog_log SET archived = 'abc'")
         self.offline("ArchiveError: the archived LSN is 'abc'")
         file = self.folder / "archive.db"
         file.write_bytes(file.read_bytes().replace(b"REFERENCES", b"\xadEFERENCES"))

@@ -35,9 +35,11 @@ from pagelog.times import moment
 from pagelog.trail.question import Question, answer
 from pagelog.trail.replay import DENIED_TEXT, Difference, NotReplayable, lines_of, replay
 from pagelog.trail.seal import seal, sealed_blocks
-from pagelog.trail.store import _PIECES, _lists, _pieces, piece_behind
+from pagelog.trail.statements import NEW_PIECE
+from pagelog.trail.store import _PIECES, piece_behind
 from pagelog_model.table import read
 from service import PATIENCE, SOURCE, TABLE
+from test_archive import change, row_of_piece
 
 SUMMER = timezone(timedelta(hours=2))
 WINTER = timezone(timedelta(hours=1))
@@ -129,14 +131,14 @@ class Stored(unittest.TestCase):
             lines = (Entry(number, 1, 2, Role.PRIMARY, 1, Operation.STATUS, 0, 0, 0, 0, 0) for number in numbers)
             piece, one = piece_behind(one, b"".join(map(encode_entry, lines)), at)
             pieces.append(piece)
-        with self.trail.engine.begin() as connection:
-            connection.execute(_pieces.insert(), pieces)
-            connection.execute(_lists.update().values(kept=one.kept, seen=one.seen, digest=one.digest))
+        for piece in pieces:
+            change(self.trail, NEW_PIECE, **piece)
+        change(self.trail, "UPDATE pagelog_trail_list SET kept = %(kept)s, seen = %(seen)s, digest = %(digest)s", kept=one.kept, seen=one.seen,
+               digest=one.digest)  # fmt: skip
         return one
 
     def take_out(self, first: int) -> None:
-        with self.trail.engine.begin() as connection:
-            self.assertEqual(connection.execute(_pieces.delete().where(_pieces.c.first == first)).rowcount, 1)
+        self.assertEqual(change(self.trail, "DELETE FROM pagelog_trail_piece WHERE first = %(first)s", first=first), 1)
 
 
 class Long(Stored):
@@ -167,33 +169,29 @@ class Missing(Stored):
             self.assertEqual([piece.first for piece in self.trail.pieces(one, **times)], pieces)
         for gone, times in ((7, dict(since=30, until=50)), (7, dict(since=30)), (10, dict(since=30, until=50)), (4, dict(until=30)), (1, dict(until=20)),
                             (13, dict(since=60)), (13, dict(since=30))):  # fmt: skip
-            with self.subTest(gone=gone, **times), self.trail.engine.begin() as connection:
-                kept = dict(connection.execute(_pieces.select().where(_pieces.c.first == gone)).one()._mapping)
-            self.take_out(gone)
-            with self.assertRaises(BrokenTrail) as raised:
-                list(self.trail.pieces(one, **times))
-            self.assertEqual(raised.exception.line, gone)
-            with self.trail.engine.begin() as connection:
-                connection.execute(_pieces.insert().values(kept))
+            with self.subTest(gone=gone, **times):
+                kept = row_of_piece(self.trail, gone)
+                self.take_out(gone)
+                with self.assertRaises(BrokenTrail) as raised:
+                    list(self.trail.pieces(one, **times))
+                self.assertEqual(raised.exception.line, gone)
+                change(self.trail, NEW_PIECE, **kept)
 
     def test_a_time_that_was_changed_is_found(self) -> None:
         one = self.keep([10, 20, 30, 40])
         for first, seen, times in ((7, 25, dict(since=30)), (7, 45, dict(since=30, until=40)), (4, 99, dict(until=30))):
-            with self.trail.engine.begin() as connection:
-                [[before]] = connection.execute(_pieces.select().with_only_columns(_pieces.c.seen).where(_pieces.c.first == first))
-                connection.execute(_pieces.update().where(_pieces.c.first == first).values(seen=seen))
+            before = row_of_piece(self.trail, first)["seen"]
+            change(self.trail, "UPDATE pagelog_trail_piece SET seen = %(seen)s WHERE first = %(first)s", first=first, seen=seen)
             with self.assertRaises(BrokenTrail):
                 list(self.trail.pieces(one, **times))
-            with self.trail.engine.begin() as connection:
-                connection.execute(_pieces.update().where(_pieces.c.first == first).values(seen=before))
+            change(self.trail, "UPDATE pagelog_trail_piece SET seen = %(seen)s WHERE first = %(first)s", first=first, seen=before)
 
 
 class Named(Stored):
     def test_a_list_that_has_another_name_by_now_is_ended_and_no_other(self) -> None:
         old, new = (TrailKeeper(Listed(), self.trail, generation=generation) for generation in (1, 1))  # type: ignore[arg-type]
         old.step()
-        with self.trail.engine.begin() as connection:  # as a drop does
-            connection.execute(_lists.update().values(log="shop!1"))
+        change(self.trail, "UPDATE pagelog_trail_list SET log = 'shop!1'")  # as a drop does
         new.step()
         old.end("generation 1 was released: the database was dropped")
         with Trail(self.url, "shop!1") as dropped:

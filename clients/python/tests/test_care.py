@@ -11,16 +11,16 @@ from unittest import mock
 
 import pagelog
 from pagelog import archive_care
-from pagelog.archive import Archive, _blocks
+from pagelog.archive import Archive
 from pagelog.archive_care import damaged, drop, logs_of, mend
-from pagelog.archive_engine import ArchiveError, without_password
+from pagelog.archive_url import ArchiveError, without_password
 from pagelog.archiving import Archiver
 from pagelog.comparing import OtherLog, all_blocks
 from pagelog.desk import explain
 from pagelog.restoring import restore
 from postgres import postgres
 from service import PATIENCE, Service, fill
-from test_archive import words
+from test_archive import change, words
 from test_restore import Pair
 
 
@@ -33,10 +33,9 @@ def said(*arguments: object, **environment: str) -> tuple[int, str, str]:
 class Damage(Pair):
     def damage(self, *lsns: int) -> None:
         """The first of them is missing, and of the others a byte is wrong."""
-        with self.archive.engine.begin() as connection:
-            connection.execute(_blocks.delete().where(_blocks.c.lsn == lsns[0]))
-            for lsn in lsns[1:]:
-                connection.execute(_blocks.update().where(_blocks.c.lsn == lsn).values(crc=1))
+        change(self.archive, "DELETE FROM pagelog_block WHERE lsn = %(lsn)s", lsn=lsns[0])
+        for lsn in lsns[1:]:
+            change(self.archive, "UPDATE pagelog_block SET crc = 1 WHERE lsn = %(lsn)s", lsn=lsn)
 
     def test_a_restore_up_to_the_damage(self) -> None:
         self.archived(100)

@@ -16,7 +16,7 @@ import psycopg
 from click.testing import CliRunner
 
 from consoles import HOSTILE, Console, Follower, Rows, page_of
-from keepers import Kept, new_url, plain_url
+from keepers import Kept, new_url
 from pagelog.console.source import Source
 from pagelog.console.watcher import PACE
 from pagelog.desk.words import pagelogctl
@@ -184,7 +184,7 @@ class OfAKeeper(Kept):
 
 class ByRows(OfAPage):
     def test_none_and_then_one(self) -> None:
-        url = plain_url(postgres().url("empty_of_consoles"))
+        url = postgres().url("empty_of_consoles")
         with Console(url) as console, console.follow() as follower:
             self.assertEqual((follower.look()["databases"], follower.head["postgresql"]["is_prepared"]), ([], False))
             referee = Referee(url)
@@ -251,8 +251,7 @@ class ByRows(OfAPage):
 
     def test_denials_and_reads_of_a_trail(self) -> None:
         rows, service = self.enterContext(Rows(1)), self.enterContext(Service())
-        url = rows.url.replace("postgresql:", "postgresql+psycopg2:")
-        trail, operator = self.enterContext(Trail(url, "db001", create=True)), self.enterContext(service.operator())
+        trail, operator = self.enterContext(Trail(rows.url, "db001", create=True)), self.enterContext(service.operator())
         reader = self.enterContext(service.reader())
         console = self.enterContext(Console(rows.url))
         follower = self.enterContext(console.follow())
@@ -270,12 +269,10 @@ class ByRows(OfAPage):
         self.assertIn("db001: epoch 2 began: principal 2 is its primary", follower.said())
         follower.look()
         self.assertEqual(follower.databases["db001"]["denials"], 7)  # no piece is counted twice
-        with trail.engine.begin() as connection:
-            reader.answers([Pull(99)])
-            keeper.step()
-            connection.exec_driver_sql(
-                "UPDATE pagelog_trail_piece SET data = 'x' WHERE first = (SELECT max(first) FROM pagelog_trail_piece)"
-            )
+        reader.answers([Pull(99)])
+        keeper.step()
+        with trail.engine.begin() as session:
+            session.change("UPDATE pagelog_trail_piece SET data = 'x' WHERE first = (SELECT max(first) FROM pagelog_trail_piece)")
         follower.until(lambda: console.detail("db001")["trail_is_damaged"])
 
 

@@ -9,7 +9,7 @@ import unittest
 from typing import Any
 
 from consoles import HOSTILE, Console, Page, Rows, page_of
-from keepers import Kept, eventually, plain_url
+from keepers import Kept, eventually
 from postgres import postgres
 
 try:
@@ -137,7 +137,7 @@ class Browsed(unittest.TestCase):
 
 class OnePage(Browsed):
     def test_no_database_yet(self) -> None:
-        self.open(self.console(plain_url(postgres().url("none_of_pages"))))
+        self.open(self.console(postgres().url("none_of_pages")))
         self.assertEqual((self.text("#none"), self.names()), ("There is no named database yet: pagelogctl create makes one.", []))
         self.check_page()
 

@@ -16,11 +16,12 @@ import time
 import unittest
 from unittest import mock
 
-import sqlalchemy as sql
+import psycopg
 
 import pagelog
-from pagelog import Block, archiving
+from pagelog import Block, archive_postgres, archiving
 from pagelog.archive import Archive
+from pagelog.archive_engine import engine_of
 from pagelog.archiving import Archiver
 from pagelog.audit_list import AuditFollower, AuditRoom
 from pagelog.desk import archive_words
@@ -132,7 +133,7 @@ class Lists(Folder):
     def test_after_a_fence_it_ends_once_all_is_archived(self) -> None:
         """The connection is lost after the fence, before it is known how much is left."""
         guard = mock.Mock(fenced=2)
-        archiver = mock.Mock(lag=0, **{"run.side_effect": [pagelog.ConnectionLost("cut"), sql.exc.OperationalError("x", None, Exception("y")), 7]})
+        archiver = mock.Mock(lag=0, **{"run.side_effect": [pagelog.ConnectionLost("cut"), psycopg.OperationalError("x"), 7]})
         with mock.patch("time.sleep"), contextlib.redirect_stderr(io.StringIO()):
             Follower(archiver, 0.1, lambda: False, guard).run()
         self.assertEqual([call.kwargs["follow"] for call in archiver.run.mock_calls], [False] * 3)
@@ -302,7 +303,7 @@ class Audits(Folder):
 
 def patient(*arguments: object) -> subprocess.Popen[str]:
     """As `words`, with waits for PostgreSQL that have no end of their own, so that it is the signal that ends them."""
-    code = f"from pagelog import archive_engine as of; of.bound_waits.__defaults__ = ({20 * PATIENCE},); import pagelog.__main__"
+    code = f"from pagelog import archive_postgres as of; of.WAIT_SECONDS = {20 * PATIENCE}; import pagelog.__main__"
     command = [sys.executable, "-B", "-c", code, *map(str, arguments)]
     variables = {**os.environ, "PYTHONPATH": str(SOURCE)}
     return subprocess.Popen(command, stdout=subprocess.PIPE, stderr=subprocess.PIPE, text=True, env=variables)
@@ -348,10 +349,11 @@ class Silence(Folder):
             self.assertEqual((process.returncode, error.count("\n")), (128 + number, 1), (line, error))
 
     def test_what_is_cleaned_up_after_a_signal_waits_no_more(self) -> None:
-        for ending in ("try: asks(); time.sleep(100)\nfinally: connection.rollback()", "asks(); time.sleep(100)"):
+        for ending in ("with engine.begin() as session: session.change('create table t (a int)'); asks(); time.sleep(100)",
+                       "with engine.begin() as session: asks(); session.rows('select pg_sleep(100)')", "asks(); time.sleep(100)"):  # fmt: skip
             self.proxy.is_silent.clear()
-            code = ("import sys, time; sys.path.insert(0, sys.argv[1]); from pagelog.archive_engine import bound_waits, engine_of\n"
-                    f"bound_waits({20 * PATIENCE}); connection = engine_of(sys.argv[2]).connect(); connection.exec_driver_sql('select 1')\n"
+            code = ("import sys, time; sys.path.insert(0, sys.argv[1]); from pagelog import archive_postgres; from pagelog.archive_engine import engine_of\n"
+                    f"archive_postgres.WAIT_SECONDS = {20 * PATIENCE}; engine = engine_of(sys.argv[2]); engine.rows('select 1')\n"
                     "def asks(): print('asks', flush=True)\n" + ending)
             process = subprocess.Popen([sys.executable, "-B", "-c", code, str(SOURCE), self.silent_url], stdout=subprocess.PIPE,
                                        stderr=subprocess.PIPE, text=True)  # fmt: skip
@@ -377,11 +379,10 @@ class Silence(Folder):
         return found
 
     def test_a_wait_has_an_end_of_its_own(self) -> None:
-        code = ("import sys; sys.path.insert(0, sys.argv[1]); from pagelog.archive_engine import bound_waits; from pagelog.archive import Archive\n"
-                "bound_waits(0.5)\ntry: Archive(sys.argv[2])\nexcept Exception as error: print(type(error).__name__, str(error).splitlines()[0])")
-        self.proxy.is_silent.set()
-        done = subprocess.run([sys.executable, "-B", "-c", code, str(SOURCE), self.silent_url], capture_output=True, text=True, timeout=PATIENCE)
-        self.assertRegex(done.stdout, "OperationalError .*PostgreSQL was silent for 0 s")
+        with engine_of(self.silent_url).session() as session, mock.patch.object(archive_postgres, "WAIT_SECONDS", 0.5):
+            self.proxy.is_silent.set()
+            with self.assertRaisesRegex(psycopg.OperationalError, "PostgreSQL was silent for 0 s"):
+                session.rows("select 1")
 
     def test_q_ends_top(self) -> None:
         """With an archive that is silent, a service that hangs, and another key typed at once before it."""

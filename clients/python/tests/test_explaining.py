@@ -146,15 +146,23 @@ class Help(unittest.TestCase):
                 self.assertRegex(done.stderr, f"^{error}$")
 
     def test_what_is_not_installed_is_named(self) -> None:
-        code = "import sys; sys.path.insert(0, sys.argv[1]); sys.modules['sqlalchemy'] = None; sys.argv[:] = ['', 'verify', '--offline']; " \
-               "from pagelog.command import main; main()"  # fmt: skip
-        done = subprocess.run([sys.executable, "-B", "-c", code, str(SOURCE)], capture_output=True, text=True)
+        self.assertRegex(self.verified_without("click", "postgresql:///x"), r"\Apagelogctl needs click.*: apt-get install .*\n\Z")
+        self.assertRegex(self.verified_without("psycopg", "postgresql:///x"), r"\Apagelogctl: this needs psycopg.*: apt-get install .*\n\Z")
+
+    def test_an_archive_in_a_file_needs_no_driver(self) -> None:
+        self.assertEqual(self.verified_without("psycopg", "sqlite:///none.db"), "pagelogctl: NoArchive: there is no archive at this URL\n")
+
+    def verified_without(self, module: str, url: str) -> str:
+        """What `verify` says of an archive where a module is not installed."""
+        code = "import sys; sys.path.insert(0, sys.argv[1]); sys.modules[sys.argv[2]] = None; " \
+               "sys.argv[:] = ['', 'verify', '--offline', '--url', sys.argv[3]]; from pagelog.command import main; main()"  # fmt: skip
+        done = subprocess.run([sys.executable, "-B", "-c", code, str(SOURCE), module, url], capture_output=True, text=True)
         self.assertEqual(done.returncode, 1)
-        self.assertRegex(done.stderr, r"\Apagelogctl needs sqlalchemy.*: apt-get install .*\n\Z")
+        return done.stderr
 
     def test_the_library_needs_nothing(self) -> None:
         code = "import sys; sys.path.insert(0, sys.argv[1]); import pagelog; print(sorted(m for m in sys.modules if m.split('.')[0] in " \
-               "('click', 'rich', 'sqlalchemy', 'psycopg2', 'prometheus_client')))"  # fmt: skip
+               "('click', 'rich', 'psycopg', 'prometheus_client')))"  # fmt: skip
         out = subprocess.run([sys.executable, "-B", "-c", code, str(SOURCE)], capture_output=True, text=True, check=True).stdout
         self.assertEqual(out.strip(), "[]")
 

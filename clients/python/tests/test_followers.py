@@ -13,7 +13,7 @@ import unittest
 from pathlib import Path
 from unittest import mock
 
-import sqlalchemy as sql
+import psycopg
 
 from pagelog.archive import Archive
 from pagelog.desk.archive_words import Follower
@@ -30,10 +30,9 @@ OTHERS = """select count(*) from pg_stat_activity
 def wait_for_what_was_sent(archive: Archive) -> None:
     """PostgreSQL still does what a process had asked for before it was killed: a COMMIT may come a moment later."""
     deadline = time.monotonic() + PATIENCE
-    while archive.engine.dialect.name == "postgresql" and time.monotonic() < deadline:
-        with archive.engine.begin() as connection:
-            if connection.execute(sql.text(OTHERS)).scalar_one() == 0:
-                return
+    while archive.shown.startswith("postgresql:") and time.monotonic() < deadline:
+        if archive.engine.value(OTHERS) == 0:
+            return
         time.sleep(0.01)
 
 
@@ -131,15 +130,13 @@ class Followers(Folder):
         self.assertEqual((process.returncode, archive.check().blocks), (0, 100))
 
     def test_it_waits_for_a_lost_archive_alone(self) -> None:
-        """Where the line to PostgreSQL breaks amid a reply, psycopg2 says DatabaseError, as of many other faults."""
-        lost = sql.exc.DatabaseError("commit", None, Exception("server closed the connection"), connection_invalidated=True)
-        fault = sql.exc.DatabaseError("commit", None, Exception("the table is not there"))
+        lost, fault = psycopg.errors.AdminShutdown("server closed the connection"), psycopg.errors.UndefinedTable("the table is not there")
         archiver, said = mock.Mock(**{"resume.side_effect": [lost, fault]}), io.StringIO()
         with contextlib.redirect_stderr(said), mock.patch("time.sleep"):
             follower = Follower(archiver, 0, lambda: False)
             follower.follow()
-            self.assertRaises(sql.exc.DatabaseError, follower.follow)
-        self.assertEqual(said.getvalue(), "pagelogctl: archive: (builtins.Exception) server closed the connection; trying again\n")
+            self.assertRaises(psycopg.errors.UndefinedTable, follower.follow)
+        self.assertEqual(said.getvalue(), "pagelogctl: archive: server closed the connection; trying again\n")
 
 
 if __name__ == "__main__":

@@ -13,7 +13,6 @@ from keepers import Keeping, eventually
 from pagelog.console.source import Source
 from pagelog.desk.words import pagelogctl
 from pagelog.keeper.grants import RIGHTS, SEQUENCES, Roles, quoted
-from pagelog.keeper.referee import plain_url
 from postgres import postgres
 from service import put, token
 
@@ -33,7 +32,7 @@ class Granted(unittest.TestCase):
 
     @classmethod
     def setUpClass(cls) -> None:
-        cls.boss = plain_url(postgres().url(cls.name))
+        cls.boss = postgres().url(cls.name)
         for _ in range(2):  # as after an upgrade
             subprocess.run(["psql", "-q", "-v", "ON_ERROR_STOP=1", "-d", cls.boss], input=printed(), text=True, check=True, stdout=subprocess.DEVNULL,
                            stderr=subprocess.DEVNULL)  # fmt: skip

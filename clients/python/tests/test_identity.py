@@ -294,8 +294,8 @@ class NamesAreUsedAgain(Going):
                 self.assertEqual(line.readline().partition(" nonce=")[0].rstrip(), told)
 
 
-class NumbersComeAgain(Going):
-    """PostgreSQL is set back, to before a switchover: the generation that had begun is unknown to it, and so is its number."""
+class Movable(Going):
+    """PostgreSQL can be cut off, and set back."""
 
     def setUp(self) -> None:
         self.url = new_url()
@@ -325,6 +325,14 @@ class NumbersComeAgain(Going):
         self.keeping.referee.close()
         self.cut_off()
         self.server("DROP DATABASE {name}", "ALTER DATABASE {name}_before RENAME TO {name}")
+
+    def let_in(self) -> None:
+        """Who was cut off may connect again."""
+        self.server("ALTER DATABASE {name} ALLOW_CONNECTIONS true")
+
+
+class NumbersComeAgain(Movable):
+    """PostgreSQL is set back, to before a switchover: the generation that had begun is unknown to it, and so is its number."""
 
     def switch_over(self) -> Place:
         place = self.keeping.place()

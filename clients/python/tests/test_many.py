@@ -45,7 +45,7 @@ class ManyDescriptors(Kept):
     def setUp(self) -> None:
         self.server = Postgres()
         self.addCleanup(self.server.stop)
-        self.options = {"url": self.server.url("many").replace("+psycopg2", ""), "ttl": 3.0}
+        self.options = {"url": self.server.url("many"), "ttl": 3.0}
         referee = Referee(str(self.options["url"]))
         referee.prepare()
         referee.close()
@@ -368,7 +368,7 @@ class FourHundred(Kept):
         resource.setrlimit(resource.RLIMIT_NOFILE, (hard, hard))
         server = Postgres()
         self.addCleanup(server.stop)
-        url = server.url("many").replace("+psycopg2", "")
+        url = server.url("many")
         referee = Referee(url)
         referee.prepare()
         keeping = self.enterContext(Keeping(url=url, ttl=10.0, standby=False))

@@ -24,7 +24,6 @@ from click.testing import CliRunner
 from keepers import Keeping, eventually
 from pagelog import Block
 from pagelog.desk.words import pagelogctl
-from pagelog.keeper.referee import plain_url
 from pagelog.place import OlderKeepers
 from pagelog.trail import Trail
 from postgres import postgres
@@ -113,7 +112,7 @@ class Beside(unittest.TestCase):
     keepers: tuple[str, ...] = ("a", "b")
 
     def setUp(self) -> None:
-        url = plain_url(postgres().url(f"mixed{os.getpid()}_{self.id().rpartition('.')[2][:20]}"))
+        url = postgres().url(f"mixed{os.getpid()}_{self.id().rpartition('.')[2][:20]}")
         self.keeping = self.enterContext(MixedKeeping(url=url, **self.options))  # type: ignore[arg-type]
         self.addCleanup(lambda: None if self._outcome.success else print(self.keeping.said()))  # type: ignore[attr-defined]
         self.keeping.old_word("create", "shop", "--table", self.keeping.table)

@@ -2,6 +2,7 @@
 
 from __future__ import annotations
 
+import hashlib
 import itertools
 import select
 import socket
@@ -104,6 +105,101 @@ class Writers(Named):
             writer.commit()
         self.assertEqual(raised.exception.position, 2)
         self.assertEqual(self.texts(), [b"1", b"other"])
+
+
+class Continued(Named):
+    """PostgreSQL went back, and has lost the generation; its run continues under a later number, and is archived again."""
+
+    def ended(self) -> tuple[NamedPrimary, int]:
+        """A writer that another has ended, and a position of it that is in the log, and not yet durable."""
+        self.begin()
+        writer = self.writer()
+        writer.append(put(0, b"1"))
+        position = writer.commit()
+        self.of_run(pagelog.Operator, 1).failover(2)
+        writer.append(put(0, b"2"))
+        self.assertRaises(pagelog.OlderEpoch, writer.commit)
+        return writer, position
+
+    def test_what_a_writer_that_has_ended_left_in_the_log_becomes_durable(self) -> None:
+        writer, position = self.ended()
+        later = replace(self.places[0], generation=7)
+        self.keepers.fate.side_effect = lambda place, position, *_: (
+            Fate(position, False) if place == later else Fate(position - 1, True, continues=later))  # fmt: skip
+        writer.durable(position)
+        self.assertEqual((writer.durable_end, self.texts()), (position, [b"1"]))
+
+    def test_of_a_run_that_is_over_it_is_lost(self) -> None:
+        writer, position = self.ended()
+        self.keepers.fate.side_effect = lambda place, position, *_: Fate(position - 1, True)
+        with self.assertRaises(Lost) as raised:
+            writer.durable(position)
+        self.assertEqual(raised.exception.position, position)
+
+
+class Overtaken(Named):
+    """Its generation is over before what it has committed was durable, and it writes that again, until another writer comes."""
+
+    def setUp(self) -> None:
+        super().setUp()
+        self.keepers.fate.side_effect = lambda place, position, *_: (
+            Fate(self.places[place.generation].kept, True) if place.generation < len(self.places) else Fate(position, False))  # fmt: skip
+        self.begin()
+        self.overtaken = self.writer()
+        for text in (b"1", b"2"):
+            self.overtaken.append(put(0, text))
+            self.overtaken.commit()
+        self.blocks = list(self.overtaken._tail)
+
+    def come(self) -> None:
+        """Another writer begins an epoch."""
+        self.of_run(pagelog.Operator, 1).failover(2)
+
+    def write_again(self, meanwhile: Callable[[], None], written: int) -> Any:
+        """In the next generation. So many blocks come into its log, and then the writer is told nothing but what this raises."""
+        harden = pagelog.Primary.harden
+
+        def hardened(primary: pagelog.Primary, blocks: Sequence[Any], **options: Any) -> Any:
+            list(harden(primary, list(blocks)[:written], **options))
+            meanwhile()
+            return iter(())
+
+        self.begin()
+        return patch.object(pagelog.Primary, "harden", hardened)
+
+    def test_what_a_failover_has_kept_of_it_is_not_lost(self) -> None:
+        def meanwhile() -> None:
+            self.come()
+            raise pagelog.OlderEpoch(pagelog.Section.A, 2, 3)
+
+        with self.write_again(meanwhile, 1), self.assertRaises(Lost) as raised:
+            self.overtaken.durable(2)
+        self.assertEqual((raised.exception.position, self.texts()), (2, [b"1"]))
+
+    def test_what_is_in_the_images_of_the_next_generation_is_not_lost(self) -> None:
+        """Another writer was faster there, by a hair."""
+        begun = NamedPrimary._begun
+
+        def meanwhile() -> None:
+            self.begin(kept=2)
+            with self.of_run(pagelog.Primary, 2) as images:
+                images.append(put(7, b"images"))
+                images.commit()
+                images.append(put(8, b"images"))
+                images.commit()
+            raise pagelog.ConnectionLost
+
+        def overtaken(*arguments: Any) -> Any:
+            if len(self.places) == 3:
+                self.come()
+            return begun(*arguments)
+
+        self.keepers.block.side_effect = lambda position: hashlib.sha256(self.blocks[position - 1].data).hexdigest()
+        with self.write_again(meanwhile, 2), patch.object(NamedPrimary, "_begun", overtaken):
+            self.overtaken.durable(2)
+        self.assertEqual((self.overtaken.durable_end, self.texts()), (2, [b"images"] * 2))
+        self.overtaken.append(put(0, b"3"))
+        self.assertRaises(pagelog.OlderEpoch, self.overtaken.commit)
 
 
 class Tokens(Named):
@@ -523,6 +619,14 @@ class Words(Saying):
             with self.subTest(answer):
                 self.assertEqual((self.keepers.where(), self.keepers.standby()), (None, None))
                 self.assertRaises(pagelog.TimedOut, self.keepers.fate, of_generation(1), 5)
+
+    def test_a_run_that_continues_under_a_later_number_is_named_with_what_is_archived(self) -> None:
+        lines = self.keeper(lambda words: b"elsewhere shop 1\n" if words[0] == "durable" else f"at shop 7 r 127.0.0.1:1 4 {lines} 0 0 0\n".encode())
+        keepers = Keepers("shop", [lines], PATIENCE)
+        self.addCleanup(keepers.close)
+        fate = keepers.fate(of_generation(1), 5)
+        assert fate.continues is not None
+        self.assertEqual((fate.end, fate.is_over, fate.continues.generation, fate.continues.run), (4, True, 7, "r"))
 
     def test_what_became_of_another_generation_is_no_answer(self) -> None:
         self.said = lambda _: b"over shop 1 5\n"

@@ -610,6 +610,23 @@ class Apart(Served):
         return done.exit_code, done.output
 
 
+class Still(Apart):
+    """One of two hears nothing more of PostgreSQL, and its program goes on answering."""
+
+    def test_who_asks_page_servers_alone_is_led_to_one_that_lives(self) -> None:
+        with self.keeping.primary() as primary:
+            position, still = self.commit(primary, 1), self.apart()
+            eventually(lambda: self.at("there").position >= position, "the first one")
+            with self.keeping.reader(pages="only") as reader:
+                eventually(lambda: reader.end() == position, "what is durable, there")
+                self.servers()
+                eventually(lambda: self.at("here").position >= position, "the second one")
+                still.send_signal(signal.SIGSTOP)
+                position = self.commit(primary, 2)
+                eventually(lambda: reader.end() == position, "what is durable since")
+                self.assertEqual(reader.page(2, position).data[:8], b"%08d" % 2)
+
+
 class Tables(Apart):
     def renewed(self, old: str, new: str) -> tuple[int, str]:
         """Principal 3 gets another token, which its readers have then."""

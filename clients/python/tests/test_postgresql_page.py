@@ -20,7 +20,7 @@ import psycopg
 from keepers import Keeping, eventually
 from pagelog import NamedPrimary, Put
 from pagelog.keeper.bases import make_base
-from pagelog.keeper.referee import Referee, plain_url
+from pagelog.keeper.referee import Referee
 from postgres import Postgres, programs
 from service import PATIENCE, TOP
 from small_disk import SmallDisks
@@ -65,7 +65,7 @@ class Paged(unittest.TestCase):
 
     def of_keepers(self, server: Postgres) -> str:
         """The URL of a new database, as of a role that owns it and may nothing else."""
-        url = plain_url(server.url("pagelog"))
+        url = server.url("pagelog")
         with psycopg.connect(url) as session:
             session.execute("CREATE ROLE keeper LOGIN; CREATE ROLE stranger LOGIN; ALTER DATABASE pagelog OWNER TO keeper")
         return url.replace("//pagelog@", "//keeper@")

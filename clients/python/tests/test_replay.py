@@ -11,12 +11,12 @@ import zlib
 from collections import Counter
 from pathlib import Path
 from typing import Any, Callable
-
-import sqlalchemy as sql
+from unittest import mock
 
 import pagelog
 from pagelog import Block, Zero
-from pagelog.archive import Archive, BrokenArchive, _blocks
+from pagelog.archive import Archive, BrokenArchive
+from pagelog.archive_session import Row
 from pagelog.keeping import Archiver, OtherLog
 from pagelog.reply import LINE_SIZE
 from pagelog.trail import BrokenTrail, Start, Trail, TrailKeeper, TrailList
@@ -26,11 +26,12 @@ from pagelog.trail.replay import (
     ANNULLED_BLOCK, DENIED_TEXT, UNARCHIVED_BLOCK, Difference, NotReplayable, Replay, Replayed, lines_of, replay,
 )  # fmt: skip
 from pagelog.trail.seal import seal
-from pagelog.trail.store import NO_DIGEST, _lists, _pieces, _texts
+from pagelog.trail.statements import NEW_PIECE
+from pagelog.trail.store import NO_DIGEST
 from pagelog_model.bodies import Malformed, read_request
 from pagelog_model.lines import read_lines
 from service import IS_LONG, PATIENCE, TOP, WIDE_TABLE, Service, fill, put
-from test_archive import words
+from test_archive import change, row_of_piece, words
 from test_looking import ends
 
 sys.path.append(str(TOP / "scripts"))
@@ -55,17 +56,28 @@ class Replays(unittest.TestCase):
     def replay(self, **options: Any) -> Replayed:
         return replay(self.trail, self.trail.lists()[-1], ArchivedLog(self.trail, self.archive), **options)
 
-    def run_sql(self, statement: Any) -> None:
-        with self.trail.engine.begin() as connection:
-            connection.execute(statement)
+    def run_sql(self, statement: str, **values: object) -> None:
+        change(self.trail, statement, **values)
+
+    def change_piece(self, line: int, **values: object) -> None:
+        """The piece with this first line gets these values."""
+        for name, value in values.items():
+            self.run_sql(f"UPDATE pagelog_trail_piece SET {name} = %(value)s WHERE first = %(line)s", line=line, value=value)
+
+    def change_block(self, lsn: int, data: bytes, crc: int) -> None:
+        self.run_sql("UPDATE pagelog_block SET data = %(data)s, crc = %(crc)s WHERE lsn = %(lsn)s", lsn=lsn, data=data, crc=crc)
+
+    def change_texts(self, line: int, text: bytes, digest: str | None = None) -> None:
+        self.run_sql("UPDATE pagelog_trail_text SET text = %(text)s, digest = COALESCE(%(digest)s, digest) WHERE line = %(line)s", line=line,
+                     text=text, digest=digest)  # fmt: skip
 
     def rewrite(self, edit: Callable[[list[bytes]], list[bytes]]) -> None:
         """Writes the last list again with its lines edited, and all digests made anew, as one who knows how would."""
         one = self.trail.lists()[-1]
         data = self.trail.lines(one, 1)
         lines = edit([data[at : at + LINE_SIZE] for at in range(0, len(data), LINE_SIZE)])
-        self.run_sql(_pieces.delete().where(_pieces.c.list == one.id))
-        self.run_sql(_lists.update().where(_lists.c.id == one.id).values(kept=0, digest=NO_DIGEST))
+        self.run_sql("DELETE FROM pagelog_trail_piece WHERE list = %(list)s", list=one.id)
+        self.run_sql("UPDATE pagelog_trail_list SET kept = 0, digest = %(digest)s WHERE id = %(list)s", list=one.id, digest=NO_DIGEST)
         again: TrailList = self.trail.lists()[-1]
         for at in range(0, len(lines), 100):
             again = self.trail.keep(again, b"".join(lines[at : at + 100]), one.seen)
@@ -241,26 +253,24 @@ class Edits(Replays):
         [piece, *_] = self.trail.pieces(one)
         other = piece.lines[:LINE_SIZE] * piece.count
         for values in ({"data": zlib.compress(other)}, {"data": b"x"}, {"seen": 5}, {"count": 3}, {"digest": bytes(32)}, {"before": b"x" * 32}):
-            with self.trail.engine.begin() as connection:
-                kept = dict(connection.execute(sql.select(_pieces).where(_pieces.c.first == 1)).one()._mapping)
-            self.run_sql(_pieces.update().where(_pieces.c.first == 1).values(**values))
+            kept = row_of_piece(self.trail, 1)
+            self.change_piece(1, **values)
             self.assertRaises(BrokenTrail, self.replay)
-            self.run_sql(_pieces.update().where(_pieces.c.first == 1).values(**kept))
+            self.change_piece(1, **kept)
         self.replay()
         for first in (201, 101, 1):
-            with self.trail.engine.begin() as connection:
-                kept = dict(connection.execute(sql.select(_pieces).where(_pieces.c.first == first)).one()._mapping)
-            self.run_sql(_pieces.delete().where(_pieces.c.first == first))
+            kept = row_of_piece(self.trail, first)
+            self.run_sql("DELETE FROM pagelog_trail_piece WHERE first = %(first)s", first=first)
             with self.assertRaises(BrokenTrail) as raised:
                 list(self.trail.pieces(self.trail.lists()[-1]))
             self.assertEqual(raised.exception.line, first)
-            self.run_sql(_pieces.insert().values(**kept))
+            self.run_sql(NEW_PIECE, **kept)
 
     def test_a_piece_that_is_missing_is_found(self) -> None:
         self.rewrite(lambda lines: lines)
         one = self.trail.lists()[-1]
         again = self.trail.keep(one, self.trail.lines(one, one.kept)[-LINE_SIZE:], one.seen)  # the number is wrong, and it is not read
-        self.run_sql(_pieces.delete().where(_pieces.c.first == again.kept))
+        self.run_sql("DELETE FROM pagelog_trail_piece WHERE first = %(first)s", first=again.kept)
         with self.assertRaises(BrokenTrail) as raised:
             list(self.trail.pieces(again))
         self.assertEqual(raised.exception.line, again.kept)
@@ -271,7 +281,7 @@ class Edits(Replays):
         outside = Block.of(30, (put(65536 * 4, b"x"),))  # a partition that the table denies
 
         def store(data: bytes, crc: int) -> None:
-            self.run_sql(_blocks.update().where(_blocks.c.lsn == 30).values(data=data, crc=crc))
+            self.change_block(30, data, crc)
 
         store(outside.data, zlib.crc32(kept.data))
         self.assertRaises(BrokenArchive, self.replay)
@@ -282,7 +292,7 @@ class Edits(Replays):
             self.replay()
         self.assertIn("the trail has sealed", str(raised.exception))
         # Without a seal, a block that the table does not let its writer write.
-        self.run_sql(sql.text("DELETE FROM pagelog_trail_seal"))
+        self.run_sql("DELETE FROM pagelog_trail_seal")
         store(outside.data, zlib.crc32(outside.data))
         with self.assertRaises(Difference) as found:
             self.replay()
@@ -317,15 +327,15 @@ class Edits(Replays):
         self.assertIn("denied A4", str(raised.exception))
         self.assertEqual(self.replay(start=Start(BY_BLOCKS.encode(), 2)).hard, 80)
         self.trail.set_start(one, Start(BY_BLOCKS.encode(), 2))
-        self.run_sql(_texts.update().where(_texts.c.line == 0).values(text=self.text))
+        self.change_texts(0, self.text)
         self.assertRaises(BrokenTrail, self.replay)
         self.trail.set_start(one, Start(BY_BLOCKS.encode(), 2))
         # A table that was set, changed by one who knows how.
         forbids = self.text.replace(b"from = 5\nto = 6", b"from = 0\nto = 2")
-        self.run_sql(_texts.update().where(_texts.c.line == -1).values(text=forbids, digest=hashlib.sha256(forbids).hexdigest()))
+        self.change_texts(-1, forbids, hashlib.sha256(forbids).hexdigest())
         with self.assertRaises(Difference):
             self.replay()
-        self.run_sql(_texts.delete().where(_texts.c.line == -1))
+        self.run_sql("DELETE FROM pagelog_trail_text WHERE line = -1")
         self.assertRaises(NotReplayable, self.replay)
         self.assertEqual(self.replay(texts=[self.text]).hard, 80)
         with self.assertRaises(NotReplayable):
@@ -338,7 +348,7 @@ class Edits(Replays):
             [kept] = self.archive.blocks(30, 30)
             page = kept.records[0].page
             other = Block.of(30, (*kept.records, put(page, bytes(8000), 190)))
-            self.run_sql(_blocks.update().where(_blocks.c.lsn == 30).values(data=other.data, crc=zlib.crc32(other.data)))
+            self.change_block(30, other.data, zlib.crc32(other.data))
             with self.assertRaises(OtherLog) as raised:
                 compare_pages(ArchivedLog(self.trail, self.archive), reader, 80, count=400, seed=1)
             self.assertIn(f"page {page} ", str(raised.exception))
@@ -349,16 +359,22 @@ class Edits(Replays):
 
     def test_texts_are_looked_up_once(self) -> None:
         asked: list[str] = []
-        sql.event.listen(self.trail.engine, "before_cursor_execute", lambda _, __, statement, *___: asked.append(statement))
+        rows = self.trail.engine.rows
+
+        def counted(statement: str, **values: object) -> list[Row]:
+            asked.append(statement)
+            return rows(statement, **values)
+
+        self.enterContext(mock.patch.object(self.trail.engine, "rows", counted))
         self.replay()
-        before = sum(_texts.name in statement for statement in asked)
+        before = sum("pagelog_trail_text" in statement for statement in asked)
         with self.service.operator() as operator:
             for _ in range(20):
                 self.assertRaises(pagelog.NoTable, operator.set_table, "nothing")
         self.keeper.run(follow=False)
         asked.clear()
         self.assertEqual(self.replay().unchecked[DENIED_TEXT], 21)
-        self.assertEqual(sum(_texts.name in statement for statement in asked), before)
+        self.assertEqual(sum("pagelog_trail_text" in statement for statement in asked), before)
 
     def test_memory_is_of_a_window(self) -> None:
         with self.service.primary() as primary, self.service.reader() as reader:
@@ -382,7 +398,7 @@ class Edits(Replays):
         self.assertRegex(out, r"80 blocks and \d+ pages of the service are those of the archive")
         self.rewrite(lambda lines: lines[:4] + [lines[5], lines[4]] + lines[6:])
         self.assertIn("Difference: line 5 differs", ends(words("replay", "shop", "--url", self.url), 1))
-        self.run_sql(_texts.delete())
+        self.run_sql("DELETE FROM pagelog_trail_text")
         self.assertIn("NotReplayable", ends(words("replay", "shop", "--url", self.url), 1))
         start = self.folder / "start.toml"
         start.write_text(BY_BLOCKS)

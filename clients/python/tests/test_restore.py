@@ -19,12 +19,12 @@ from unittest import mock
 
 import pagelog
 from pagelog import Block, Operation, Put
-from pagelog.archive import Archive, BrokenArchive, _blocks, _logs
+from pagelog.archive import Archive, BrokenArchive
 from pagelog.desk import options
 from pagelog.keeping import Archiver, OtherLog, OtherService, all_blocks, restore, verify
 from postgres import postgres
 from service import PATIENCE, SOURCE, TABLE, Service, all_that_is_drawn, fill, put, token
-from test_archive import words
+from test_archive import change, words
 
 
 class Pair(unittest.TestCase):
@@ -143,8 +143,7 @@ class Restoring(Pair):
 
     def test_a_broken_archive_is_not_restored(self) -> None:
         self.archived(100)
-        with self.archive.engine.begin() as connection:
-            connection.execute(_blocks.delete().where(_blocks.c.lsn == 77))
+        change(self.archive, "DELETE FROM pagelog_block WHERE lsn = 77")
         with self.assertRaises(BrokenArchive):
             self.restore()
         with self.target.reader() as reader:
@@ -188,9 +187,7 @@ class Verifying(Pair):
     def damage(self, lsn: int, records: list[Put]) -> None:
         """The archive gets another block at this LSN, as sound as the one before."""
         data = Block.of(lsn, records).data
-        with self.archive.engine.begin() as connection:
-            values = {"data": data, "crc": zlib.crc32(data)}
-            connection.execute(_blocks.update().where(_blocks.c.lsn == lsn).values(values))
+        change(self.archive, "UPDATE pagelog_block SET data = %(data)s, crc = %(crc)s WHERE lsn = %(lsn)s", lsn=lsn, data=data, crc=zlib.crc32(data))
 
     def test_alike(self) -> None:
         self.archived(80)
@@ -348,8 +345,7 @@ class Words(Pair):
         self.same_logs(400)
 
     def test_an_archive_of_another_format_is_refused(self) -> None:
-        with self.archive.engine.begin() as connection:
-            connection.execute(_logs.update().values(format=2))
+        change(self.archive, "UPDATE pagelog_log SET format = 2")
         process = words("verify", "--offline", "--url", self.url)
         _, error = process.communicate(timeout=PATIENCE)
         self.assertEqual((process.returncode, "format 2" in error), (1, True))

@@ -26,6 +26,7 @@ from pagelog.keeper.definition import Definition
 from pagelog.keeper.run import NotStarted, Program, Run, Seen, new_run, orphans_of
 from pagelog.keeper.runner import Runner, RunnerError
 from pagelog.keeper.table import Form, table_of_run
+from pagelog.keeper.unix import public_socket
 from service import PATIENCE, PROGRAM, WIDE_TABLE
 
 SECRET = b"s" * 16
@@ -151,6 +152,17 @@ class Runs(unittest.TestCase):
                 with self.assertRaisesRegex(RunnerError, f"user {user} may not ask it"):
                     as_user(user, ask)
         self.assertEqual(services(self.folder), [pid])
+
+    def test_one_whose_socket_systemd_has_made_for_the_keepers_user_alone(self) -> None:
+        self.runner.kill()
+        with public_socket(self.runner.folder, "socket") as listener:
+            os.chown(self.runner.socket, KEEPERS, KEEPERS)
+            self.runner.socket.chmod(0o600)
+            self.runner.start(listener=listener)
+        pid = self.start()
+        self.assertEqual(services(self.folder), [pid])
+        with self.assertRaisesRegex(RunnerError, "Permission denied"):
+            as_user(64_003, lambda: Runner(self.runner.socket).check())
 
     def test_whoever_sends_anything_else_holds_up_nobody(self) -> None:
         def odd() -> None:

@@ -27,7 +27,7 @@ from pagelog import (
 )  # fmt: skip
 from pagelog.keeper.archiver import Archiver
 from pagelog.keeper.committer import Committer
-from pagelog.keeper.acknowledged import new_memory
+from pagelog.keeper.acknowledged import memory_of, new_memory
 from pagelog.keeper.definition import Definition, Seal
 from pagelog.keeper.loading import Loader
 from pagelog.keeper.referee import Away, BrokenArchive, digest
@@ -283,6 +283,14 @@ class Runs(unittest.TestCase):
         adopted.end()
         run.leave()
         self.assertEqual(run.acknowledged.position, 7)
+
+    def test_its_memory_is_found_though_it_closes_other_descriptors_meanwhile(self) -> None:
+        run, listdir = self.start(), os.listdir
+        self.addCleanup(run.end)
+        with patch("pagelog.keeper.acknowledged.os.listdir", lambda folder: ["-1", *listdir(folder)]):
+            memory = memory_of(run.facts.pid)
+        assert memory is not None
+        os.close(memory)
 
     def test_its_process_remembers_its_database_and_the_newest_table(self) -> None:
         served = Served("shop", "r", WIDE_TABLE, SECRET, timeout=PATIENCE)

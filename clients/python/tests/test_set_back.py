@@ -22,7 +22,7 @@ from typing import Callable, Iterator
 import psycopg
 from keepers import Keeping, eventually
 from pagelog import Lost, Put
-from pagelog.keeper.referee import Referee, plain_url
+from pagelog.keeper.referee import Referee
 from pagelog.place import UnknownName
 from postgres import FSYNC, PATIENCE, Postgres
 from service import IS_LONG
@@ -77,7 +77,7 @@ class SetBack(Postgres):
     @staticmethod
     def _prepared() -> Postgres:
         server = Postgres()
-        url = plain_url(server.url("set_back"))
+        url = server.url("set_back")
         referee = Referee(url)
         referee.prepare()
         referee.close()

@@ -13,7 +13,6 @@ from contextlib import closing
 from pathlib import Path
 
 from keepers import end_services, eventually
-from pagelog.keeper.referee import plain_url
 from postgres import postgres, programs
 from service import PATIENCE, PROGRAM, SOURCE, TOP, Port, token
 from sqlite_named import C, connected
@@ -33,7 +32,7 @@ class FromNothing(unittest.TestCase):
         for name, script in (("pagelog", f'exec {PROGRAM} "$@"'), ("pagelogctl", f'exec {sys.executable} -B -m pagelog "$@"')):
             (folder / name).write_text(f"#!/bin/sh\n{script}\n")
             (folder / name).chmod(0o755)
-        environment = {**os.environ, "PATH": f"{folder}:{programs()}:{os.environ['PATH']}", "PYTHONPATH": str(SOURCE), "URL": plain_url(postgres().url("tasks")),
+        environment = {**os.environ, "PATH": f"{folder}:{programs()}:{os.environ['PATH']}", "PYTHONPATH": str(SOURCE), "URL": postgres().url("tasks"),
                        "PRELOAD": str(C / "out" / "pagelog_preload.so"), "TABLE": str(C / "table.toml")}  # fmt: skip
         port = Port()
         self.addCleanup(port.close)

@@ -138,8 +138,7 @@ class Check:
 
     def violations(self) -> list[str]:
         found = [f"{note['who']}: {note['text']}" for note in self.notes if note["what"] == "violation"]
-        found += [f"{note['who']}: {note['text']}" for note in self.notes if note["what"] == "moved" and not self.past.losses]
-        found += [*self._invented(), *self._lost(), *self._refused(), *self._after_drops(), *self._back(), *self._stale(), *self._restored()]
+        found += [*self._moved(), *self._invented(), *self._lost(), *self._refused(), *self._after_drops(), *self._back(), *self._stale(), *self._restored()]
         return found
 
     def counts(self) -> Counter[str]:
@@ -148,6 +147,16 @@ class Check:
         for note in self.notes:
             counts[f"{note['what']} durable" if note.get("durable") else note["what"]] += 1
         return counts
+
+    # What a position has, and had.
+
+    def _moved(self) -> Iterator[str]:
+        """Of another life it has something else, where the reader has not yet heard that its database was dropped."""
+        for note in self.notes:
+            if note["what"] == "moved" and not self.past.losses:
+                old, new = note["lives"]
+                if old == new or not self.past.changed(note["name"], note["began"], note["noted"]):
+                    yield f"{note['who']} moved: position {note['position']} has link {note['seqs'][1]} of life {new}, and had {note['seqs'][0]} of {old}"
 
     # What was shown and never tried.
 

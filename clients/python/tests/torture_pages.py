@@ -111,20 +111,24 @@ def writes(job: Job) -> None:
 
 
 def _settle(session: Session, due: dict[int, tuple[int, float]]) -> None:
-    """Waits until all are durable, and notes so. One that is lost is noted as such, and ends the session as any error."""
+    """Waits until all are durable, and notes so. Those that are lost are noted as such, and end the session as any error."""
     assert session.primary is not None
+    if not due:
+        return
     link = {"name": session.job.name, "life": session.life}
     try:
         session.primary.durable(max(due))
-        lost = max(due) + 1
+        lost = None
     except Lost as error:
-        lost = error.position
-    for position, (number, began) in sorted(due.items()):
-        what = "lost" if position >= lost else "acknowledged"
-        session.notes(what, number=number, links=[link], began=began, durable=True)
-    if lost <= max(due):
-        raise Lost(lost)
-    due.clear()
+        assert error.position <= max(due), error
+        lost = error
+    for position in [each for each in sorted(due) if lost is None or each >= lost.position]:
+        number, began = due.pop(position)
+        why = {} if lost is None else {"why": f"{position}: {lost}"}
+        session.notes("acknowledged" if lost is None else "lost", number=number, links=[link], began=began, durable=True, **why)
+    if lost is not None:
+        _settle(session, due)  # what was before is not lost
+        raise lost
 
 
 def groups(job: Job) -> None:

@@ -343,6 +343,7 @@ def _look_back(job: Job) -> Callable[[], None]:
     def work() -> None:
         looker = Looker(job, "durable", Notes(job.folder, f"{job.who}-at"), mode="ro", durable=1)
         for _ in job.until_over(0.5):
+            began = now()
             if looker.step():
                 try:
                     position = looker.position()
@@ -352,7 +353,8 @@ def _look_back(job: Job) -> Callable[[], None]:
                     continue
                 then = Looker(job, "at", looker.notes, at=position)
                 if then.step() and (then.chain.life, then.chain.seq, then.chain.sum) != (looker.chain.life, looker.chain.seq, looker.chain.sum):
-                    looker.notes("moved", text=f"at={position} has link {then.chain.seq} of life {then.chain.life}, and had {looker.chain.seq} of {looker.chain.life}")
+                    lives = [looker.chain.life, then.chain.life]
+                    looker.notes("moved", name=job.name, began=began, lives=lives, position=position, seqs=[looker.chain.seq, then.chain.seq])
                 then.close()
 
     return work

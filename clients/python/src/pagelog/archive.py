@@ -1,4 +1,4 @@
-"""An archive: the hardened blocks of a log, by LSN, in a database that SQLAlchemy reaches by a URL.
+"""An archive: the hardened blocks of a log, by LSN, in SQLite or PostgreSQL, which a URL says.
 
 One archive can keep many logs, each under a name. Of each it has every block from LSN 1 to the *archived LSN*, also those
 without records, which no pull serves. A batch of blocks and the archived LSN are one transaction, so whatever ends the
@@ -10,16 +10,13 @@ from __future__ import annotations
 import time
 import zlib
 from dataclasses import dataclass
-from typing import Any, Callable, Iterator, Sequence
+from typing import Callable, Iterator, Sequence
 
-import sqlalchemy as sql
-from sqlalchemy.engine import Engine
-
-from pagelog.archive_engine import ArchiveError as ArchiveError
-from pagelog.archive_engine import engine_of, file_of, parsed_url
-from pagelog.archive_tables import blocks as _blocks
-from pagelog.archive_tables import logs as _logs
-from pagelog.archive_tables import metadata as _metadata
+from pagelog import archive_tables as tables
+from pagelog.archive_engine import engine_of
+from pagelog.archive_session import Engine, Row, SqlSession, bytes_of
+from pagelog.archive_url import ArchiveError as ArchiveError
+from pagelog.archive_url import file_is_missing, parsed_url
 from pagelog.block import HIGHEST_LSN, Block
 from pagelog.faults import BlockFault
 
@@ -31,6 +28,7 @@ KEPT_FORMATS = (2, 3)
 """Those of a named database, which its keepers write, and which may only be read here."""
 _READ_SIZE = 512
 _TRIES = 5
+
 
 class NoArchive(ArchiveError):
     """There is no log of this name in the archive, or no archive at the URL."""
@@ -58,7 +56,7 @@ class Sizes:
 
 
 class Archive:
-    """The archive of one log. A database error is an exception of SQLAlchemy, and then nothing of a batch was kept."""
+    """The archive of one log. A database error is an exception of psycopg or sqlite3, and then nothing of a batch was kept."""
 
     def __init__(self, url: str, log: str = "0", *, create: bool = False, is_read: bool = False) -> None:
         """Opens the archive of the log of this name; with `create` makes what is not there. Raises `NoArchive`.
@@ -71,6 +69,8 @@ class Archive:
         self._formats = (FORMAT, *KEPT_FORMATS) if is_read else (FORMAT,)
         if not create and file_is_missing(url):
             raise NoArchive("there is no archive at this URL")
+        self.shown = parsed_url(url).shown
+        """The URL without its password."""
         self.engine = engine_of(url)
         try:
             self.id = self._make() if create else self._find(False)
@@ -83,7 +83,7 @@ class Archive:
 
     def close(self) -> None:
         """Closes all connections to the database."""
-        self.engine.dispose()
+        self.engine.close()
 
     def __enter__(self) -> Archive:
         return self
@@ -95,40 +95,46 @@ class Archive:
         """Makes what is not there. Where another does so at the same time, it is looked for again."""
         for _ in range(_TRIES):
             try:
-                _metadata.create_all(self.engine)
+                self.engine.make(tables.TABLES)
                 return self._find(True)
-            except (sql.exc.IntegrityError, sql.exc.ProgrammingError, sql.exc.OperationalError):
+            except self.engine.error:
                 time.sleep(0.05)
-        _metadata.create_all(self.engine)
+        self.engine.make(tables.TABLES)
         return self._find(True)
 
     def _find(self, create: bool) -> int:
         try:
-            with self.engine.begin() as connection:
-                row: Any = connection.execute(sql.select(_logs).where(_logs.c.name == self.log)).first()
-                if row is None and create:
-                    values = {"name": self.log, "format": FORMAT, "archived": 0, "epoch": 0}
-                    connection.execute(_logs.insert().values(values))
-                    row = connection.execute(sql.select(_logs).where(_logs.c.name == self.log)).first()
-        except (sql.exc.OperationalError, sql.exc.ProgrammingError) as error:
+            found = self._made() if create else self._log(self.engine)
+        except self.engine.error as error:
             if create or not tables_are_missing(self.engine):
                 raise
             raise NoArchive("there is no archive at this URL") from error
-        if row is None:
+        if found is None:
             raise NoArchive(f"the archive has no log {self.log!r}: it has {', '.join(self._names()) or 'none'}")
-        self.is_kept = row.format in KEPT_FORMATS
-        if row.format not in self._formats:
-            raise ArchiveError(f"the log has format {row.format}, and this program reads {FORMAT}")
-        return int(row.id)
+        id, form = found
+        self.is_kept = form in KEPT_FORMATS
+        if form not in self._formats:
+            raise ArchiveError(f"the log has format {form}, and this program reads {FORMAT}")
+        return int(id)
+
+    def _made(self) -> Row | None:
+        """The log, which is made where it is not there."""
+        if found := self._log(self.engine):
+            return found
+        with self.engine.begin() as session:
+            session.change(tables.NEW_LOG, name=self.log, format=FORMAT)
+            return self._log(session)
+
+    def _log(self, asked: Engine | SqlSession) -> Row | None:
+        return next(iter(asked.rows(tables.LOG, name=self.log)), None)
 
     def _names(self) -> list[str]:
-        with self.engine.begin() as connection:
-            return [repr(row.name) for row in connection.execute(sql.select(_logs.c.name).order_by(_logs.c.name))]
+        return [repr(name) for [name] in self.engine.rows(tables.NAMES)]
 
     @property
     def archived(self) -> int:
         """The archived LSN: every block from 1 to it is kept. 0 at the beginning."""
-        archived = self._row().archived
+        archived = self.engine.value(tables.ARCHIVED, log=self.id)
         if not isinstance(archived, int):
             raise ArchiveError(f"the archived LSN is {archived!r}, which is no number: the archive is damaged")
         return archived
@@ -136,19 +142,15 @@ class Archive:
     @property
     def epoch(self) -> int:
         """The highest epoch that an archiver has seen, 0 at the beginning. A restored service has to be above it."""
-        epoch = self._row().epoch
+        epoch = self.engine.value(tables.EPOCH, log=self.id)
         if not isinstance(epoch, int):
             raise ArchiveError(f"the epoch is {epoch!r}, which is no number: the archive is damaged")
         return epoch
 
     def note_epoch(self, epoch: int) -> None:
         """Keeps an epoch that was seen, if it is higher than those before."""
-        with self.engine.begin() as connection:
-            connection.execute(_logs.update().where(_logs.c.id == self.id, _logs.c.epoch < epoch).values(epoch=epoch))
-
-    def _row(self) -> Any:
-        with self.engine.begin() as connection:
-            return connection.execute(sql.select(_logs).where(_logs.c.id == self.id)).one()
+        with self.engine.begin() as session:
+            session.change(tables.NOTE_EPOCH, log=self.id, epoch=epoch)
 
     def keep(self, blocks: Sequence[Block], epoch: int) -> int:
         """Keeps a batch, which has every LSN from the archived one on, in one transaction. Returns the archived LSN.
@@ -160,16 +162,11 @@ class Archive:
         first, last = blocks[0].lsn, blocks[-1].lsn
         if [block.lsn for block in blocks] != list(range(first, last + 1)):
             raise ValueError(f"the batch does not have every LSN from {first} to {last}")
-        rows = [{"log": self.id, "lsn": block.lsn, "crc": zlib.crc32(block.data), "data": block.data} for block in blocks]
-        with self.engine.begin() as connection:
-            moved = connection.execute(
-                _logs.update()
-                .where(_logs.c.id == self.id, _logs.c.archived == first - 1)
-                .values(archived=last, epoch=sql.case((_logs.c.epoch < epoch, epoch), else_=_logs.c.epoch))
-            )
-            if moved.rowcount != 1:
+        rows = [(self.id, block.lsn, zlib.crc32(block.data), block.data) for block in blocks]
+        with self.engine.begin() as session:
+            if session.change(tables.MOVE, log=self.id, before=first - 1, last=last, epoch=epoch) != 1:
                 raise OtherArchiver(f"the archived LSN is not {first - 1} any more")
-            connection.execute(_blocks.insert(), rows)
+            session.insert(tables.KEEP, rows)
         return last
 
     def blocks(self, first: int = 1, last: int = HIGHEST_LSN) -> Iterator[Block]:
@@ -184,29 +181,19 @@ class Archive:
             first = upto + 1
 
     def _read(self, first: int, last: int) -> Iterator[Block]:
-        wanted = sql.select(_blocks.c.lsn, _blocks.c.crc, _blocks.c.data).where(
-            _blocks.c.log == self.id, _blocks.c.lsn >= first, _blocks.c.lsn <= last
-        )
-        try:
-            with self.engine.begin() as connection:
-                rows = connection.execute(wanted.order_by(_blocks.c.lsn)).fetchall()
-        except (TypeError, ValueError, OverflowError, MemoryError) as error:
-            # A bit is wrong, by which SQLite has a text or a number in a block's place.
-            if first == last:
-                raise BrokenArchive(first, "it is no bytes") from error
-            for lsn in range(first, last + 1):
-                yield from self._read(lsn, lsn)
-            return
-        for lsn, row in zip(range(first, last + 1), rows):
-            yield _block(lsn, row)
-        if len(rows) != last - first + 1:
+        batch, wanted = {"log": self.id, "first": first, "last": last}, range(first, last + 1)
+        rows = self.engine.rows(tables.BLOCKS, **batch)
+        found = wanted if len(rows) == len(wanted) else [lsn for [lsn] in self.engine.rows(tables.LSNS, **batch)]
+        for lsn, at, (crc, data) in zip(wanted, found, rows):
+            if at != lsn:
+                raise BrokenArchive(lsn, "it is missing")
+            yield _block(lsn, crc, data)
+        if len(rows) < len(wanted):
             raise BrokenArchive(first + len(rows), "it is missing")
 
     def bytes(self) -> int:
         """How many bytes the blocks have. The database adds them up."""
-        wanted = sql.select(sql.func.coalesce(sql.func.sum(sql.func.length(_blocks.c.data)), 0)).where(_blocks.c.log == self.id)
-        with self.engine.begin() as connection:
-            return int(connection.execute(wanted).scalar_one())
+        return int(self.engine.value(tables.SIZE, log=self.id))
 
     def check(self, last: int = HIGHEST_LSN, *, told: Callable[[int, int], None] = lambda _, __: None) -> Sizes:
         """Reads every block, or those up to LSN `last`, and counts them. Raises `BrokenArchive`."""
@@ -220,20 +207,17 @@ class Archive:
         return Sizes(blocks, empty, size)
 
     def _check_above(self) -> None:
-        above = sql.select(sql.func.min(_blocks.c.lsn)).where(
-            _logs.c.id == self.id, _blocks.c.log == self.id, _blocks.c.lsn > _logs.c.archived
-        )
-        with self.engine.begin() as connection:
-            lsn = connection.execute(above).scalar_one()
+        lsn = self.engine.value(tables.FIRST_ABOVE, log=self.id)
         if lsn is not None:
             raise BrokenArchive(lsn, "a block is kept above the archived LSN")
 
 
-def _block(lsn: int, row: Any) -> Block:
-    if row.lsn != lsn:
-        raise BrokenArchive(lsn, "it is missing")
-    data = bytes(row.data)
-    if zlib.crc32(data) != row.crc:
+def _block(lsn: int, crc: object, value: object) -> Block:
+    try:
+        data = bytes_of(value)
+    except TypeError as error:
+        raise BrokenArchive(lsn, "it is no bytes") from error
+    if zlib.crc32(data) != crc:
         raise BrokenArchive(lsn, "its bytes are not those that were kept")
     try:
         block = Block.decode(data)
@@ -244,21 +228,9 @@ def _block(lsn: int, row: Any) -> Block:
     return block
 
 
-def is_in_memory(url: str) -> bool:
-    """Whether it is a database of SQLite that ends with its process. Raises `ArchiveError` for a URL that is none."""
-    parsed = parsed_url(url)
-    return parsed.get_backend_name() == "sqlite" and file_of(parsed) is None
-
-
-def file_is_missing(url: str) -> bool:
-    """Whether it is a file of SQLite that is not there. To look into it would make it."""
-    file = file_of(parsed_url(url))
-    return file is not None and not file.exists()
-
-
 def tables_are_missing(engine: Engine) -> bool:
     """Whether the database has no archive."""
     try:
-        return not sql.inspect(engine).has_table("pagelog_log")
-    except sql.exc.SQLAlchemyError:
+        return not engine.has_table(tables.LOGS)
+    except engine.error:
         return False

@@ -6,16 +6,13 @@ import zlib
 from dataclasses import dataclass
 from typing import Iterator
 
-import sqlalchemy as sql
-
-from pagelog.archive import Archive, BrokenArchive, NoArchive, file_is_missing, tables_are_missing
+from pagelog import archive_tables as tables
+from pagelog.archive import Archive, BrokenArchive, NoArchive, tables_are_missing
 from pagelog.archive_engine import engine_of
-from pagelog.archive_tables import blocks as _blocks
-from pagelog.archive_tables import logs as _logs
+from pagelog.archive_url import file_is_missing
 from pagelog.block import Block
 from pagelog.comparing import OtherLog, Progress, all_blocks, no_progress
 from pagelog.reader import Reader
-from pagelog.trail.store import _seals
 
 _DROP_SIZE = 4096
 _BESIDE = 16
@@ -40,14 +37,9 @@ def logs_of(url: str) -> list[Log]:
     try:
         if tables_are_missing(engine):
             raise NoArchive("there is no archive at this URL")
-        size = sql.func.coalesce(sql.func.sum(sql.func.length(_blocks.c.data)), 0)
-        wanted = sql.select(_logs.c.name, _logs.c.archived, _logs.c.epoch, sql.func.count(_blocks.c.lsn), size)
-        wanted = wanted.select_from(_logs.outerjoin(_blocks, _blocks.c.log == _logs.c.id))
-        with engine.begin() as connection:
-            rows = connection.execute(wanted.group_by(_logs.c.name, _logs.c.archived, _logs.c.epoch).order_by(_logs.c.name)).fetchall()
-        return [Log(str(row[0]), *map(int, row[1:])) for row in rows]
+        return [Log(str(name), *map(int, sums)) for name, *sums in engine.rows(tables.SUMS)]
     finally:
-        engine.dispose()
+        engine.close()
 
 
 @dataclass(frozen=True)
@@ -101,10 +93,10 @@ def _compare_beside(archive: Archive, reader: Reader, lsn: int, hard: int) -> No
 
 
 def _replace(archive: Archive, block: Block) -> None:
-    row = {"log": archive.id, "lsn": block.lsn, "crc": zlib.crc32(block.data), "data": block.data}
-    with archive.engine.begin() as connection:
-        connection.execute(_blocks.delete().where(_blocks.c.log == archive.id, _blocks.c.lsn == block.lsn))
-        connection.execute(_blocks.insert(), [row])
+    row = (archive.id, block.lsn, zlib.crc32(block.data), block.data)
+    with archive.engine.begin() as session:
+        session.change(tables.DROP_BLOCKS, log=archive.id, first=block.lsn, last=block.lsn)
+        session.insert(tables.KEEP, [row])
 
 
 def drop(archive: Archive) -> int:
@@ -112,16 +104,16 @@ def drop(archive: Archive) -> int:
 
     Its archived LSN is 0 first, so that a drop that is broken off leaves no log with a hole.
     """
-    count = 0
-    with archive.engine.begin() as connection:
-        connection.execute(_logs.update().where(_logs.c.id == archive.id).values(archived=0))
-        if sql.inspect(connection).has_table(_seals.name):
-            connection.execute(_seals.delete().where(_seals.c.log == archive.log))
-        highest = connection.execute(sql.select(sql.func.max(_blocks.c.lsn)).where(_blocks.c.log == archive.id)).scalar_one() or 0
+    engine, count = archive.engine, 0
+    has_seals = engine.has_table(tables.SEALS)
+    with engine.begin() as session:
+        session.change(tables.BEGIN_DROP, log=archive.id)
+        if has_seals:
+            session.change(tables.DROP_SEALS, name=archive.log)
+        highest = int(session.value(tables.HIGHEST, log=archive.id))
     for first in range(0, highest + 1, _DROP_SIZE):
-        with archive.engine.begin() as connection:
-            where = (_blocks.c.log == archive.id, _blocks.c.lsn >= first, _blocks.c.lsn < first + _DROP_SIZE)
-            count += connection.execute(_blocks.delete().where(*where)).rowcount
-    with archive.engine.begin() as connection:
-        connection.execute(_logs.delete().where(_logs.c.id == archive.id))
+        with engine.begin() as session:
+            count += session.change(tables.DROP_BLOCKS, log=archive.id, first=first, last=first + _DROP_SIZE - 1)
+    with engine.begin() as session:
+        session.change(tables.DROP_LOG, log=archive.id)
     return count

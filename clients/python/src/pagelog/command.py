@@ -5,7 +5,7 @@ from __future__ import annotations
 import os
 import sys
 
-LACKS = "apt-get install python3-click python3-rich python3-sqlalchemy python3-psycopg python3-psycopg2 python3-prometheus-client python3-aiohttp python3-cryptography"
+LACKS = "apt-get install python3-click python3-rich python3-psycopg python3-prometheus-client python3-aiohttp python3-cryptography"
 """The line that installs all that the words need."""
 
 

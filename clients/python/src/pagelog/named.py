@@ -106,28 +106,32 @@ class NamedPrimary(Following):
         Raises `Lost` where another writer has gone on before it, or before an earlier commit that was not durable: nothing of
         either is in the database. After `TimedOut` and the like it may be called again, and goes on.
         """
-        self._begin()
+        try:
+            self._begin()
+        except Lost:
+            self._records = []
+            raise
         self._pack([self._records])
         self._records = []
         self._is_urgent = durable
+        position = self._last  # the log may go on behind it, by another writer
         self._write_all()
-        self._told = self.end
+        self._told = position
         if durable or sum(len(block.data) for block in self._tail) > TAIL:
-            self.durable(self.end)
-        return self.end
+            self.durable(position)
+        return position
 
     def durable(self, position: int) -> None:
         """Returns once the archive has all up to the position, which a commit has returned.
 
         Raises `Lost` where it never will: that is final, and so is a return.
         """
-        last = self._tail[-1].lsn if self._tail else self.end
         if isinstance(self._ended, Dropped):
             raise self._ended
-        if position > last and self._ended is not None:
-            raise Lost(last + 1)
-        if position > last:
-            raise ValueError(f"position {position} was not committed: the end is {last}")
+        if position > self._last and self._ended is not None:
+            raise Lost(self._last + 1)
+        if position > self._last:
+            raise ValueError(f"position {position} was not committed: the end is {self._last}")
         while position > self.durable_end:
             if self._ended is None:
                 self._write_all()
@@ -137,10 +141,18 @@ class NamedPrimary(Following):
             if fate.is_over:
                 self._over = self.place.generation
                 self._leave()  # the next commit asks nothing of a service that is about to end
-                if position > fate.end and self._ended is not None:
-                    raise Lost(fate.end + 1)
                 if position > fate.end:
-                    self._move()
+                    self._go_on(fate)
+
+    def _go_on(self, fate: Fate) -> None:
+        """Its generation is over, before all was durable. A writer that has ended writes nothing of that again: it is lost, unless its run
+        continues."""
+        if self._ended is None:
+            self._move()
+        elif fate.continues is None:
+            raise Lost(fate.end + 1)
+        else:
+            self.place = fate.continues
 
     def pack(self, commits: Sequence[Sequence[Record]]) -> list[int]:
         """Makes blocks of the records of some commits, which `commit` writes then. Those of one that fit into a block are in one. Returns
@@ -156,9 +168,16 @@ class NamedPrimary(Following):
             raise self._ended
         if self._primary is None:
             self._move()
+        while self._tail and self._tail[-1].lsn < self.end:
+            self.durable(self._tail[-1].lsn)  # another has gone on behind it, and so the next block does not follow on it
+
+    @property
+    def _last(self) -> int:
+        """The position of the last block that it has, or else of the log."""
+        return self._tail[-1].lsn if self._tail else self.end
 
     def _pack(self, commits: Sequence[Sequence[Record]]) -> list[int]:
-        packed = Packed((self._tail[-1].lsn if self._tail else self.end) + 1)
+        packed = Packed(self._last + 1)
         ends = [packed.add(records) for records in commits]
         packed.close()
         self._tail += packed.blocks
@@ -187,6 +206,8 @@ class NamedPrimary(Following):
         except OutOfMemory as error:
             self._make_room(error)
         except (*GONE, *_DENIED) as error:
+            if isinstance(error, OlderEpoch):
+                self.end = max(self.end, self._primary.durable + shift)  # a failover keeps what was in a quorum of copies
             self._move(error)
 
     def _make_room(self, error: OutOfMemory) -> None:
@@ -246,8 +267,10 @@ class NamedPrimary(Following):
         return True
 
     def _count_at(self, place: Place) -> None:
-        """What of the blocks above the end is in the log, though no reply has said so."""
+        """What of the blocks above the end is in the log, though no reply has said so, or in the images that it began with."""
         try:
+            if self._lost_below(place) is not None:
+                return
             with Reader(self._connection(place), self._account.of(place)) as witness:
                 for block in [block for block in self._tail if block.lsn > self.end]:
                     if block.lsn > witness.status().hard + place.shift or not self._is_there(place, witness, block):
@@ -441,7 +464,8 @@ class NamedPrimary(Following):
         if lost is None and self._tail and hard < self._tail[0].lsn - 1:
             lost = hard + 1  # what was durable is missing: the archive went back
         if lost is not None:
-            self._tail, self.end, self.place, self._epoch = [], hard, place, None
+            self._tail = [block for block in self._tail if block.lsn < lost]  # it is not durable yet
+            self.end, self.place, self._epoch = hard, place, None
             self.keepers.is_of(place)
             self._told, self.durable_end = min(self._told, lost - 1), min(self.durable_end, lost - 1)
             self._leave()

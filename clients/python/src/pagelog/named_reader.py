@@ -48,9 +48,7 @@ class NamedReader(Following):
         super().__init__(name, keepers, principal, token, patience=patience, timeout=timeout, trust=trust)
         if pages not in ("prefer", "never", "only"):
             raise ValueError('pages is "prefer", "never" or "only"')
-        if pages == "only" and trust is not None:
-            raise ValueError('page servers have no TLS: with trust pages is not "only"')
-        self._copies = None if pages == "never" or trust is not None else PageCopies(self.keepers, self._account.in_run)
+        self._copies = None if pages == "never" else PageCopies(self.keepers, self._account.in_run, trust)
         self._only_copies = pages == "only"
         self.durable_only = durable_only
         self._reader: Reader | None = None

@@ -131,12 +131,14 @@ class PageServerPlace:
 @dataclass(frozen=True)
 class Fate:
     """How far a generation is durable. If it `is_over`, nothing above `end` will ever be. If it `is_lost` PostgreSQL has lost its run, and
-    went on without it: what it had above its durable blocks is nowhere, and of those nothing is known; `why` says so."""
+    went on without it: what it had above its durable blocks is nowhere, and of those nothing is known; `why` says so. If the run `continues`
+    under a later number, as PostgreSQL went back, the generation is over, and what its log has above `end` is archived again."""
 
     end: int
     is_over: bool
     is_lost: bool = False
     why: str = ""
+    continues: Place | None = None
 
 
 class _Line:
@@ -468,14 +470,15 @@ class Keepers:
                 return found
         return None
 
-    def page_servers(self) -> list[PageServerPlace]:
-        """The page servers of the database that was opened, as the first keeper says that knows of any."""
-        of = "" if self._own is None else self._own.database
+    def page_servers(self) -> list[PageServerPlace] | None:
+        """The page servers of the database that was opened, as the first keeper says that knows of any; None where no keeper answers."""
+        of, is_heard = "" if self._own is None else self._own.database, False
         for address in self._asks():
             fixed, keys = _parted(self._ask(address, ("pages", self.name), of=of))
+            is_heard |= fixed[:1] == ["pages"]
             if fixed[:1] == ["pages"] and keys.get("of", of) == of and (found := _page_servers(fixed[2:])):
                 return found
-        return []
+        return [] if is_heard else None
 
     def block(self, position: int) -> str | None:
         """The SHA-256 of the block that the archive has at a position, of the keeper that answers first; None where it has none."""
@@ -508,7 +511,7 @@ class Keepers:
                 raise TimedOut(f"no keeper has said in {self.patience} s what became of position {position} of {self.name}")
             now = self.where()
             if now is not None and now.of == place.of and now.generation > place.generation:
-                return Fate(now.archived, True)  # PostgreSQL went back, and the run continues under another number
+                return Fate(now.archived, True, continues=now)
             asked = [now.lines] if now is not None else []
             time.sleep(waits.next())
 

@@ -13,12 +13,13 @@ import psycopg
 from psycopg.conninfo import make_conninfo
 from psycopg.rows import dict_row
 
-from pagelog.archive_engine import without_password
+from pagelog.archive_url import without_password
 from pagelog.console import statements
 from pagelog.errors import PagelogError
-from pagelog.keeper.hosts import shut_down, turn_hosts
+from pagelog.keeper.hosts import shut_down
 from pagelog.keeper.referee import options_of
 from pagelog.keeper.rows import KeeperRow, Look, PagesRow, Row, StandbyRow, Synchronous
+from pagelog.libpq import count_of_hosts, turn_hosts
 from pagelog.reply import LINE_SIZE
 from pagelog.trail.store import FORMAT, Piece
 
@@ -117,7 +118,7 @@ class Source:
         return self._connected().execute(statement, values).fetchall()
 
     def _connected(self) -> psycopg.Connection[dict[str, Any]]:
-        left = 1 + str(self._options.get("host") or "").count(",")
+        left = count_of_hosts(self._options)
         while self._connection is None or self._connection.closed:
             try:
                 self._connection = psycopg.connect(make_conninfo(**self._options), autocommit=True, row_factory=dict_row)

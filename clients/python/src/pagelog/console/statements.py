@@ -18,7 +18,7 @@ SELECT
     AND has_table_privilege(to_regclass('pagelog_trail_piece'), 'SELECT'), false) AS has_trail,
   EXISTS (SELECT 1 FROM pg_attribute WHERE attrelid = to_regclass('pagelog_trail_list') AND attname = 'of_run') AS has_runs,
   COALESCE(has_table_privilege(to_regclass('pagelog_pages'), 'SELECT'), false)
-    AND EXISTS (SELECT 1 FROM pg_attribute WHERE attrelid = to_regclass('pagelog_pages') AND attname = 'seen') AS has_pages
+    AND EXISTS (SELECT 1 FROM pg_attribute WHERE attrelid = to_regclass('pagelog_pages') AND attname = 'secure') AS has_pages
 """
 
 PAGES = f"SELECT {PAGES_COLUMNS} FROM pagelog_pages ORDER BY machine, run"

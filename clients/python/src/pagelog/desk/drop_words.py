@@ -111,8 +111,7 @@ def _drop_log(accounts: Accounts, url: str | None, log: str | None, yes: bool) -
     where = url_of(url, accounts)
     with Archive(where, log) as archive:
         found = next(each for each in logs_of(where) if each.name == log)
-        shown = archive.engine.url.render_as_string(hide_password=True)
-        agree(f"to be deleted: log {log} of {shown}\n  {_extent(found)}\n  {_trail_beside(where, log)}", yes)
+        agree(f"to be deleted: log {log} of {archive.shown}\n  {_extent(found)}\n  {_trail_beside(where, log)}", yes)
         click.echo(f"dropped {drop(archive)} blocks of log {log}")
 
 

@@ -42,7 +42,7 @@ def metrics_word(
     Example:
       pagelogctl metrics --credentials c.toml --db 0 --listen 127.0.0.1:9464
     """
-    from pagelog.archive_engine import parsed_url
+    from pagelog.archive_url import parsed_url
     from pagelog.desk.metrics import DatabaseCollector, serve
     from pagelog.desk.top_words import archived_of
 

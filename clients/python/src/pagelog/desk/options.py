@@ -5,6 +5,7 @@ from __future__ import annotations
 import functools
 import os
 import signal
+import sqlite3
 import ssl
 import sys
 import time
@@ -58,14 +59,12 @@ def hint_of(error: PagelogError) -> str:
 
 def is_of_the_archive(error: Exception) -> bool:
     """Whether the archive's database raised it."""
-    return type(error).__module__.startswith("sqlalchemy")
+    return isinstance(error, sqlite3.Error) or type(error).__module__.partition(".")[0] == "psycopg"
 
 
 def is_lost_archive(error: Exception) -> bool:
-    """Whether the archive's database is away for a moment, or busy. Where the line breaks amid a reply, psycopg2 says
-    DatabaseError, as of many other faults.
-    """
-    return type(error).__name__ == "OperationalError" or bool(getattr(error, "connection_invalidated", False))
+    """Whether the archive's database is away for a moment, or busy."""
+    return any(kind.__name__ == "OperationalError" for kind in type(error).__mro__)
 
 
 def fail(text: str, status: int = FAULT) -> NoReturn:
@@ -135,12 +134,11 @@ def _url(context: click.Context, parameter: click.Parameter, value: str | None) 
 
 def url_of(url: str | None, accounts: Accounts) -> str:
     """The archive's URL: the option's, the file's, or the default. Ends where it is of a database in memory."""
-    from pagelog.archive import DEFAULT_URL, is_in_memory
-    from pagelog.archive_engine import bound_waits
+    from pagelog.archive import DEFAULT_URL
+    from pagelog.archive_url import is_in_memory
 
     found = url or accounts.archive_url or DEFAULT_URL
     _urls.append(found)
-    bound_waits()
     if is_in_memory(found):
         fail("an archive in memory is gone when this ends: name a file, as sqlite:///FILE")
     return found
@@ -216,7 +214,7 @@ def faults(word: Word) -> Word:
 
 def first_line_of(error: Exception) -> str:
     """What a database says, without the password that the archive's URL may have."""
-    from pagelog.archive_engine import without_password
+    from pagelog.archive_url import without_password
 
     lines = str(error).splitlines() or [type(error).__name__]
     return without_password(lines[0], _urls[-1] if _urls else None)

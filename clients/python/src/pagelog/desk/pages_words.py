@@ -8,8 +8,10 @@ import signal
 import socket
 import sys
 import threading
+from dataclasses import replace
 from pathlib import Path
 from shutil import which
+from typing import Any, Mapping
 
 import click
 
@@ -17,7 +19,8 @@ from pagelog.credentials import Accounts
 from pagelog.desk.keeper_words import named, url_of_referee
 from pagelog.desk.options import credentials_option, fail, faults
 from pagelog.desk.waiting_words import write_private
-from pagelog.pages.process import PagesProcess
+from pagelog.pages.following import Settings
+from pagelog.pages.process import Serving
 from pagelog.pages.stores import asides_in, not_aside_in, sentence
 
 _TABLE = """
@@ -51,6 +54,8 @@ def pages_word(accounts: Accounts, names: tuple[str, ...], folder: Path, host: s
     A copy has each position that PostgreSQL keeps, up to what is archived. It promises nothing: a store that is lost is made again. Where
     PostgreSQL went back, the store is set aside: with --open it is read as a service is, by any word that needs [secondary] alone.
 
+    With tls, tls_clients and plain of [keeper] it serves by TLS as a keeper does; with sslrootcert it asks keepers by TLS.
+
     \b
     Examples:
       pagelogctl pages --folder stores --listen 10.0.0.4 --credentials keeper.toml
@@ -58,7 +63,6 @@ def pages_word(accounts: Accounts, names: tuple[str, ...], folder: Path, host: s
     """
     from pagelog.keeper.referee import Referee
     from pagelog.keeper.sealed import Keys
-    from pagelog.pages.following import Settings
     from pagelog.pages.serving import FolderInUse, PageServers
 
     if (run is None) != (keys is None) or (lists and run is not None):
@@ -73,11 +77,11 @@ def pages_word(accounts: Accounts, names: tuple[str, ...], folder: Path, host: s
     if (found := which(program)) is None:
         fail(f"there is no program {program}: it is built in clients/pages, and in the package pagelog-pages")
     options = ("--cache", str(cache), *(("--direct",) if direct else ()))
+    settings = Settings(Path(found).resolve(), folder, host, machine, options, _serving(accounts.keeper, host), accounts.trust)
     if run is not None and keys is not None:
-        return _open(Path(found).resolve(), folder, run, f"{host}:0", options, keys)
+        return _open(settings, run, keys)
     logging.basicConfig(stream=sys.stderr, format="%(message)s", level=logging.INFO)
     log = logging.getLogger("pagelog.pages")
-    settings = Settings(Path(found).resolve(), folder, host, machine, options)
     url, sealing = url_of_referee(accounts), Keys(accounts.key_file)
     servers = PageServers(settings, lambda me: Referee(url, me, keys=sealing, store=accounts.store), [named(name) for name in names],
                           lambda name, said: log.info("%s: %s", name, said))  # fmt: skip
@@ -89,15 +93,36 @@ def pages_word(accounts: Accounts, names: tuple[str, ...], folder: Path, host: s
         fail(str(error))
 
 
-def _open(program: Path, folder: Path, run: str, listen: str, options: tuple[str, ...], keys: Path) -> None:
-    """Serves a store, by a token that is in this file alone, until a signal."""
-    known = {**{each.run: each.folder(folder) for each in not_aside_in(folder)}, **{each.run: each.path(folder) for each in asides_in(folder)}}
+def _serving(section: Mapping[str, Any], host: str) -> Serving | None:
+    """What [keeper] says of TLS. Ends where that cannot be."""
+    from pagelog.keeper.certificate import Authorities, Pair
+
+    file, clients, plain = section.get("tls"), section.get("tls_clients"), section.get("plain", True)
+    if file is None:
+        if clients is not None or plain is not True:
+            fail("[keeper] has tls_clients or plain without tls, the file with certificate and key")
+        return None
+    if not isinstance(file, str) or not isinstance(clients, str | None) or not isinstance(plain, bool):
+        fail("[keeper]: tls and tls_clients are paths, and plain is true or false")
+    if not Pair.read(Path(file)).is_for(host):
+        fail(f"[keeper] tls: {file} is not for {host}, which nobody would believe")
+    if clients is not None:
+        Authorities.read(Path(clients))
+    return Serving(Path(file).absolute(), None if clients is None else Path(clients).absolute(), not plain)
+
+
+def _open(settings: Settings, run: str, keys: Path) -> None:
+    """Serves a store, by a token that is in this file alone, until a signal; by TLS alone where it may."""
+    folder, serving = settings.folder, settings.serving
+    known = {each.run: (each.folder(folder), each.identity) for each in not_aside_in(folder)}
+    known |= {each.run: (each.path(folder), each.identity) for each in asides_in(folder)}
     if run not in known:
         fail(f"{folder} has no store {run}: --list says which there are")
     ends, token = threading.Event(), secrets.token_hex(16)
     for number in (signal.SIGTERM, signal.SIGINT):
         signal.signal(number, lambda *_: ends.set())
-    process = PagesProcess(program, known[run], listen, *options)
+    only = None if serving is None else replace(serving, is_only=True)
+    process = replace(settings, serving=only).start(*known[run])
     try:
         process.set_table(_TABLE.format(token=token))
         write_private(keys, _ACCOUNT.format(address=process.address, token=token))

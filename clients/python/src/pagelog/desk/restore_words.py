@@ -80,25 +80,34 @@ def restore_word(
 @last_option
 @click.argument("name", required=False)
 @click.option("--store", "in_store", is_flag=True, help="Of a NAME: read all its objects in the store.")
+@click.option("--pages", "of_pages", is_flag=True, help="Of a NAME: compare its page servers, or one with the service; --last is a position.")
 @click.option("--offline", is_flag=True, help="Read the archive alone, and ask no service: every block has to be there and sound.")
 @json_option
 @faults
 def verify_word(
-    accounts: Accounts, db: int, url: str | None, log: str | None, last: int | None, name: str | None, in_store: bool, offline: bool, as_json: bool
-) -> None:
+    accounts: Accounts, db: int, url: str | None, log: str | None, last: int | None, name: str | None, in_store: bool, of_pages: bool, offline: bool,
+    as_json: bool,
+) -> None:  # fmt: skip
     """Compare an archive with a database: all archived blocks, and a sample of pages. Needs [secondary].
 
     With a NAME and --store: read the objects of a named database in the store, and compare each with what PostgreSQL says of it.
+    With a NAME and --pages: compare all pages of its page servers with one another, at the newest position that all have; of one alone with
+    the service, where each page is an entry of the audit list.
 
-    Exit status 1 at the first difference, with its LSN.
+    Exit status 1 at the first difference, with its LSN; or with its page and position, and who has which.
 
     \b
     Examples:
       pagelogctl verify --credentials c.toml --db 0 --url sqlite:///db0.db
       pagelogctl verify shop --store --credentials keeper.toml
+      pagelogctl verify shop --pages --credentials keeper.toml
     """
-    if (name is None) == in_store:
-        raise click.UsageError("a NAME has --store, and --store a NAME")
+    if in_store + of_pages != (name is not None):
+        raise click.UsageError("a NAME has --store or --pages, and these a NAME")
+    if name is not None and of_pages:
+        from pagelog.desk.comparing_words import verify_pages
+
+        return verify_pages(accounts, name, last, as_json)
     if name is not None:
         from pagelog.desk.store_words import verify_stored
 

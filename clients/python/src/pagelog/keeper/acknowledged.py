@@ -8,6 +8,7 @@ import ctypes
 import mmap
 import os
 import weakref
+from contextlib import suppress
 from pathlib import Path
 
 _NAME = "pagelog-acknowledged"
@@ -53,13 +54,18 @@ def new_memory() -> int:
 def memory_of(pid: int) -> int | None:
     """A descriptor of the memory of a process that runs; None where it has none, as one that an older keeper has started."""
     folder = Path(f"/proc/{pid}/fd")
-    try:
+    with suppress(OSError, ValueError):  # it has ended, or is not of this user
         for name in sorted(os.listdir(folder), key=int):
-            if os.readlink(folder / name).startswith(f"/memfd:{_NAME} "):
+            if _leads_to(folder / name).startswith(f"/memfd:{_NAME} "):
                 return os.open(folder / name, os.O_RDWR | os.O_CLOEXEC)
-    except (OSError, ValueError):
-        pass  # it has ended, or is not of this user
     return None
+
+
+def _leads_to(descriptor: Path) -> str:
+    """Nowhere where the process has closed it since, as that of a client."""
+    with suppress(FileNotFoundError):
+        return os.readlink(descriptor)
+    return ""
 
 
 def acknowledged_of(memory: int | None) -> Acknowledged | None:

@@ -220,11 +220,18 @@ class Bases:
 
     def heads(self, position: int) -> Iterator[tuple[int, bytes]]:
         """How many pages each image in force at a position has, and its head, in order; no page is read."""
+        for range, pages, crc in self._head_rows(position):
+            if mask := int.from_bytes(pages, "big"):
+                yield mask.bit_count(), Image.head_of(range, mask, crc)
+
+    def ranges(self, position: int) -> Iterator[int]:
+        """The range of each, and of those that have no page any more."""
+        return (range for range, _, _ in self._head_rows(position))
+
+    def _head_rows(self, position: int) -> Iterator[Any]:
         last, count = -1, 1 << 16
         while rows := self._referee._ask_bounded(_HEADS, (self._log, position, last, count)):
-            for range, pages, crc in rows:
-                if mask := int.from_bytes(pages, "big"):
-                    yield mask.bit_count(), Image.head_of(range, mask, crc)
+            yield from rows
             last = rows[-1][0]
 
     def end_mark(self, first: int, last: int) -> int | None:

@@ -4,7 +4,10 @@ from __future__ import annotations
 
 from dataclasses import dataclass
 
+from pagelog.archive_postgres import PostgresEngine
+from pagelog.archive_session import statements_of
 from pagelog.keeper.schema import script
+from pagelog.trail.statements import TABLES
 
 SECRETS = "pagelog_table"
 """The table that has tokens, and what those of keepers are made from."""
@@ -89,16 +92,7 @@ def _of_database(statement: str, revoked: str = "") -> str:
 
 def _trails() -> list[str]:
     """The tables of audit lists, which else who keeps one makes with it."""
-    from sqlalchemy.dialects import postgresql
-    from sqlalchemy.schema import CreateIndex, CreateTable
-
-    from pagelog.trail.store import tables
-
-    dialect = postgresql.dialect()
-    made = []
-    for table in tables():
-        made += [CreateTable(table, if_not_exists=True), *(CreateIndex(index, if_not_exists=True) for index in table.indexes)]
-    return [" ".join(str(each.compile(dialect=dialect)).split()) + ";" for each in made]
+    return [f"{each};" for each in statements_of(list(TABLES.values()), PostgresEngine.types)]
 
 
 def _to_table(table: str, rights: Rights, keeps: str, looks: str) -> list[str]:

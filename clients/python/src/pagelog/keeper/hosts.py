@@ -1,35 +1,29 @@
-"""What a connection to PostgreSQL needs that psycopg has not: a wait for any descriptor, hosts that are tried in turn, and an end that
-is no cancel."""
+"""What a keeper's connection to PostgreSQL needs that psycopg has not: a wait for any descriptor, hosts that encrypt, and an end that is
+no cancel."""
 
 from __future__ import annotations
 
 import ipaddress
 import os
-import select
 import socket
 from typing import Any, Mapping, TypeVar
 
 import psycopg
 from psycopg import waiting
 from psycopg.abc import PQGen
-from psycopg.waiting import Ready, Wait
+
+from pagelog.libpq import ready_by_poll
 
 Result = TypeVar("Result")
-_EVENTS = {Wait.R: select.POLLIN, Wait.W: select.POLLOUT, Wait.RW: select.POLLIN | select.POLLOUT}
 
 
 def wait_by_poll(gen: PQGen[Result], fileno: int, timeout: float | None = None) -> Result:
     """As psycopg's `wait_select`, which takes no descriptor from 1,024 on: a keeper of 170 databases has as many."""
-    poll = select.poll()
     try:
         wanted = next(gen)
         while True:
-            poll.register(fileno, _EVENTS[wanted])
-            found = poll.poll(None if timeout is None else 1000 * timeout)
-            if found:
-                event = found[0][1]
-                ready = (Ready.R if event & ~select.POLLOUT else 0) | (Ready.W if event & ~select.POLLIN else 0)
-                wanted = gen.send(Ready(ready))
+            if ready := ready_by_poll(fileno, wanted, timeout):
+                wanted = gen.send(ready)
     except StopIteration as end:
         result: Result = end.value
         return result
@@ -37,14 +31,6 @@ def wait_by_poll(gen: PQGen[Result], fileno: int, timeout: float | None = None) 
 
 if waiting.wait is waiting.wait_select:  # else its compiled part waits, or a newer one of it, by `poll` as well
     waiting.wait = wait_by_poll
-
-
-def turn_hosts(options: dict[str, Any]) -> None:
-    """The second host comes first from now on. psycopg gives up at one that is silent, as of a machine that is off."""
-    for key in ("host", "port", "hostaddr"):
-        first, comma, rest = str(options.get(key) or "").partition(",")
-        if comma:
-            options[key] = f"{rest},{first}"
 
 
 def is_loopback(host: str) -> bool:

@@ -549,7 +549,7 @@ class Keeper:
             keys += (Key(f"copied={row.copied}"),)
         if database.after is not None and database.after[0] == row.generation:
             keys += (Key(f"after={database.after[1]}"),)
-        keys += () if is_secure else self._pages.key(row)
+        keys += self._pages.key(row, is_secure)
         return ("at", name, row.generation, row.run, address, archived, lines, row.images, row.shift, row.base, *keys)
 
     def _lines_of(self, holder: KeeperRow | None, is_secure: bool) -> str | None:
@@ -610,11 +610,11 @@ class Keeper:
         return ("standby", name, found.told(is_secure), found.run, reached, found.images, found.shift, *keys)
 
     def pages(self, name: str, of: Of | None, is_secure: bool = False) -> tuple[object, ...]:
-        """Its page servers that live, if it is the database that is meant: none to who came by TLS, which they have not."""
+        """Its page servers that live, if it is the database that is meant: to who came by TLS those that have it."""
         database = self._named(name)
-        if is_secure or database is None or (of is not None and of.database != database.row.identity):
+        if database is None or (of is not None and of.database != database.row.identity):
             return ("pages", name)
-        return self._pages.words(database.row, of)
+        return self._pages.words(database.row, of, is_secure)
 
     def confirmed(self, line: Line, name: str, position: int, of: Of | None) -> None:
         """Answers now or later, if it is the database that is meant."""

@@ -40,9 +40,9 @@ class LivingPages:
                 living.setdefault(row.log, []).append(row)
         self._living = living
 
-    def key(self, row: Row) -> tuple[Key, ...]:
-        """Of `at`: how many there are, where there are any."""
-        count = len(self._living.get(row.id, ()))
+    def key(self, row: Row, is_secure: bool) -> tuple[Key, ...]:
+        """Of `at`: how many there are for who came by TLS or without, where there are any."""
+        count = len(self._told(row, is_secure))
         return (Key(f"pages={min(count, MOST)}"),) if count else ()
 
     def states(self, row: Row) -> dict[str, int | None]:
@@ -52,8 +52,12 @@ class LivingPages:
         behind = max((max(0, row.archived - each.position) for each in living), default=None)
         return {"pages": len(living), "pages_gone": self._all[row.id] - len(living), "pages_behind": behind, "pages_aside": self._asides[row.id]}
 
-    def words(self, row: Row, of: Of | None) -> tuple[object, ...]:
+    def _told(self, row: Row, is_secure: bool) -> list[tuple[str, PagesRow]]:
+        """Those that are told to who came by TLS or without, each with its address for that."""
+        return [(address, each) for each in self._living.get(row.id, ()) if (address := each.told(is_secure)) is not None]
+
+    def words(self, row: Row, of: Of | None, is_secure: bool) -> tuple[object, ...]:
         """The answer to `pages`: of each its address, run, position and oldest position; first those that have most."""
-        found = sorted(self._living.get(row.id, ()), key=lambda each: -each.position)[:MOST]
-        told = [word for each in found for word in (each.address, each.run, each.position, each.oldest)]
+        found = sorted(self._told(row, is_secure), key=lambda told: -told[1].position)[:MOST]
+        told = [word for address, each in found for word in (address, each.run, each.position, each.oldest)]
         return ("pages", row.name, *told, *of_word(None if of is None else Of(row.identity, of.run)))

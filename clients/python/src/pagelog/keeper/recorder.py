@@ -8,12 +8,10 @@ import time
 from concurrent.futures import Executor, ThreadPoolExecutor
 from typing import Any, Callable, TypeVar
 
-import sqlalchemy as sql
-
-from pagelog.archive_engine import bound_waits, engine_of
+from pagelog.archive_engine import engine_of
 from pagelog.errors import AuditListFull
 from pagelog.keeper.fate import Of
-from pagelog.keeper.referee import plain_url
+from pagelog.libpq import plain_url
 from pagelog.keeper.refusal import line_of
 from pagelog.keeper.rows import Lines
 from pagelog.keeper.served import Served
@@ -28,8 +26,10 @@ FEW = 64
 _TTLS = 3
 _PATIENCE = 1 / 8
 """For so much of a ttl blocks wait for lines that a thread has to see to."""
-_IS_OF_THE_NAME = sql.text("SELECT 1 FROM pagelog_generation g JOIN pagelog_log l ON l.id = g.log WHERE l.name = :name "
-                           "AND l.identity = CAST(:database AS uuid) AND g.generation = :generation AND g.run = :run")  # fmt: skip
+_IS_OF_THE_NAME = """
+SELECT 1 FROM pagelog_generation g JOIN pagelog_log l ON l.id = g.log
+WHERE l.name = %(name)s AND l.identity = %(database)s::uuid AND g.generation = %(generation)s AND g.run = %(run)s
+"""
 _STEPS = 4
 """How many questions one database asks before another has its turn."""
 
@@ -82,7 +82,6 @@ class Trails:
 
     def __init__(self, url: str, days: int, ttl: float) -> None:
         """Lines are kept for so many days; a few new ones after three ttl."""
-        bound_waits()
         self.ttl, self.while_few = ttl, _TTLS * ttl
         self.url, self.days = plain_url(url), days
         self.engine = engine_of(self.url)
@@ -99,7 +98,7 @@ class Trails:
     def close(self) -> None:
         """Ends the thread once it has done what it is at."""
         self.thread.shutdown(wait=False, cancel_futures=True)
-        self.engine.dispose()
+        self.engine.close()
 
 
 class Recorder:
@@ -299,10 +298,9 @@ class Recorder:
     def _check_name(self) -> None:
         """No list is begun of a run that PostgreSQL does not know, or under a name that is another database's by now. Raises `OtherKeeper`."""
         served = self._served
-        with self._trails.engine.begin() as connection:
-            known = {"name": served.database, "database": self._of.database, "generation": served.generation, "run": served.run}
-            if connection.execute(_IS_OF_THE_NAME, known).first() is None:
-                raise OtherKeeper(f"generation {served.generation} of {served.database} is not that of run {served.run}")
+        known = {"name": served.database, "database": self._of.database, "generation": served.generation, "run": served.run}
+        if not self._trails.engine.rows(_IS_OF_THE_NAME, **known):
+            raise OtherKeeper(f"generation {served.generation} of {served.database} is not that of run {served.run}")
 
     def _prune(self, keeper: TrailKeeper) -> None:
         today = now() // DAY

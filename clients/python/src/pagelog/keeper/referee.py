@@ -16,17 +16,18 @@ from typing import TYPE_CHECKING, Any, Iterable, Iterator, Mapping, Sequence
 from uuid import uuid4
 
 import psycopg
-from psycopg.conninfo import conninfo_to_dict, make_conninfo
+from psycopg.conninfo import make_conninfo
 
 from pagelog.errors import CredentialsError, PagelogError
 from pagelog.keeper import statements
 from pagelog.keeper.batches import array_of, statement_of, values_of
-from pagelog.keeper.hosts import shut_down, turn_hosts
+from pagelog.keeper.hosts import shut_down
 from pagelog.keeper.fate import Fate, FateRow, Of, fate_of_rows
 from pagelog.keeper.refusal import is_refusal, line_of
 from pagelog.keeper.rows import Batch, Kept, Look, Named, Origin, Row, TableOf, Where, look_of
 from pagelog.keeper.schema import CHANNEL, FORMAT, FOUND, NUMBERED, VERSION, script
 from pagelog.keeper.sealed import Keys, NoKey, Stored
+from pagelog.libpq import UnreadableUrl, count_of_hosts, options_of_url, turn_hosts
 
 if TYPE_CHECKING:
     from pagelog.store.settings import StoreSettings
@@ -95,21 +96,13 @@ def digest(chain: bytes, blocks: Iterable[bytes]) -> bytes:
     return chain
 
 
-def plain_url(url: str) -> str:
-    """The URL without the driver that SQLAlchemy would use, as `postgresql+psycopg2://`."""
-    return re.sub(r"^postgresql\+\w+:", "postgresql:", url)
-
-
 def options_of(url: str) -> dict[str, Any]:
     """What a URL says, by libpq's names. Raises `KeeperError`, in whose text nothing of it is: a part may be one of the password."""
     try:
-        options: dict[str, Any] = conninfo_to_dict(plain_url(url))
-    except psycopg.Error:
-        options = {"host": "@"}
-    host = re.sub(r"(^|,)@/", r"\1/", str(options.get("host", "")))  # a socket without a file
-    if re.search(r"[@#?\s]", host) or re.search(r"[^0-9,]", str(options.get("port", ""))):
-        raise KeeperError("the url of PostgreSQL cannot be read: in a password write % as %25, @ as %40, # as %23, / as %2F, : as %3A, ? as %3F")
-    return options
+        return options_of_url(url)
+    except UnreadableUrl:
+        raise KeeperError("the url of PostgreSQL cannot be read: in a password write % as %25, @ as %40, # as %23, / as %2F, : as %3A, "
+                          "? as %3F") from None  # fmt: skip
 
 
 class Referee:
@@ -166,7 +159,7 @@ class Referee:
     @property
     def _hosts(self) -> int:
         """How many there are."""
-        return 1 + str(self._options.get("host") or "").count(",")
+        return count_of_hosts(self._options)
 
     def _connected(self) -> psycopg.Connection[Any]:
         left = self._hosts

@@ -159,6 +159,12 @@ class PagesRow:
     """Stores of the same database that were set aside there: of each its run, the positions `oldest` to `last`, and its folder."""
     silent: float = 0.0
     """For how many seconds it has not been heard, by PostgreSQL's clock."""
+    secure: str | None = None
+    """The way to it by TLS, as `ways` reads it."""
+
+    def told(self, is_secure: bool) -> str | None:
+        """Its address, as it is told to who came by TLS or without."""
+        return address_for(self.address, way_of(self.secure, self.run), is_secure=is_secure)
 
     @property
     def is_gone(self) -> bool:

@@ -201,7 +201,12 @@ _HELD = (
     "ALTER TABLE pagelog_log ADD COLUMN IF NOT EXISTS held timestamptz",
 )
 
-STEPS = (_FIRST, _LIVES, _IDENTITY, _TRAILS, _TABLE_NUMBERS, _SEALED, _SECURE, _PAGES, _STORE, _ASIDE, _PACKS, _HELD)
+_PAGES_SECURE = (
+    # secure: as in the tables above, of the page server's run.
+    "ALTER TABLE pagelog_pages ADD COLUMN IF NOT EXISTS secure text",
+)
+
+STEPS = (_FIRST, _LIVES, _IDENTITY, _TRAILS, _TABLE_NUMBERS, _SEALED, _SECURE, _PAGES, _STORE, _ASIDE, _PACKS, _HELD, _PAGES_SECURE)
 """What brings the tables from each version to the next one. Tables of version 1 have no number: they are older than it."""
 VERSION = len(STEPS)
 

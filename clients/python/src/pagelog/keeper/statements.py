@@ -2,7 +2,8 @@
 
 from pagelog.keeper.schema import CHANNEL, FORMAT
 
-PAGES_COLUMNS = "run, log, machine, address, position, oldest, table_number, beat, aside, EXTRACT(epoch FROM now() - seen)::float AS silent"
+PAGES_COLUMNS = ("run, log, machine, address, position, oldest, table_number, beat, aside, secure, "
+                 "EXTRACT(epoch FROM now() - seen)::float AS silent")  # fmt: skip
 _ALL = f"""  (SELECT COALESCE(json_agg(k), '[]') FROM (SELECT name, run, lines, beat, report, secure FROM pagelog_keeper) k),
   (SELECT COALESCE(json_agg(l), '[]') FROM (
     SELECT id, name, generation, run, holder, address, archived, base, shift, images, encode(chain, 'hex') AS chain, wanted,

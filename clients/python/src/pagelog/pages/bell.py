@@ -9,7 +9,9 @@ from contextlib import suppress
 from typing import Callable, NamedTuple
 
 from pagelog.connection import Address
+from pagelog.dialing import dial
 from pagelog.repeating import Backoff
+from pagelog.secure import Trust
 
 _SOON, _RARELY = 0.1, 5.0
 """Seconds between two attempts, at first and at most."""
@@ -28,9 +30,9 @@ class Told(NamedTuple):
 class Bell:
     """Of one database, with a thread of its own from the first `lead` on."""
 
-    def __init__(self, name: str, identity: str, ring: Callable[[], None]) -> None:
-        """`ring` is called in its thread, once there is something to take."""
-        self._name, self._identity, self._ring = name, identity, ring
+    def __init__(self, name: str, identity: str, ring: Callable[[], None], trust: Trust | None = None) -> None:
+        """`ring` is called in its thread, once there is something to take. With `trust` the keeper is asked by TLS."""
+        self._name, self._identity, self._ring, self._trust = name, identity, ring, trust
         self._address: str | None = None
         self._position = 0
         self._told: Told | None = None
@@ -78,7 +80,7 @@ class Bell:
     def _hear_at(self, address: str, waits: Backoff) -> None:
         """Returns once that keeper says nothing more. Raises `OSError` and `ValueError`."""
         place = Address.parse(address)
-        with socket.create_connection((place.host, place.port), _ANSWER) as line:
+        with dial(place.host, place.port, _ANSWER, self._trust) as line:
             line.setsockopt(socket.IPPROTO_TCP, socket.TCP_NODELAY, 1)
             self._line = line
             with line.makefile("rwb") as text:

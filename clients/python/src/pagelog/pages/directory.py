@@ -11,10 +11,10 @@ from pagelog.keeper.ways import address_for, way_of
 
 _LOOK = """
 WITH me AS (
-  INSERT INTO pagelog_pages (run, log, machine, address, position, persisted, oldest, table_number, aside)
-  SELECT %(run)s, id, %(machine)s, %(address)s, %(position)s, %(persisted)s, %(oldest)s, %(table_number)s, %(aside)s::jsonb FROM pagelog_log
+  INSERT INTO pagelog_pages (run, log, machine, address, secure, position, persisted, oldest, table_number, aside)
+  SELECT %(run)s, id, %(machine)s, %(address)s, %(secure)s, %(position)s, %(persisted)s, %(oldest)s, %(table_number)s, %(aside)s::jsonb FROM pagelog_log
     WHERE identity = %(identity)s::uuid AND NOT dropped
-  ON CONFLICT (run) DO UPDATE SET address = excluded.address, position = excluded.position, persisted = excluded.persisted,
+  ON CONFLICT (run) DO UPDATE SET address = excluded.address, secure = excluded.secure, position = excluded.position, persisted = excluded.persisted,
     oldest = excluded.oldest, table_number = excluded.table_number, aside = excluded.aside, beat = pagelog_pages.beat + 1,
     seen = now() RETURNING log)
 SELECT l.id, l.archived, l.chain, l.table_number, k.lines, k.secure, k.run
@@ -34,6 +34,8 @@ class Entry:
     identity: str
     machine: str
     address: str
+    secure: str | None
+    """The way to it by TLS, as `ways` reads it."""
     position: int
     persisted: int
     oldest: int
@@ -51,7 +53,7 @@ class Archived:
     chain: bytes = field(repr=False)
     table_number: int
     lines: str | None
-    """Where the lines of the keeper that holds it are, without TLS; None where there are none."""
+    """Where the lines of the keeper that holds it are, for who comes by TLS or without; None where there are none."""
 
 
 def names(referee: Referee, format: int) -> Mapping[str, str]:
@@ -59,14 +61,14 @@ def names(referee: Referee, format: int) -> Mapping[str, str]:
     return dict(referee._ask(_NAMES, (format,)))
 
 
-def look(referee: Referee, entry: Entry) -> Archived | None:
+def look(referee: Referee, entry: Entry, *, is_secure: bool = False) -> Archived | None:
     """Enters it, and returns what is archived, by a statement that writes: an old leader of PostgreSQL makes none. None where PostgreSQL has
-    no such database, or it was dropped."""
+    no such database, or it was dropped. `is_secure`: the keeper's lines are reached by TLS."""
     found: list[Any] = referee._ask_bounded(_LOOK, vars(entry), binary=False)
     if not found:
         return None
     log, position, chain, table_number, lines, secure, run = found[0]
-    return Archived(log, position, bytes(chain), table_number, None if lines is None else address_for(lines, way_of(secure, run), is_secure=False))
+    return Archived(log, position, bytes(chain), table_number, None if lines is None else address_for(lines, way_of(secure, run), is_secure=is_secure))
 
 
 def news(referee: Referee, log: int, identity: str) -> tuple[int, int]:

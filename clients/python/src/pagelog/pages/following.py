@@ -17,10 +17,11 @@ from pagelog.keeper.referee import KeeperError, Referee, digest
 from pagelog.keeper.run import new_run
 from pagelog.pages.bell import Bell, Told
 from pagelog.pages.directory import Archived, Entry, leave, look, news, note_end, oldest_kept
-from pagelog.pages.process import OtherChain, PagesProcess, StoreFailed, Where
+from pagelog.pages.process import OtherChain, PagesProcess, Serving, StoreFailed, Where
 from pagelog.pages.stores import MOST_ASIDE, SetAside, Store, beyond_bound, delete, move_aside, note_aside, reported, sentence
 from pagelog.pages.table import table_of_pages
 from pagelog.repeating import Backoff, Repeats
+from pagelog.secure import Trust
 
 _SOON, _RARELY = 0.01, 0.25
 """Seconds between two questions for what is archived: the first after something was, and the longest."""
@@ -46,13 +47,22 @@ class WentBack(PagelogError):
 @dataclass(frozen=True)
 class Settings:
     """How page servers are started: their program, the folder of their stores, the host that they listen at, what this machine is called,
-    and further options of the program."""
+    and further options of the program; how they serve by TLS, if they do; and by which TLS keepers are asked, if by any."""
 
     program: Path
     folder: Path
     host: str
     machine: str
     options: tuple[str, ...] = ()
+    serving: Serving | None = None
+    trust: Trust | None = None
+
+    def start(self, store: Path, identity: str) -> PagesProcess:
+        """The program, with a store of the database of this identity."""
+        listen, secure = f"{self.host}:0", tuple[str, ...]()
+        if self.serving is not None:
+            listen, secure = self.serving.listen(self.host), self.serving.options(self.host, identity)
+        return PagesProcess(self.program, store, listen, *secure, *self.options)
 
 
 class Follower:
@@ -63,7 +73,7 @@ class Follower:
         self._settings, self._referee = settings, referee
         self._repeats = Repeats(say)
         self._ends, self._wake = threading.Event(), threading.Event()
-        self._bell = Bell(name, identity, self._wake.set)
+        self._bell = Bell(name, identity, self._wake.set, settings.trust)
         self._store: Store | None = None
         self._process: PagesProcess | None = None
         self._archived: Archived | None = None
@@ -133,8 +143,7 @@ class Follower:
             self._set_aside(left, "it was cut off while it was set aside, or its entry was lost")
         self._asides = reported(self._settings.folder, self.identity)
         self._table_number, self._chain = 0, None
-        self._process = PagesProcess(self._settings.program, self._store.folder(self._settings.folder), f"{self._settings.host}:0",
-                                     *self._settings.options)  # fmt: skip
+        self._process = self._settings.start(self._store.folder(self._settings.folder), self.identity)
         self.address, self._was_confirmed = self._process.address, self._process.where.confirmed > 0
         self._look()
         self._fill()
@@ -200,7 +209,7 @@ class Follower:
     def _where(self, store: Path) -> Where | None:
         """What a store has that is not in use; None where it cannot be opened. It has no table: nobody is answered."""
         try:
-            process = PagesProcess(self._settings.program, store, f"{self._settings.host}:0", *self._settings.options)
+            process = self._settings.start(store, self.identity)
         except StoreFailed:
             return None
         process.end()
@@ -257,9 +266,10 @@ class Follower:
     def _enter(self) -> Archived:
         assert self._process is not None and self._store is not None
         where = self._process.where
-        entry = Entry(self._store.run, self.identity, self._settings.machine, self._process.address, where.confirmed, where.persisted,
+        secure = None if self._process.secure is None else self._process.secure.text(self._store.run)
+        entry = Entry(self._store.run, self.identity, self._settings.machine, self._process.address, secure, where.confirmed, where.persisted,
                       where.oldest, self._table_number, json.dumps(self._asides))  # fmt: skip
-        found = look(self._referee, entry)
+        found = look(self._referee, entry, is_secure=self._settings.trust is not None)
         self._looked, self._said_table = time.monotonic(), self._table_number
         self._looks += 1
         if found is None:

@@ -11,6 +11,7 @@ from pathlib import Path
 from typing import Iterable, Sequence
 
 from pagelog.errors import PagelogError
+from pagelog.keeper.ways import NOWHERE, Way
 from pagelog.pages.table import lines_of
 
 _LENGTH = struct.Struct(">I")
@@ -40,6 +41,25 @@ class Where:
     connections: int
 
 
+@dataclass(frozen=True)
+class Serving:
+    """By TLS it shows the certificate of a file, with its key; with `clients` to those alone who have a certificate of these authorities for
+    the database. `is_only`: and there is no other way to it."""
+
+    file: Path
+    clients: Path | None = None
+    is_only: bool = False
+
+    def listen(self, host: str) -> str:
+        """Where it listens without TLS."""
+        return NOWHERE if self.is_only else f"{host}:0"
+
+    def options(self, host: str, identity: str) -> tuple[str, ...]:
+        """Of a page server of the database of this identity."""
+        wanted = () if self.clients is None else ("--clients", str(self.clients), "--identity", identity)
+        return ("--secure", f"{host}:0", "--tls", str(self.file), *wanted)
+
+
 class PagesProcess:
     """Starts it, tells it what to keep, and ends it. Not for several threads at once."""
 
@@ -50,11 +70,18 @@ class PagesProcess:
         assert self._process.stdin is not None and self._process.stdout is not None
         self._to, self._from = self._process.stdin, self._process.stdout
         try:
-            self.address = self._line("listening")
+            self.address, self.secure = self._addresses(*self._line("listening").split())
             self.where = self._read_where()
         except StoreFailed:
             self.kill()
             raise
+
+    def _addresses(self, address: str, secure: str | None = None) -> tuple[str, Way | None]:
+        """Where it listens, and the way to it by TLS."""
+        if secure is None:
+            return address, None
+        is_only = address == NOWHERE
+        return secure if is_only else address, Way(secure, is_only)
 
     @property
     def pid(self) -> int:
