@@ -26,7 +26,7 @@ from service import PATIENCE
 
 INDIA = "Asia/Kolkata"
 """A zone of +05:30, at all times."""
-_IN_BOTH = r"\d{4}-\d\d-\d\d \d\d:\d\d:\d\d\.\d{3}\+05:30 \(\d{4}-\d\d-\d\d \d\d:\d\d:\d\d\.\d{3} UTC\)"
+_IN_BOTH = r"\d{4}-\d\d-\d\d \d\d:\d\d:\d\d(?:\.\d{3})?\+05:30 \(\d{4}-\d\d-\d\d \d\d:\d\d:\d\d(?:\.\d{3})? UTC\)"
 
 
 class Words(Kept):
