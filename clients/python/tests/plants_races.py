@@ -20,6 +20,8 @@ PLANTS = {
     "orders, the images": Plant("../named", "            if self._lost_below(place) is not None:\n                return\n", "", "orders", "told_holds"),
     "orders, a run that continues": Plant("../named", "        elif fate.continues is None:\n", "        elif True:\n", "orders", "told_holds"),
     "upon, not held": Plant("c/pagelog_durable.c", "    if (outcome == PAGELOG_DONE) outcome = hold_before(file);\n", "", "upon", "writer_that_has_leapt"),
+    "sessions of another database": Plant("referee", 'usename = current_user "\n                      "AND datname = current_database()",',
+                                          'usename = current_user",', "referee", "of_another_database_there_keeps"),
     "a pack that was cut": Plant("../store/tables", "AND p.state = 0 AND i.range", "AND i.range", "store", "cut_meanwhile_is_no_damage"),
     "standbys, the only copy": Plant("standing", "            if not await self._shared.ask(self._shared.referee.lacks, database.row):  # else",
                                      "            if True:  # else", "beginnings", "has_lost_since_the_look"),

@@ -372,6 +372,13 @@ class Lines(Referees):
             thread.join()
             line.close()
 
+    def test_a_keeper_of_its_name_of_another_database_there_keeps_its_session(self) -> None:
+        with psycopg.connect(new_url(), application_name="pagelog keeper one") as another, self.assertRaises(Doubt):
+            self.new("two")._end_sessions("one")
+            self.assertEqual(another.execute("SELECT 7").fetchone(), (7,))
+            while True:
+                self.referee.look()
+
     def test_a_server_that_ends_a_session_amid_a_batch_may_have_committed_it(self) -> None:
         for severity, state in (("PANIC", "53100"), ("FATAL", "25P03"), ("ERROR", "40003")):
             kept, line = self.taken(f"run {state}"), Replying(severity, state)

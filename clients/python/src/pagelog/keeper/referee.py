@@ -405,8 +405,8 @@ class Referee:
     def _end_sessions(self, keeper: str | None) -> None:
         """Ends the sessions of a keeper that stands still with a row locked, as between the two last messages of a statement."""
         if keeper is not None and keeper != self.me:
-            self._ask("SELECT pg_terminate_backend(pid) FROM pg_stat_activity WHERE application_name = %s AND usename = current_user",
-                      (_session_name(keeper),))  # fmt: skip
+            self._ask("SELECT pg_terminate_backend(pid) FROM pg_stat_activity WHERE application_name = %s AND usename = current_user "
+                      "AND datname = current_database()", (_session_name(keeper),))  # fmt: skip
 
     def raise_numbers(self, database: str, highest: int, doubted: int) -> None:
         """PostgreSQL went back: the next generation gets a number above the highest, and those up to `doubted` may be of two runs."""
