@@ -384,6 +384,14 @@ class Silence(Folder):
             with self.assertRaisesRegex(psycopg.OperationalError, "PostgreSQL was silent for 0 s"):
                 session.rows("select 1")
 
+    def test_a_signal_that_comes_just_before_a_wait_is_heard_soon(self) -> None:
+        waits: list[float | None] = []
+        ready = archive_postgres.ready_by_poll
+        with mock.patch.object(archive_postgres, "ready_by_poll", lambda fileno, wanted, seconds: (waits.append(seconds), ready(fileno, wanted, seconds))[1]):
+            with engine_of(self.silent_url).session() as session:
+                session.rows("select 1")
+        self.assertTrue(waits and all(seconds is not None and seconds <= 1 for seconds in waits), waits)
+
     def test_q_ends_top(self) -> None:
         """With an archive that is silent, a service that hangs, and another key typed at once before it."""
         self.proxy.is_silent.set()

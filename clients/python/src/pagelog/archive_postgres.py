@@ -23,6 +23,8 @@ STATEMENT_SECONDS = 30.0
 """How long a statement may take, as PostgreSQL counts it."""
 WAIT_SECONDS = STATEMENT_SECONDS
 """The same as the one who waits counts it, where nothing comes."""
+_HEARD_SECONDS = 1.0
+"""How long a wait may go on after a signal that came just before it, which Python hears once the wait is over."""
 _OPTIONS = {
     "connect_timeout": CONNECT_SECONDS, "keepalives": 1, "keepalives_idle": 10, "keepalives_interval": 5, "keepalives_count": 3,
     "tcp_user_timeout": 20000, "application_name": "pagelog", "options": f"-c statement_timeout={int(STATEMENT_SECONDS * 1000)}",
@@ -40,10 +42,12 @@ class BoundConnection(psycopg.Connection[Row]):
         try:
             wanted = next(gen)
             while True:
-                ready = ready_by_poll(self.pgconn.socket, wanted, ends - time.monotonic())
-                if ready is None:
+                left = ends - time.monotonic()
+                ready = ready_by_poll(self.pgconn.socket, wanted, min(left, _HEARD_SECONDS))
+                if ready is not None:
+                    wanted = gen.send(ready)
+                elif left <= _HEARD_SECONDS:
                     raise psycopg.OperationalError(f"PostgreSQL was silent for {WAIT_SECONDS:.0f} s")
-                wanted = gen.send(ready)
         except StopIteration as end:
             result: _Result = end.value
             return result
