@@ -22,6 +22,7 @@ PLANTS = {
     "upon, not held": Plant("c/pagelog_durable.c", "    if (outcome == PAGELOG_DONE) outcome = hold_before(file);\n", "", "upon", "writer_that_has_leapt"),
     "sessions of another database": Plant("referee", 'usename = current_user "\n                      "AND datname = current_database()",',
                                           'usename = current_user",', "referee", "of_another_database_there_keeps"),
+    "moved by another": Plant("../store/mover", "            if self._has_gone_on(moved):\n", "            if False:\n", "store", "moved_meanwhile_is_not_missing"),
     "a pack that was cut": Plant("../store/tables", "AND p.state = 0 AND i.range", "AND i.range", "store", "cut_meanwhile_is_no_damage"),
     "standbys, the only copy": Plant("standing", "            if not await self._shared.ask(self._shared.referee.lacks, database.row):  # else",
                                      "            if True:  # else", "beginnings", "has_lost_since_the_look"),

@@ -775,6 +775,23 @@ class ImageDeaths(WithImages):
             self.check_images()
         self.assertEqual((self.here(), self.strays()), ([], set()))
 
+    def test_what_another_mover_has_moved_meanwhile_is_not_missing(self) -> None:
+        self.write(100)
+        self.move()
+        self.write(100)
+        mover, came = self.mover(), list[int]()
+        read = mover._read
+
+        def meanwhile(*arguments: Any) -> Any:
+            self.move()
+            came.extend(self.in_postgres())
+            return read(*arguments)
+
+        with patch.object(mover, "_read", side_effect=meanwhile) as called:
+            self.assertTrue(mover.step())
+        self.assertEqual((called.call_count, came), (1, []))
+        self.check()
+
     def test_a_mover_of_images_does_not_believe_what_it_holds_once_postgres_went_back(self) -> None:
         """Other images are made at the same position, while movers stand at each step."""
         self.write(100)

@@ -134,7 +134,12 @@ class Mover:
             return self._skip(moved, cut)
         if not is_due and (archived - moved) * self._each < self._settings.seal and archived - moved < BLOCKS:
             return False
-        run = self._read(moved + 1, archived, bytes(chain))
+        try:
+            run = self._read(moved + 1, archived, bytes(chain))
+        except BrokenArchive:
+            if self._has_gone_on(moved):
+                return True
+            raise
         self._each = run.size / len(run.lengths)
         if not is_due and not run.is_full:
             return False
@@ -149,6 +154,11 @@ class Mover:
         is_noted = self._note(segment, sealed)
         self._passing("sealed")
         return is_noted
+
+    def _has_gone_on(self, moved: int) -> bool:
+        """Whether another mover has moved what was to be read, and it was cut, or PostgreSQL went back."""
+        found = self._ask(tables.MOVED, age=self._settings.age)
+        return not found or found[0][1] != moved
 
     def _note(self, segment: Segment, sealed: Sealed) -> bool:
         """Whether it was sealed: else somebody was before, or PostgreSQL has other blocks by now."""
