@@ -13,8 +13,7 @@ from types import SimpleNamespace
 from typing import Any, Iterator, Sequence
 from unittest.mock import patch
 
-import pagelog
-from pagelog import ConnectionLost, InDoubt, Lost, NamedPrimary, OlderEpoch, PagelogError, Section
+from pagelog import ConnectionLost, InDoubt, Lost, NamedPrimary, OlderEpoch, Section
 from pagelog.block import Block
 from pagelog.keeper.table import KEEPER
 from pagelog.place import Fate, Place
