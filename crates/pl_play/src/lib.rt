@@ -16,7 +16,9 @@ mod start;
 mod text;
 
 pub use fault::PlayFault;
+pub use lines::{InputFault, take_line};
 pub use operator_words::{AdminFault, Credentials, admin};
 pub use player::play;
 pub use reply_text::answer_text;
 pub use start::{FileFault, StartFault, file_fault_of, read_text, start_db, start_play};
+pub use text::{HexFault, bytes_of_line};

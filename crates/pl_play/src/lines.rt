@@ -12,7 +12,7 @@ pub(crate) const LONGEST_LINE: usize = 131_072;
 
 /// Why no line was taken from the input.
 #[derive(Clone, Copy, Debug, PartialEq, Eq)]
-pub(crate) enum InputFault {
+pub enum InputFault {
     /// A read failed.
     Read,
     /// An allocation failed.
@@ -58,10 +58,7 @@ pub(crate) enum Piece {
 
 /// Takes the next line, without its line feed: `None` at the end of the input. Only a line feed
 /// ends a line, and the last line needs none. Never more than `LONGEST_LINE` bytes are held.
-pub(crate) fn take_line<R: BufRead>(
-    alloc: Global,
-    reader: &mut R,
-) -> Result<Option<Vec<u8>>, InputFault>
+pub fn take_line<R: BufRead>(alloc: Global, reader: &mut R) -> Result<Option<Vec<u8>>, InputFault>
     // The next line, without its line feed.
     ensures some { IfOk result (λ taken. IfSome taken (λ line.
         TakesLine (R.remaining reader.old) (R.remaining reader.new) line.items)) }

@@ -10,7 +10,7 @@ use std::alloc::{AllocError, Global};
 
 /// Why a line gives no body.
 #[derive(Clone, Copy, Debug, PartialEq, Eq)]
-pub(crate) enum HexFault {
+pub enum HexFault {
     /// An odd number of digits, or a byte that is not a digit.
     Text,
     /// An allocation failed.
@@ -31,8 +31,10 @@ impl HexFault {
 }
 
 /// The bytes that a line spells, two digits a byte, in either case.
-pub(crate) fn bytes_of_line(alloc: Global, line: &[u8]) -> Result<Vec<u8>, HexFault>
+pub fn bytes_of_line(alloc: Global, line: &[u8]) -> Result<Vec<u8>, HexFault>
+    // The bytes that the digits spell.
     ensures ok { IfOk result (λ body. decode_of line.now ≡ Ok body.items) }
+    // `Text` comes only if they spell none.
     ensures err { IfErr result (λ fault. fault ≡ HexFault.Text → IsErr (decode_of line.now)) }
 {
     match hex::decode(alloc, line) {

@@ -49,9 +49,9 @@ fn trail_of(alloc: Global, words: &[&str]) -> Result<Vec<Kept>, Stop> {
 
 fn push_finding(out: &mut String, finding: Finding) -> Result<(), Stop> {
     match finding {
-        Finding::Agrees { left_out } => {
+        Finding::Agrees { left_out, hard } => {
             push_word(out, "Agrees")?;
-            push_numbers(out, &[left_out])
+            push_numbers(out, &[left_out, hard])
         }
         Finding::Differs { line } => {
             push_word(out, "Differs")?;

@@ -1,0 +1,4 @@
+pub mod Items
+pub mod File
+pub mod Answer
+pub mod Texts
