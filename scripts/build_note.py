@@ -48,8 +48,20 @@ def kit_at_hand():
 def commit_of_sources():
     """The commit of the crates, and whether they were changed since."""
     try:
-        said = [subprocess.run(words, cwd=ROOT, check=True, stdout=subprocess.PIPE, stderr=subprocess.DEVNULL, text=True).stdout.strip()
-                for words in (["git", "rev-parse", "HEAD"], ["git", "status", "--porcelain", "crates", "crates.txt"])]
+        said = [
+            subprocess.run(
+                words,
+                cwd=ROOT,
+                check=True,
+                stdout=subprocess.PIPE,
+                stderr=subprocess.DEVNULL,
+                text=True,
+            ).stdout.strip()
+            for words in (
+                ["git", "rev-parse", "HEAD"],
+                ["git", "status", "--porcelain", "crates", "crates.txt"],
+            )
+        ]
     except (OSError, subprocess.CalledProcessError):
         return "unknown"
     return said[0] + (" with changes" if said[1] else "")
@@ -59,7 +71,9 @@ def write_note(program, is_proved, kit, commit):
     """Notes of this program that it was just built so, in place of what was noted before."""
     note = Note(sum_of(program), "yes" if is_proved else "no", kit or "unknown", commit)
     written = place(program).with_suffix(".new")
-    written.write_text("".join(f"{name}: {text}\n" for name, text in dataclasses.asdict(note).items()))
+    written.write_text(
+        "".join(f"{name}: {text}\n" for name, text in dataclasses.asdict(note).items())
+    )
     os.replace(written, place(program))
 
 

@@ -19,7 +19,9 @@ class Service:
     """A running service, by its words. Its first line says where it listens. It does not outlive the script."""
 
     def __init__(self, words, **how):
-        self.process = subprocess.Popen([str(word) for word in words], stdout=subprocess.PIPE, text=True, **how)
+        self.process = subprocess.Popen(
+            [str(word) for word in words], stdout=subprocess.PIPE, text=True, **how
+        )
         atexit.register(self.process.kill)
         word, _, address = self.process.stdout.readline().strip().partition(" ")
         same("the first word of its line", "listening", word)
@@ -66,8 +68,10 @@ def read_reply(client):
 def whole_frames(data):
     """The bodies of the whole frames that a bytearray begins with. They are taken out of it."""
     bodies, at = [], 0
-    while len(data) >= at + 4 and len(data) >= (end := at + 4 + struct.unpack_from(">I", data, at)[0]):
-        bodies.append(bytes(data[at + 4:end]))
+    while len(data) >= at + 4 and len(data) >= (
+        end := at + 4 + struct.unpack_from(">I", data, at)[0]
+    ):
+        bodies.append(bytes(data[at + 4 : end]))
         at = end
     del data[:at]
     return bodies

@@ -24,7 +24,7 @@ def bodies_of_rattle(text):
         while clause := CLAUSE.match(text, at) or GHOST.match(text, at):
             at = end_of(text, clause.end() - 1, "{", "}")
         at = text.index("{", at)
-        found["".join(owner) + function[1]] = plain(text[at:end_of(text, at, "{", "}")])
+        found["".join(owner) + function[1]] = plain(text[at : end_of(text, at, "{", "}")])
     for constant in re.finditer(r"^(?:pub\S* )?(const (\w+): .*?;)$", text, flags=re.M | re.S):
         found[constant[2]] = plain(constant[1])
     return found
@@ -36,7 +36,7 @@ def bodies_of_c(text):
     for function in re.finditer(r"^\w[\w\s*]*\b(\w+)\(", text, flags=re.M):
         at = end_of(text, function.end() - 1, "(", ")")
         if body := re.compile(r"\s*\{").match(text, at):
-            found[function[1]] = plain(text[at:end_of(text, body.end() - 1, "{", "}")])
+            found[function[1]] = plain(text[at : end_of(text, body.end() - 1, "{", "}")])
     return found
 
 
@@ -45,13 +45,13 @@ def bodies_of_python(source):
     lines, found = source.splitlines(keepends=True), {}
     for token in tokenize.generate_tokens(io.StringIO(source).readline):
         if token.type == tokenize.COMMENT:
-            lines[token.start[0] - 1] = lines[token.start[0] - 1][:token.start[1]] + "\n"
+            lines[token.start[0] - 1] = lines[token.start[0] - 1][: token.start[1]] + "\n"
     for node in ast.walk(ast.parse(source)):
         if isinstance(node, (ast.FunctionDef, ast.AsyncFunctionDef)):
             first = node.body[1 if ast.get_docstring(node) else 0]
-            found[node.name] = plain("".join(lines[first.lineno - 1:node.end_lineno]))
+            found[node.name] = plain("".join(lines[first.lineno - 1 : node.end_lineno]))
         elif isinstance(node, ast.Assign) and isinstance(node.targets[0], ast.Name):
-            found[node.targets[0].id] = plain("".join(lines[node.lineno - 1:node.end_lineno]))
+            found[node.targets[0].id] = plain("".join(lines[node.lineno - 1 : node.end_lineno]))
     return found
 
 

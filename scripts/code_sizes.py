@@ -8,7 +8,13 @@ FUNCTION_LINES, PARAMETERS, CLAUSES, FILE_LINES, CLAUSE_COLUMNS = 40, 6, 6, 400,
 # How many are larger than that. These numbers only fall: one that is higher than what there is has to be lowered.
 MOST = {"functions": 0, "parameters": 0, "clauses": 0, "files": 0, "wide clause lines": 0}
 # The same in the crates of rows, which are tests.
-MOST_OF_ROWS = {"functions of rows": 1, "parameters of rows": 6, "clauses of rows": 0, "files of rows": 2, "wide clause lines of rows": 2}
+MOST_OF_ROWS = {
+    "functions of rows": 1,
+    "parameters of rows": 6,
+    "clauses of rows": 0,
+    "files of rows": 2,
+    "wide clause lines of rows": 2,
+}
 
 
 def is_of_rows(place):
@@ -80,9 +86,11 @@ def measure_function(sizes, file, text, name, at):
     body, end = body_of_function(text, last)
     clauses = list(CLAUSE.finditer(text, last, body))
     place = f"{file}:{line_of(text, at)}"
-    for kind, what, count, most in (("functions", "lines", text.count("\n", at, end) + 1, FUNCTION_LINES),
-                                    ("parameters", "parameters", parameters_in(text[first + 1 : last - 1]), PARAMETERS),
-                                    ("clauses", "clauses", len(clauses), CLAUSES)):  # fmt: skip
+    for kind, what, count, most in (
+        ("functions", "lines", text.count("\n", at, end) + 1, FUNCTION_LINES),
+        ("parameters", "parameters", parameters_in(text[first + 1 : last - 1]), PARAMETERS),
+        ("clauses", "clauses", len(clauses), CLAUSES),
+    ):
         if count > most:
             sizes.note(kind, place, f"{name} has {count} {what}")
 
@@ -94,7 +102,11 @@ def measure_lines(sizes, file, text):
         close = end_of(text, said.end() - 1, "{", "}")
         for line in range(line_of(text, said.start()), line_of(text, close) + 1):
             if len(lines[line - 1].rstrip()) > CLAUSE_COLUMNS:
-                sizes.note("wide clause lines", f"{file}:{line}", f"{len(lines[line - 1].rstrip())} columns")
+                sizes.note(
+                    "wide clause lines",
+                    f"{file}:{line}",
+                    f"{len(lines[line - 1].rstrip())} columns",
+                )
 
 
 def sizes_of(crates):
@@ -102,7 +114,9 @@ def sizes_of(crates):
     sizes = Sizes()
     for crate in crates:
         is_test = is_of_rows(f"crates/{crate.name}/")
-        for file in sorted(set((crate / "src").rglob("*.rt")) - set(() if is_test else test_files(crate))):
+        for file in sorted(
+            set((crate / "src").rglob("*.rt")) - set(() if is_test else test_files(crate))
+        ):
             name, text = file.relative_to(ROOT), without_comments(file.read_text())
             text = text if is_test else without_tests(text)
             count = text.count("\n")

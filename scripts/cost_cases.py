@@ -86,12 +86,18 @@ def one_page(lsn):
 
 def imaged(lsn):
     """Page 0, each 256th time the whole of it."""
-    return wire.block(lsn, [(0, 0, bytes([lsn % 256]) * wire.PAGE_BYTES)]) if lsn % 256 == 0 else one_page(lsn)
+    return (
+        wire.block(lsn, [(0, 0, bytes([lsn % 256]) * wire.PAGE_BYTES)])
+        if lsn % 256 == 0
+        else one_page(lsn)
+    )
 
 
 def rare(lsn):
     """Partition 0, and each 500th time partition 9."""
-    return wire.block(lsn, [(9 * PAGES_OF_A_PARTITION, 0, b"rare")]) if lsn % 500 == 0 else small(lsn)
+    return (
+        wire.block(lsn, [(9 * PAGES_OF_A_PARTITION, 0, b"rare")]) if lsn % 500 == 0 else small(lsn)
+    )
 
 
 def scattered(lsn):
@@ -146,10 +152,16 @@ def two_hundred_rows(who, role, before=(), **end):
 
 START = tables.START.text
 OF_OTHERS = two_hundred_rows(5, PAGE_SERVER)
-OF_PRIMARY, OF_PRIMARY_ENDING = two_hundred_rows(2, PRIMARY), two_hundred_rows(2, PRIMARY, through=2 ** 40)
-OF_READER, OF_READER_ENDING = two_hundred_rows(3, SECONDARY), two_hundred_rows(3, SECONDARY, through=2 ** 40)
+OF_PRIMARY, OF_PRIMARY_ENDING = two_hundred_rows(2, PRIMARY), two_hundred_rows(
+    2, PRIMARY, through=2**40
+)
+OF_READER, OF_READER_ENDING = two_hundred_rows(3, SECONDARY), two_hundred_rows(
+    3, SECONDARY, through=2**40
+)
 # Its first row allows partition 0 up to LSN 500. Whether LSNs above that are allowed is up to the rows after it.
-OF_READER_AFTER_AN_END = two_hundred_rows(3, SECONDARY, [tables.allow(who=3, role=SECONDARY, lo=0, hi=0, through=500)])
+OF_READER_AFTER_AN_END = two_hundred_rows(
+    3, SECONDARY, [tables.allow(who=3, role=SECONDARY, lo=0, hi=0, through=500)]
+)
 
 
 class Scenario:
@@ -199,7 +211,7 @@ def failovers(size):
 
 def beyond_the_end(partition):
     """A pull that is decided by the rows of the table, and then denied: a key of its own for each partition."""
-    return pull(2 ** 40, partition, partition, most=1)
+    return pull(2**40, partition, partition, most=1)
 
 
 def to_copy(copy):
@@ -218,80 +230,245 @@ WRITES = [
     Scenario("write: a new block", hardened(small), writes()),
     Scenario("write: the same block to a second copy", after(small, then=writes()), writes(copy=1)),
     Scenario("write: a block that is in this copy already", after(small, then=writes()), writes()),
-    Scenario("write: a block of thirty-two thousand bytes", hardened(small), writes(
-        lambda lsn: wire.block(lsn, wire.puts_of(32_000, lsn % 256)))),
-    Scenario("write: a block of two thousand records", hardened(small), writes(
-        lambda lsn: wire.block(lsn, [(page, 0, b"x") for page in range(2000)]), count=8)),
-    Scenario("write: 200 rows of others before the one that allows", hardened(small), writes(), table=OF_OTHERS),
-    Scenario("write: 200 rows of its own before the one that allows", hardened(small), writes(), table=OF_PRIMARY),
-    Scenario("write: 200 rows that end at an LSN before the one that allows", hardened(small), writes(), table=OF_PRIMARY_ENDING),
-    Scenario("offer: a new block", hardened(small), lambda size: [offer(small(lsn)) for lsn in range(size + 1, size + 65)]),
-    Scenario("offer: a block that was written", after(small, then=writes()),
-             lambda size: [offer(small(lsn)) for lsn in range(size + 1, size + 65)]),
-    Scenario("report: of one block", after(small, then=lambda size: fresh(WINDOW, small, size + 1)), reports(1)),
-    Scenario("report: of sixteen blocks", after(small, then=lambda size: fresh(WINDOW, small, size + 1)), reports(16)),
+    Scenario(
+        "write: a block of thirty-two thousand bytes",
+        hardened(small),
+        writes(lambda lsn: wire.block(lsn, wire.puts_of(32_000, lsn % 256))),
+    ),
+    Scenario(
+        "write: a block of two thousand records",
+        hardened(small),
+        writes(lambda lsn: wire.block(lsn, [(page, 0, b"x") for page in range(2000)]), count=8),
+    ),
+    Scenario(
+        "write: 200 rows of others before the one that allows",
+        hardened(small),
+        writes(),
+        table=OF_OTHERS,
+    ),
+    Scenario(
+        "write: 200 rows of its own before the one that allows",
+        hardened(small),
+        writes(),
+        table=OF_PRIMARY,
+    ),
+    Scenario(
+        "write: 200 rows that end at an LSN before the one that allows",
+        hardened(small),
+        writes(),
+        table=OF_PRIMARY_ENDING,
+    ),
+    Scenario(
+        "offer: a new block",
+        hardened(small),
+        lambda size: [offer(small(lsn)) for lsn in range(size + 1, size + 65)],
+    ),
+    Scenario(
+        "offer: a block that was written",
+        after(small, then=writes()),
+        lambda size: [offer(small(lsn)) for lsn in range(size + 1, size + 65)],
+    ),
+    Scenario(
+        "report: of one block",
+        after(small, then=lambda size: fresh(WINDOW, small, size + 1)),
+        reports(1),
+    ),
+    Scenario(
+        "report: of sixteen blocks",
+        after(small, then=lambda size: fresh(WINDOW, small, size + 1)),
+        reports(16),
+    ),
 ]
 # A reply of `play` with a page has 16,384 digits, so the other gets are counted beyond this one.
-KEPT = Scenario("get: a page whose version is kept", after(small, then=lambda size: [get(3, size)]),
-                lambda size: [get(3, size)] * 100)
+KEPT = Scenario(
+    "get: a page whose version is kept",
+    after(small, then=lambda size: [get(3, size)]),
+    lambda size: [get(3, size)] * 100,
+)
 GETS = [
     KEPT,
-    Scenario("get: sixteen pages at the end, for the first time", hardened(small),
-             lambda size: [get(page, size) for page in range(16)], growth="linear", beyond=KEPT),
-    Scenario("get: the end of a page, after each block", after(one_page, then=lambda size: [get(0, 1), get(0, size)]), lambda size: [
-        it for lsn in range(size + 1, size + 65) for it in (*fresh(1, one_page, lsn), report(lsn), get(0, lsn))]),
-    Scenario("get: old LSNs of a page with images", after(imaged, then=lambda size: [get(0, size)]),
-             lambda _: [get(0, lsn) for lsn in range(256, 740, 13)], beyond=KEPT),
-    Scenario("get: a little above an image, far above an older version", lambda _: [*hardened(imaged)(1000), get(0, 1)],
-             lambda _: [get(0, lsn) for lsn in (261, 517, 773)], beyond=KEPT),
-    Scenario("get: old LSNs of a page without images", after(one_page, then=lambda size: [get(0, size)]),
-             lambda size: [get(0, lsn) for lsn in range(7, size, size // 20)], growth="linear", beyond=KEPT),
-    Scenario("get: a page that nothing changed", after(small, then=lambda size: [get(77, size)]),
-             lambda size: [get(1000 + it, size) for it in range(64)], beyond=KEPT),
-    Scenario("get: the first after many reports", hardened(small), lambda size: [get(60_000, size)], beyond=KEPT),
-    Scenario("get: 200 rows that end at an LSN before the one that allows", after(small, then=lambda size: [get(3, size)]),
-             lambda size: [get(3, size)] * 100, table=OF_READER_ENDING, beyond=KEPT),
+    Scenario(
+        "get: sixteen pages at the end, for the first time",
+        hardened(small),
+        lambda size: [get(page, size) for page in range(16)],
+        growth="linear",
+        beyond=KEPT,
+    ),
+    Scenario(
+        "get: the end of a page, after each block",
+        after(one_page, then=lambda size: [get(0, 1), get(0, size)]),
+        lambda size: [
+            it
+            for lsn in range(size + 1, size + 65)
+            for it in (*fresh(1, one_page, lsn), report(lsn), get(0, lsn))
+        ],
+    ),
+    Scenario(
+        "get: old LSNs of a page with images",
+        after(imaged, then=lambda size: [get(0, size)]),
+        lambda _: [get(0, lsn) for lsn in range(256, 740, 13)],
+        beyond=KEPT,
+    ),
+    Scenario(
+        "get: a little above an image, far above an older version",
+        lambda _: [*hardened(imaged)(1000), get(0, 1)],
+        lambda _: [get(0, lsn) for lsn in (261, 517, 773)],
+        beyond=KEPT,
+    ),
+    Scenario(
+        "get: old LSNs of a page without images",
+        after(one_page, then=lambda size: [get(0, size)]),
+        lambda size: [get(0, lsn) for lsn in range(7, size, size // 20)],
+        growth="linear",
+        beyond=KEPT,
+    ),
+    Scenario(
+        "get: a page that nothing changed",
+        after(small, then=lambda size: [get(77, size)]),
+        lambda size: [get(1000 + it, size) for it in range(64)],
+        beyond=KEPT,
+    ),
+    Scenario(
+        "get: the first after many reports",
+        hardened(small),
+        lambda size: [get(60_000, size)],
+        beyond=KEPT,
+    ),
+    Scenario(
+        "get: 200 rows that end at an LSN before the one that allows",
+        after(small, then=lambda size: [get(3, size)]),
+        lambda size: [get(3, size)] * 100,
+        table=OF_READER_ENDING,
+        beyond=KEPT,
+    ),
 ]
 PULLS = [
-    Scenario("pull: the newest sixteen blocks", hardened(small), lambda size: [pull(size - 15, *ALL)] * 100),
-    Scenario("pull: the oldest sixteen blocks", hardened(small), lambda size: [pull(1, *ALL)] * 100),
-    Scenario("pull: one block from the beginning", hardened(small), lambda size: [pull(1, *ALL, most=1)] * 100),
-    Scenario("pull: a row that ends before 200 others", lambda _: hardened(small)(1000), times(100, pull(1, 0, 0, most=1)),
-             table=OF_READER_AFTER_AN_END),
-    Scenario("pull: a partition that nothing touches", hardened(small), lambda size: [pull(1, 5, 5)] * 20, growth="logarithmic"),
-    Scenario("pull: a partition that few blocks touch", hardened(rare), lambda size: [pull(501, 9, 9, most=1)] * 20,
-             growth="logarithmic"),
-    Scenario("pull: a partition that no block touches among many", hardened(scattered), lambda size: [pull(1, 5000, 5000)] * 20,
-             growth="linear"),
-    Scenario("pull: a partition between two that each block touches", hardened(far_apart), lambda size: [pull(1, 9, 9)] * 20,
-             growth="linear"),
+    Scenario(
+        "pull: the newest sixteen blocks",
+        hardened(small),
+        lambda size: [pull(size - 15, *ALL)] * 100,
+    ),
+    Scenario(
+        "pull: the oldest sixteen blocks", hardened(small), lambda size: [pull(1, *ALL)] * 100
+    ),
+    Scenario(
+        "pull: one block from the beginning",
+        hardened(small),
+        lambda size: [pull(1, *ALL, most=1)] * 100,
+    ),
+    Scenario(
+        "pull: a row that ends before 200 others",
+        lambda _: hardened(small)(1000),
+        times(100, pull(1, 0, 0, most=1)),
+        table=OF_READER_AFTER_AN_END,
+    ),
+    Scenario(
+        "pull: a partition that nothing touches",
+        hardened(small),
+        lambda size: [pull(1, 5, 5)] * 20,
+        growth="logarithmic",
+    ),
+    Scenario(
+        "pull: a partition that few blocks touch",
+        hardened(rare),
+        lambda size: [pull(501, 9, 9, most=1)] * 20,
+        growth="logarithmic",
+    ),
+    Scenario(
+        "pull: a partition that no block touches among many",
+        hardened(scattered),
+        lambda size: [pull(1, 5000, 5000)] * 20,
+        growth="linear",
+    ),
+    Scenario(
+        "pull: a partition between two that each block touches",
+        hardened(far_apart),
+        lambda size: [pull(1, 9, 9)] * 20,
+        growth="linear",
+    ),
 ]
 OTHERS = [
     Scenario("status", hardened(small), times(500, operate(STATUS))),
-    Scenario("advance: by no step", hardened(small), times(100, ask(4, PAGE_SERVER, ADVANCE, wire.advance(0, 0)))),
-    Scenario("advance: by sixteen blocks", hardened(small), times(20, ask(4, PAGE_SERVER, ADVANCE, wire.advance(0, 16)))),
+    Scenario(
+        "advance: by no step",
+        hardened(small),
+        times(100, ask(4, PAGE_SERVER, ADVANCE, wire.advance(0, 0))),
+    ),
+    Scenario(
+        "advance: by sixteen blocks",
+        hardened(small),
+        times(20, ask(4, PAGE_SERVER, ADVANCE, wire.advance(0, 16))),
+    ),
     Scenario("failover: nothing above the end", hardened(small), failovers),
     Scenario("set_table: the start table", hardened(small), times(20, operate(SET_TABLE, START))),
-    Scenario("set_table: a table of 206 rows", hardened(small), times(5, operate(SET_TABLE, OF_READER))),
-    Scenario("audit: the newest line of a long list", hardened(small), lambda size: [operate(AUDIT, wire.audit(2 * size, 1))] * 100),
-    Scenario("audit: a thousand lines", hardened(small), lambda size: [operate(AUDIT, wire.audit(1, 1000))] * 10),
-    Scenario("tidy: nothing to do", after(small, then=lambda _: [operate(TIDY)] * 2), times(100, operate(TIDY))),
-    Scenario("tidy: 192 blocks of a hundred records", lambda _: hardened(hundred_records)(256), times(1, operate(TIDY))),
-    Scenario("denied: a wrong token", hardened(small), times(200, wire.head(3, SECONDARY, STATUS, key=bytes(16)))),
+    Scenario(
+        "set_table: a table of 206 rows", hardened(small), times(5, operate(SET_TABLE, OF_READER))
+    ),
+    Scenario(
+        "audit: the newest line of a long list",
+        hardened(small),
+        lambda size: [operate(AUDIT, wire.audit(2 * size, 1))] * 100,
+    ),
+    Scenario(
+        "audit: a thousand lines",
+        hardened(small),
+        lambda size: [operate(AUDIT, wire.audit(1, 1000))] * 10,
+    ),
+    Scenario(
+        "tidy: nothing to do",
+        after(small, then=lambda _: [operate(TIDY)] * 2),
+        times(100, operate(TIDY)),
+    ),
+    Scenario(
+        "tidy: 192 blocks of a hundred records",
+        lambda _: hardened(hundred_records)(256),
+        times(1, operate(TIDY)),
+    ),
+    Scenario(
+        "denied: a wrong token",
+        hardened(small),
+        times(200, wire.head(3, SECONDARY, STATUS, key=bytes(16))),
+    ),
     Scenario("denied: another epoch", hardened(small), times(200, operate(STATUS, epoch=7))),
-    Scenario("decided: one key again and again under 206 rows", hardened(small), times(200, beyond_the_end(3)), table=OF_READER),
-    Scenario("decided: 1,200 keys in turn under 206 rows", hardened(small), lambda _: [beyond_the_end(at) for at in range(1200)],
-             table=OF_READER),
-    Scenario("decided: the last of 1,200 keys again", lambda _: [beyond_the_end(at) for at in range(1200)],
-             times(200, beyond_the_end(1199)), table=OF_READER),
-    Scenario("decided: one key between 900 others, three times", nothing,
-             lambda _: [it for at in range(900) for it in (beyond_the_end(5000), beyond_the_end(at))] * 3, table=OF_READER),
-    Scenario("decided: keys that were used last, after others came", lambda _: [
-        beyond_the_end(at) for at in (*AGAIN, *range(2000, 2960), *AGAIN, *range(3000, 3064))],
-             lambda _: [beyond_the_end(at) for at in AGAIN], table=OF_READER),
+    Scenario(
+        "decided: one key again and again under 206 rows",
+        hardened(small),
+        times(200, beyond_the_end(3)),
+        table=OF_READER,
+    ),
+    Scenario(
+        "decided: 1,200 keys in turn under 206 rows",
+        hardened(small),
+        lambda _: [beyond_the_end(at) for at in range(1200)],
+        table=OF_READER,
+    ),
+    Scenario(
+        "decided: the last of 1,200 keys again",
+        lambda _: [beyond_the_end(at) for at in range(1200)],
+        times(200, beyond_the_end(1199)),
+        table=OF_READER,
+    ),
+    Scenario(
+        "decided: one key between 900 others, three times",
+        nothing,
+        lambda _: [it for at in range(900) for it in (beyond_the_end(5000), beyond_the_end(at))]
+        * 3,
+        table=OF_READER,
+    ),
+    Scenario(
+        "decided: keys that were used last, after others came",
+        lambda _: [
+            beyond_the_end(at) for at in (*AGAIN, *range(2000, 2960), *AGAIN, *range(3000, 3064))
+        ],
+        lambda _: [beyond_the_end(at) for at in AGAIN],
+        table=OF_READER,
+    ),
     Scenario("a body that is no request", hardened(small), times(500, b"\0\0")),
-    Scenario("a block that announces 65,535 records", hardened(small), times(200, write(
-        0, wire.number(1, 8) + wire.number(0, 2) + wire.number(65535, 2)))),
+    Scenario(
+        "a block that announces 65,535 records",
+        hardened(small),
+        times(200, write(0, wire.number(1, 8) + wire.number(0, 2) + wire.number(65535, 2))),
+    ),
 ]
 
 
@@ -301,26 +478,75 @@ def announcing(_):
 
 
 ROOMS = [
-    Room("memory: a program and its database without a block", announcing, lambda _: 1, before=nothing),
+    Room(
+        "memory: a program and its database without a block",
+        announcing,
+        lambda _: 1,
+        before=nothing,
+    ),
     Room("memory: a small block, hardened", hardened(small), lambda size: size),
-    Room("memory: a block of eight thousand bytes, hardened", lambda size: hardened(eight_thousand)(size // 10),
-         lambda size: size // 10),
-    Room("memory: a block of another partition each, hardened", hardened(scattered), lambda size: size),
-    Room("memory: a block that was offered too, hardened", lambda size: [
-        it for lsn in range(1, size // 4 + 1) for it in (offer(eight_thousand(lsn)), *fresh(1, eight_thousand, lsn), report(lsn))],
-         lambda size: size // 4),
-    Room("memory: a block that is offered, then written", in_turn(offer, to_copy(0)), lambda _: WINDOW),
-    Room("memory: a block that is written, then offered", in_turn(to_copy(0), offer), lambda _: WINDOW),
-    Room("memory: a block of eight thousand bytes, hardened and pulled", lambda size: [
-        *log_of(eight_thousand, 1, size // 10 + 400), *(pull(lsn, *ALL, most=1) for lsn in range(1, size // 10))],
-         lambda size: size // 10 + 400),
-    Room("memory: an entry of the audit list", lambda size: [operate(STATUS)] * 4 * size, lambda size: 4 * size),
-    Room("memory: a version of a page", lambda size: [get(at, size) for at in range(size // 10)], lambda size: size // 10,
-         before=hardened(small)),
-    Room("addresses: a program and its database without a block", times(1, operate(STATUS)), lambda _: 1, before=nothing,
-         of="VmData"),
-    Room("addresses: a program that was announced 65,535 records", times(3, *announcing(0)), lambda _: 1, before=nothing,
-         of="VmData"),
+    Room(
+        "memory: a block of eight thousand bytes, hardened",
+        lambda size: hardened(eight_thousand)(size // 10),
+        lambda size: size // 10,
+    ),
+    Room(
+        "memory: a block of another partition each, hardened",
+        hardened(scattered),
+        lambda size: size,
+    ),
+    Room(
+        "memory: a block that was offered too, hardened",
+        lambda size: [
+            it
+            for lsn in range(1, size // 4 + 1)
+            for it in (offer(eight_thousand(lsn)), *fresh(1, eight_thousand, lsn), report(lsn))
+        ],
+        lambda size: size // 4,
+    ),
+    Room(
+        "memory: a block that is offered, then written",
+        in_turn(offer, to_copy(0)),
+        lambda _: WINDOW,
+    ),
+    Room(
+        "memory: a block that is written, then offered",
+        in_turn(to_copy(0), offer),
+        lambda _: WINDOW,
+    ),
+    Room(
+        "memory: a block of eight thousand bytes, hardened and pulled",
+        lambda size: [
+            *log_of(eight_thousand, 1, size // 10 + 400),
+            *(pull(lsn, *ALL, most=1) for lsn in range(1, size // 10)),
+        ],
+        lambda size: size // 10 + 400,
+    ),
+    Room(
+        "memory: an entry of the audit list",
+        lambda size: [operate(STATUS)] * 4 * size,
+        lambda size: 4 * size,
+    ),
+    Room(
+        "memory: a version of a page",
+        lambda size: [get(at, size) for at in range(size // 10)],
+        lambda size: size // 10,
+        before=hardened(small),
+    ),
+    Room(
+        "addresses: a program and its database without a block",
+        times(1, operate(STATUS)),
+        lambda _: 1,
+        before=nothing,
+        of="VmData",
+    ),
+    Room(
+        "addresses: a program that was announced 65,535 records",
+        times(3, *announcing(0)),
+        lambda _: 1,
+        before=nothing,
+        of="VmData",
+    ),
     Room("addresses: a small block, hardened", hardened(small), lambda size: size, of="VmData"),
 ]
 SCENARIOS = WRITES + GETS + PULLS + OTHERS + ROOMS

@@ -119,7 +119,7 @@ def without_tests(text):
     """The text up to and without what is compiled for tests alone."""
     for found in reversed(list(re.finditer(r"#\[cfg\(test\)\]\s*(?:pub )?mod \w+\s*\{", text))):
         end = end_of(text, found.end() - 1, "{", "}")
-        text = text[: found.start()] + re.sub(r"[^\n]", " ", text[found.start():end]) + text[end:]
+        text = text[: found.start()] + re.sub(r"[^\n]", " ", text[found.start() : end]) + text[end:]
     return text
 
 
@@ -153,21 +153,29 @@ def functions_of(crate):
             result = re.sub(r"\[[^\[\]]*\]", blank, text[at:])
             start = re.search(r"\b(?:requires|ensures|ghost)\b|[{;]", result)
             clauses = clauses_at(source, text, at + start.start()) if start else []
-            functions.append(Function(file.relative_to(crate), owner, found.group(2), is_public, clauses))
+            functions.append(
+                Function(file.relative_to(crate), owner, found.group(2), is_public, clauses)
+            )
     return functions
 
 
 @functools.lru_cache(maxsize=None)
 def traits_in(crate):
     """The names of the crate's public traits."""
-    return {trait for file in (crate / "src").rglob("*.rt") for trait, _, _ in traits_of(without_comments(file.read_text()))}
+    return {
+        trait
+        for file in (crate / "src").rglob("*.rt")
+        for trait, _, _ in traits_of(without_comments(file.read_text()))
+    }
 
 
 @functools.lru_cache(maxsize=None)
 def impls_with_words(crate):
     """The crate's impls of public traits, its own and those of crates below, whose parts have words: the name, and the parts as clauses."""
     files = sorted(set((crate / "src").rglob("*.rt")) - set(test_files(crate)))
-    texts = [(file.read_text(), without_tests(without_comments(file.read_text()))) for file in files]
+    texts = [
+        (file.read_text(), without_tests(without_comments(file.read_text()))) for file in files
+    ]
     public = {trait for each in crate.parent.iterdir() for trait in traits_in(each)}
     found = []
     for source, text in texts:
@@ -182,7 +190,9 @@ def impls_with_words(crate):
     return found
 
 
-CLOSURE = re.compile(r"\|[^|\n]*\|[^\n{]*\n(?:[ \t]*(?:requires|ensures)\b.*\n(?:(?![ \t]*(?:requires|ensures|\{)).*\n)*)+")
+CLOSURE = re.compile(
+    r"\|[^|\n]*\|[^\n{]*\n(?:[ \t]*(?:requires|ensures)\b.*\n(?:(?![ \t]*(?:requires|ensures|\{)).*\n)*)+"
+)
 
 
 def count_of_clauses(crate):
@@ -213,14 +223,18 @@ class Source:
             for f in functions_of(crate):
                 self.functions.setdefault(f.name, []).append(f)
             self.words.update(edits_of(crate))
-            for file in list((crate / "src").rglob("*.rt")) + list((crate / "specs").rglob("*.antt")):
+            for file in list((crate / "src").rglob("*.rt")) + list(
+                (crate / "specs").rglob("*.antt")
+            ):
                 text = file.read_text()
                 self.tests.update(re.findall(r"\bfn (\w+)", text))
                 code = re.sub(r"^\s*(?://|--).*", "", text, flags=re.M)
                 self.words.update(re.findall(r"\w+", code))
                 self.words.add(file.stem)
             self.words.add(crate.name)
-        clients = [file for file in (ROOT / "clients").rglob("*") if file.suffix in (".c", ".h", ".py")]
+        clients = [
+            file for file in (ROOT / "clients").rglob("*") if file.suffix in (".c", ".h", ".py")
+        ]
         for file in [*(ROOT / "scripts").glob("*"), *clients]:
             if file.is_file() and file.name != "pages":
                 self.words.update(re.findall(r"\w+", file.read_text()))
@@ -229,4 +243,8 @@ class Source:
         """The functions that a name such as `Db::step` may mean."""
         parts = name.split("::")
         found = self.functions.get(parts[-1], [])
-        return [f for f in found if len(parts) == 1 or not parts[-2][:1].isupper() or f.owner == parts[-2]]
+        return [
+            f
+            for f in found
+            if len(parts) == 1 or not parts[-2][:1].isupper() or f.owner == parts[-2]
+        ]

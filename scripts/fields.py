@@ -8,10 +8,32 @@ import wire
 from model import OPS, ROLES, Malformed, Reader, read_block, read_request
 from wire import frame, number
 
-REPLIES = ["done", "blocks", "page", "entries", "status", "denied", "no_memory", "audit_full", "spent", "no_database",
-           "malformed"]
-LINE = {"number": 8, "pass": 8, "principal": 4, "role": 1, "epoch": 4, "op": 1, "a": 8, "b": 8, "section": 1, "row": 2,
-        "value": 8}
+REPLIES = [
+    "done",
+    "blocks",
+    "page",
+    "entries",
+    "status",
+    "denied",
+    "no_memory",
+    "audit_full",
+    "spent",
+    "no_database",
+    "malformed",
+]
+LINE = {
+    "number": 8,
+    "pass": 8,
+    "principal": 4,
+    "role": 1,
+    "epoch": 4,
+    "op": 1,
+    "a": 8,
+    "b": 8,
+    "section": 1,
+    "row": 2,
+    "value": 8,
+}
 STATUS = {"epoch": 4, "primary": 4, "hard": 8, "pending": 8, "landing": 8}
 DENIED = {"section": 1, "row": 2, "value": 8}
 WORDS = {"role": ROLES, "op": OPS}
@@ -30,7 +52,11 @@ def block_bytes(fields):
     records = []
     for record in fields["records"]:
         is_put = record["kind"] == "put"
-        records.append((record["page"], record["offset"], bytes.fromhex(record["bytes"])) if is_put else (record["page"],))
+        records.append(
+            (record["page"], record["offset"], bytes.fromhex(record["bytes"]))
+            if is_put
+            else (record["page"],)
+        )
     return wire.block(fields["lsn"], records)
 
 
@@ -46,8 +72,14 @@ def block_fields(data):
 # Requests. The fields of an operation after those of the head, in the order of the wire; the others have none.
 
 ARGUMENTS = {
-    "write": ("copy", "block"), "offer": ("block",), "report": ("lsn",), "get": ("page", "lsn", "exact"),
-    "pull": ("lo", "hi", "lsn", "max"), "advance": ("partition", "steps"), "failover": ("primary",), "set_table": ("text",),
+    "write": ("copy", "block"),
+    "offer": ("block",),
+    "report": ("lsn",),
+    "get": ("page", "lsn", "exact"),
+    "pull": ("lo", "hi", "lsn", "max"),
+    "advance": ("partition", "steps"),
+    "failover": ("primary",),
+    "set_table": ("text",),
     "audit": ("first", "max"),
 }
 
@@ -56,19 +88,33 @@ def request_bytes(fields):
     op = numbered(OPS, fields["op"])
     arguments = [fields[name] for name in ARGUMENTS.get(fields["op"], ())]
     arguments = [bytes.fromhex(part) if isinstance(part, str) else part for part in arguments]
-    head = wire.head(fields["principal"], numbered(ROLES, fields["role"]), op, fields["epoch"], fields["database"],
-                     bytes.fromhex(fields["token"]))
+    head = wire.head(
+        fields["principal"],
+        numbered(ROLES, fields["role"]),
+        op,
+        fields["epoch"],
+        fields["database"],
+        bytes.fromhex(fields["token"]),
+    )
     return head + (b"" if op in wire.WITHOUT_ARGUMENTS else wire.WRITERS[op](*arguments))
 
 
 def request_fields(data):
     q = read_request(data)
     op = OPS[q["op"]]
-    fields = {"principal": q["who"], "token": q["token"].hex(), "role": ROLES[q["role"]], "database": q["database"],
-              "epoch": q["epoch"], "op": op}
+    fields = {
+        "principal": q["who"],
+        "token": q["token"].hex(),
+        "role": ROLES[q["role"]],
+        "database": q["database"],
+        "epoch": q["epoch"],
+        "op": op,
+    }
     for name in ARGUMENTS.get(op, ()):
         part = q["most" if name == "max" else name]
-        fields[name] = part.spelled.hex() if name == "block" else part.hex() if name == "text" else part
+        fields[name] = (
+            part.spelled.hex() if name == "block" else part.hex() if name == "text" else part
+        )
     return fields
 
 
@@ -76,12 +122,17 @@ def request_fields(data):
 
 
 def packed(sizes, fields):
-    return b"".join(number(numbered(WORDS[name], fields[name]) if name in WORDS else fields[name], size)
-                    for name, size in sizes.items())
+    return b"".join(
+        number(numbered(WORDS[name], fields[name]) if name in WORDS else fields[name], size)
+        for name, size in sizes.items()
+    )
 
 
 def unpacked(sizes, reader):
-    return {name: WORDS[name][reader.number(size)] if name in WORDS else reader.number(size) for name, size in sizes.items()}
+    return {
+        name: WORDS[name][reader.number(size)] if name in WORDS else reader.number(size)
+        for name, size in sizes.items()
+    }
 
 
 def reply_bytes(fields):
@@ -89,11 +140,17 @@ def reply_bytes(fields):
     out = bytes([REPLIES.index(kind)])
     if kind == "blocks":
         blocks = [bytes.fromhex(block) for block in fields["blocks"]]
-        return out + number(fields["next"], 8) + number(len(blocks), 2) + b"".join(map(frame, blocks))
+        return (
+            out + number(fields["next"], 8) + number(len(blocks), 2) + b"".join(map(frame, blocks))
+        )
     if kind == "page":
         return out + number(fields["at"], 8) + bytes.fromhex(fields["bytes"])
     if kind == "entries":
-        return out + number(len(fields["entries"]), 2) + b"".join(packed(LINE, line) for line in fields["entries"])
+        return (
+            out
+            + number(len(fields["entries"]), 2)
+            + b"".join(packed(LINE, line) for line in fields["entries"])
+        )
     if kind in ("status", "denied"):
         return out + packed(STATUS if kind == "status" else DENIED, fields)
     return out + (number(fields["code"], 1) if kind == "malformed" else b"")
@@ -109,7 +166,10 @@ def reply_fields(data):
     fields = {"reply": REPLIES[kind]}
     if kind == 1:
         fields["next"] = reader.number(8)
-        fields["blocks"] = [read_block(reader.take(reader.number(4))).spelled.hex() for _ in range(count(reader, MOST_BLOCKS))]
+        fields["blocks"] = [
+            read_block(reader.take(reader.number(4))).spelled.hex()
+            for _ in range(count(reader, MOST_BLOCKS))
+        ]
     elif kind == 2:
         fields.update(at=reader.number(8), bytes=reader.take(wire.PAGE_BYTES).hex())
     elif kind == 3:
@@ -146,4 +206,9 @@ def frame_fields(data):
 
 
 WRITE = {"block": block_bytes, "request": request_bytes, "reply": reply_bytes, "frame": frame_bytes}
-READ = {"block": block_fields, "request": request_fields, "reply": reply_fields, "frame": frame_fields}
+READ = {
+    "block": block_fields,
+    "request": request_fields,
+    "reply": reply_fields,
+    "frame": frame_fields,
+}

@@ -8,8 +8,19 @@ import threading
 
 import wire
 from clients import PATIENCE, asked, read_reply, same
-from hostile_service import (DENIED_A1, DONE, EMPTY, NO_REQUEST, STATUS, WRITE, Serve, at_most, grows, sent_and_closed,
-                             until)
+from hostile_service import (
+    DENIED_A1,
+    DONE,
+    EMPTY,
+    NO_REQUEST,
+    STATUS,
+    WRITE,
+    Serve,
+    at_most,
+    grows,
+    sent_and_closed,
+    until,
+)
 from wire import frame
 
 # How many replies a flood may get while another client waits for one. Sockets hold some hundred thousand of them, and on a busy
@@ -44,8 +55,12 @@ def lengths():
     most = bytes(20) + b"\1" + bytes(8) + b"\7" + bytes(65536 - 30)
     same("length 65,536", [b"\x0a\x05"], sent_and_closed(service, frame(most)))
     same("length 65,536, cut", [], sent_and_closed(service, frame(most)[:-1]))
-    for length in (65537, 2 ** 32 - 1):
-        same(f"length {length}", [DONE], sent_and_closed(service, frame(WRITE) + wire.number(length, 4) + most))
+    for length in (65537, 2**32 - 1):
+        same(
+            f"length {length}",
+            [DONE],
+            sent_and_closed(service, frame(WRITE) + wire.number(length, 4) + most),
+        )
         same("the honest client's", EMPTY, asked(honest, STATUS))
     honest.close()
     service.ends(6, 3)
@@ -74,7 +89,10 @@ def random_bytes(count):
 def closes_its_side():
     """A client that sends 1,000 requests and closes its sending side before it reads: it gets all replies, short and long ones."""
     service = Serve(2, 1)
-    for what, body, size, count in (("statuses", STATUS, len(EMPTY), 1000), ("pages", GET, wire.PAGE_BYTES + 9, 500)):
+    for what, body, size, count in (
+        ("statuses", STATUS, len(EMPTY), 1000),
+        ("pages", GET, wire.PAGE_BYTES + 9, 500),
+    ):
         replies = sent_and_closed(service, frame(body) * count)
         same(what, {size: count}, collections.Counter(map(len, replies)))
     service.ends(2, 0)
@@ -134,7 +152,10 @@ class Flood:
     def __init__(self, client, body, reply):
         self.client, self.request, self.reply = client, frame(body), frame(reply)
         self.sent, self.taken, self.is_over, self.faults = 0, 0, threading.Event(), []
-        self.threads = [threading.Thread(target=self.tries, args=(work,), daemon=True) for work in (self.sends, self.takes)]
+        self.threads = [
+            threading.Thread(target=self.tries, args=(work,), daemon=True)
+            for work in (self.sends, self.takes)
+        ]
         for thread in self.threads:
             thread.start()
 
@@ -158,8 +179,10 @@ class Flood:
         """Each reply is the same; of the last one there may be a beginning."""
         many, begun = self.reply * self.lot, 0
         while part := self.client.recv(len(many) - len(self.reply)):
-            if part != many[begun:begun + len(part)]:
-                self.faults.append(f"a flood: reply {self.taken + 1} or one after it is another one")
+            if part != many[begun : begun + len(part)]:
+                self.faults.append(
+                    f"a flood: reply {self.taken + 1} or one after it is another one"
+                )
                 return self.is_over.set()
             whole, begun = divmod(begun + len(part), len(self.reply))
             self.taken += whole
@@ -183,7 +206,11 @@ def asked_in_flood(honest, flooding):
     while not select.select([honest], [], [], 0.1)[0]:
         if flooding.faults:
             raise SystemExit(flooding.faults[0])
-        at_most("replies to a flood while the honest client waits", MOST_REPLIES, flooding.taken - before)
+        at_most(
+            "replies to a flood while the honest client waits",
+            MOST_REPLIES,
+            flooding.taken - before,
+        )
     same("the honest client's", EMPTY, read_reply(honest))
     return flooding.taken - before
 
@@ -206,7 +233,11 @@ class PageFlood(Flood):
 
     def __init__(self, client):
         self.runs, self.moved = {}, threading.Event()
-        super().__init__(client, wire.head(3, wire.SECONDARY, wire.GET) + wire.get(0, 0, 0), bytes(wire.PAGE_BYTES + 9))
+        super().__init__(
+            client,
+            wire.head(3, wire.SECONDARY, wire.GET) + wire.get(0, 0, 0),
+            bytes(wire.PAGE_BYTES + 9),
+        )
 
     def may_send(self):
         """Whether it goes on, once the service has no more to answer than what it reads three times. It ends before the audit list
@@ -222,7 +253,7 @@ class PageFlood(Flood):
             data += part
             whole = len(data) - len(data) % size
             for at in range(0, whole, size):
-                found = int.from_bytes(data[at + 5:at + 13], "big")
+                found = int.from_bytes(data[at + 5 : at + 13], "big")
                 if found != lsn:
                     self.runs[lsn] = run
                     lsn, run = found, 0
@@ -266,5 +297,9 @@ def flood_of_pages(count):
     replies, most = flooding.stops(), max(runs)
     honest.close()
     service.ends(2, 0)
-    at_most("replies to a flood of gets between two turns of the honest client", 4 * PAGES_OF_A_ROUND, most)
+    at_most(
+        "replies to a flood of gets between two turns of the honest client",
+        4 * PAGES_OF_A_ROUND,
+        most,
+    )
     return f"{replies:,} replies to it, {most} at most between two turns of the honest client"

@@ -11,7 +11,19 @@ import tempfile
 
 from clients import asked, read_reply, same
 from hostile_limits import with_descriptors
-from hostile_service import EMPTY, NO_REQUEST, ROOT, SPINNING, STATUS, Serve, at_most, grows, is_asleep, until, used
+from hostile_service import (
+    EMPTY,
+    NO_REQUEST,
+    ROOT,
+    SPINNING,
+    STATUS,
+    Serve,
+    at_most,
+    grows,
+    is_asleep,
+    until,
+    used,
+)
 from wire import frame
 
 # How many KiB more a service may hold with the parts of a second hundred connections than with those of a first, which are silent
@@ -124,7 +136,7 @@ def processors():
     allowed = sorted(os.sched_getaffinity(0))
     with contextlib.suppress(OSError, ValueError):
         time, period = pathlib.Path("/sys/fs/cgroup/cpu.max").read_text().split()
-        return allowed[:max(1, int(time) // int(period))]
+        return allowed[: max(1, int(time) // int(period))]
     return allowed
 
 
@@ -147,12 +159,25 @@ def default_polls():
     own = processors()
     with tempfile.TemporaryDirectory() as folder:
         counter = pathlib.Path(folder) / "count_polls.so"
-        subprocess.run(["gcc", "-O2", "-shared", "-fPIC", "-o", counter, ROOT / "scripts" / "count_polls.c"], check=True)
+        subprocess.run(
+            ["gcc", "-O2", "-shared", "-fPIC", "-o", counter, ROOT / "scripts" / "count_polls.c"],
+            check=True,
+        )
         for count in range(1, min(len(own), PROCESSORS) + 1):
             allowed = own[:count]
             found = polls_of(counter, allowed, [])
-            same(f"whether it polls awake with {count} processors", count >= PROCESSORS, found >= DEFAULT_POLLS)
-            same(f"whether it sleeps at once with {count} processors", count < PROCESSORS, found == 0)
-            same("whether it polls awake if that is said", True, polls_of(counter, allowed, ["--idle-polls", 40]) >= 40)
+            same(
+                f"whether it polls awake with {count} processors",
+                count >= PROCESSORS,
+                found >= DEFAULT_POLLS,
+            )
+            same(
+                f"whether it sleeps at once with {count} processors", count < PROCESSORS, found == 0
+            )
+            same(
+                "whether it polls awake if that is said",
+                True,
+                polls_of(counter, allowed, ["--idle-polls", 40]) >= 40,
+            )
             same("how often if none is said", 0, polls_of(counter, allowed, ["--idle-polls", 0]))
     return f"with 1 to {min(len(own), PROCESSORS)} processors"

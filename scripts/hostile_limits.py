@@ -12,8 +12,25 @@ from collections import Counter
 
 import wire
 from clients import asked, read_reply, same
-from hostile_service import (DONE, EMPTY, NO_MEMORY, NO_REQUEST, PROGRAM, SPINNING, STATUS, TABLE, WRITE, Serve, answered,
-                             asked_beside, at_most, grows, has_sanitizer, sleeps, until)
+from hostile_service import (
+    DONE,
+    EMPTY,
+    NO_MEMORY,
+    NO_REQUEST,
+    PROGRAM,
+    SPINNING,
+    STATUS,
+    TABLE,
+    WRITE,
+    Serve,
+    answered,
+    asked_beside,
+    at_most,
+    grows,
+    has_sanitizer,
+    sleeps,
+    until,
+)
 from wire import frame
 
 # The address space of a service that is to run out of memory.
@@ -67,7 +84,9 @@ def with_descriptors(count):
         try:
             resource.setrlimit(resource.RLIMIT_NOFILE, (count, max(hard, count)))
         except ValueError:
-            raise SystemExit(f"hostile: it needs {count} open files; run: ulimit -n {count}") from None
+            raise SystemExit(
+                f"hostile: it needs {count} open files; run: ulimit -n {count}"
+            ) from None
 
 
 def sets_limit(what, count):
@@ -83,7 +102,10 @@ def workers_of(service, clients):
         for _ in range(5):
             before = {thread: sleeps(thread) for thread in service.threads()}
             same("a connection of a worker", EMPTY, asked(client, STATUS))
-            until("a worker that sleeps again", lambda: any(sleeps(thread) > count for thread, count in before.items()))
+            until(
+                "a worker that sleeps again",
+                lambda: any(sleeps(thread) > count for thread, count in before.items()),
+            )
             woken.update(thread for thread, count in before.items() if sleeps(thread) > count)
         found.add(woken.most_common(1)[0][0])
     return sorted(found)
@@ -132,7 +154,11 @@ def shared_out(closing, faults):
     new = [service.connect() for _ in range(3)]
     for client in new:
         same("a new connection", EMPTY, asked(client, STATUS))
-    same("new connections of the second worker, after three that ended", workers_of(service, others[:1]), workers_of(service, new))
+    same(
+        "new connections of the second worker, after three that ended",
+        workers_of(service, others[:1]),
+        workers_of(service, new),
+    )
     for client in clients + new:
         client.close()
     service.ends(11, faults)
@@ -148,7 +174,9 @@ def more_than_descriptors():
     """More connections at once than the service may have open files, twice: those that it cannot accept yet wait, and not long. It
     rests meanwhile."""
     few, many = 40, 60
-    service = Serve(2 * many + 1, 4, stderr=subprocess.PIPE, **sets_limit(resource.RLIMIT_NOFILE, few))
+    service = Serve(
+        2 * many + 1, 4, stderr=subprocess.PIPE, **sets_limit(resource.RLIMIT_NOFILE, few)
+    )
     honest = service.connect()
     same("the first one", EMPTY, asked(honest, STATUS))
     spent = []
@@ -157,12 +185,20 @@ def more_than_descriptors():
         until("a full table of files", lambda: service.descriptors() >= few - 1)
         spent.append(service.spends())
         for client in clients:
-            same("one of more than it has descriptors for", EMPTY, asked_beside("one of those that wait", honest, client, STATUS))
+            same(
+                "one of more than it has descriptors for",
+                EMPTY,
+                asked_beside("one of those that wait", honest, client, STATUS),
+            )
             client.close()
     at_most("processor seconds with a full table of files", SPINNING / 5, max(spent))
     honest.close()
     service.ends(2 * many + 1, 0)
-    same("reported once", "accept: Too many open files (os error 24)\n", service.process.stderr.read())
+    same(
+        "reported once",
+        "accept: Too many open files (os error 24)\n",
+        service.process.stderr.read(),
+    )
     return f"{max(spent):.2f} processor seconds while another process used {SPINNING}"
 
 
@@ -170,10 +206,14 @@ def few_descriptors(asked_for):
     """A low limit of open files: fewer workers start, which is reported, and each client is answered."""
     started = []
     for limit in (40, 41, 42, 64, 130, 132):
-        service = Serve(3, asked_for, stderr=subprocess.PIPE, **sets_limit(resource.RLIMIT_NOFILE, limit))
+        service = Serve(
+            3, asked_for, stderr=subprocess.PIPE, **sets_limit(resource.RLIMIT_NOFILE, limit)
+        )
         for _ in range(3):
             client = service.connect()
-            answered(f"a client of {asked_for} workers with {limit} open files", EMPTY, client, STATUS)
+            answered(
+                f"a client of {asked_for} workers with {limit} open files", EMPTY, client, STATUS
+            )
             client.close()
         service.ends(3, 0)
         started.append(told_workers(service, asked_for))
@@ -183,7 +223,10 @@ def few_descriptors(asked_for):
 def told_workers(service, asked_for):
     """How many workers a service said that it started, of more."""
     told = service.process.stderr.read()
-    started = next((count for count in range(1, asked_for) if told == f"workers: {count} of {asked_for}\n"), None)
+    started = next(
+        (count for count in range(1, asked_for) if told == f"workers: {count} of {asked_for}\n"),
+        None,
+    )
     if started is None:
         raise SystemExit(f"with fewer workers: printed {told!r}")
     return started
@@ -215,10 +258,17 @@ def fewer_workers(asked_for, lacking):
         how = sets_limit(resource.RLIMIT_NPROC, most)
         if not os.getuid():
             how |= {"user": NOBODY, "group": NOBODY, "extra_groups": []}
-        service = Serve(asked_for, asked_for, program=program, table=table, stderr=subprocess.PIPE, **how)
+        service = Serve(
+            asked_for, asked_for, program=program, table=table, stderr=subprocess.PIPE, **how
+        )
         clients = [service.connect() for _ in range(asked_for)]
         for number, client in enumerate(clients, 1):
-            answered(f"connection {number} of {asked_for - lacking} of {asked_for} workers", EMPTY, client, STATUS)
+            answered(
+                f"connection {number} of {asked_for - lacking} of {asked_for} workers",
+                EMPTY,
+                client,
+                STATUS,
+            )
         for client in clients:
             client.close()
         service.ends(asked_for, 0)
@@ -231,7 +281,12 @@ def fewer_workers(asked_for, lacking):
 def little_memory():
     """How a service is started that has little memory."""
     if has_sanitizer():
-        return {"env": {**os.environ, "ASAN_OPTIONS": "allocator_may_return_null=1:soft_rss_limit_mb=64"}}
+        return {
+            "env": {
+                **os.environ,
+                "ASAN_OPTIONS": "allocator_may_return_null=1:soft_rss_limit_mb=64",
+            }
+        }
     return sets_limit(resource.RLIMIT_AS, ADDRESSES)
 
 
@@ -249,11 +304,16 @@ def block_of_8000(lsn):
 def filled(client):
     """Writes blocks of 8,000 bytes, and reports each 16, until there is no memory. Gives their number."""
     for lsn in range(1, 1 << 20, 16):
-        bodies = [wire.head(2, wire.PRIMARY, wire.WRITE) + wire.write(copy, block_of_8000(number))
-                  for number in range(lsn, lsn + 16) for copy in (0, 1)]
+        bodies = [
+            wire.head(2, wire.PRIMARY, wire.WRITE) + wire.write(copy, block_of_8000(number))
+            for number in range(lsn, lsn + 16)
+            for copy in (0, 1)
+        ]
         bodies.append(wire.head(2, wire.PRIMARY, wire.REPORT) + wire.report(lsn + 15))
         client.sendall(b"".join(map(frame, bodies)))
-        replies = [one_of(f"block {lsn}", (DONE, NO_MEMORY), read_reply(client)) for _ in bodies[1:]]
+        replies = [
+            one_of(f"block {lsn}", (DONE, NO_MEMORY), read_reply(client)) for _ in bodies[1:]
+        ]
         # If a copy is missing the report is denied.
         last = read_reply(client)
         if NO_MEMORY in replies + [last]:
@@ -271,12 +331,13 @@ def asks_without_memory(what, client, tally):
     failover = wire.head(1, wire.OPERATOR, wire.FAILOVER) + wire.failover(99)
     write = wire.head(2, wire.PRIMARY, wire.WRITE) + wire.write(0, block_of_8000(1 << 40))
     for word, body, is_answer in (
-            ("status", status, lambda reply: len(reply) == 33 and reply[0] == 4),
-            ("pull", pull, lambda reply: reply == served),
-            ("audit", audit, lambda reply: len(reply) == 3 + 3 * 53 and reply[:3] == b"\x03\x00\x03"),
-            ("failover", failover, lambda reply: len(reply) == 12 and reply[0] == 5),
-            ("write", write, lambda reply: len(reply) == 12 and reply[0] == 5),
-            ("no request", b"", lambda reply: reply == NO_REQUEST)):
+        ("status", status, lambda reply: len(reply) == 33 and reply[0] == 4),
+        ("pull", pull, lambda reply: reply == served),
+        ("audit", audit, lambda reply: len(reply) == 3 + 3 * 53 and reply[:3] == b"\x03\x00\x03"),
+        ("failover", failover, lambda reply: len(reply) == 12 and reply[0] == 5),
+        ("write", write, lambda reply: len(reply) == 12 and reply[0] == 5),
+        ("no request", b"", lambda reply: reply == NO_REQUEST),
+    ):
         reply = asked(client, body)
         if reply is None or reply != NO_MEMORY and not is_answer(reply):
             raise SystemExit(f"{what}: {word} is replied {reply!r}")
@@ -307,7 +368,10 @@ def out_of_memory():
         old.sendall(data[cut:])
         reply = read_reply(old)
         # Its block is in the log by now, or another one is; if nothing was hardened, it may be written.
-        if reply not in (DONE, NO_MEMORY) and reply[:4] not in (b"\x05\x03\x00\x02", b"\x05\x03\x00\x04"):
+        if reply not in (DONE, NO_MEMORY) and reply[:4] not in (
+            b"\x05\x03\x00\x02",
+            b"\x05\x03\x00\x04",
+        ):
             raise SystemExit(f"a frame in pieces: found {reply!r}")
     older.sendall(frame(b"") * 10000)
     for _ in range(10000):
@@ -316,7 +380,9 @@ def out_of_memory():
         client.close()
     service.connect().close()
     service.ends(24, 0)
-    return f"{blocks} blocks; of 23 answered: " + ", ".join(f"{word} {count}" for word, count in tally.items())
+    return f"{blocks} blocks; of 23 answered: " + ", ".join(
+        f"{word} {count}" for word, count in tally.items()
+    )
 
 
 def is_refused(honest, client, part):

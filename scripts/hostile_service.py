@@ -20,7 +20,12 @@ PROGRAM = os.environ.get("PAGELOG") or str(ROOT / "crates" / "pagelog" / "out" /
 STATUS = wire.head(2, wire.PRIMARY, wire.STATUS)
 EMPTY = b"\x04" + wire.number(1, 4) + wire.number(2, 4) + bytes(24)
 WRITE = wire.head(2, wire.PRIMARY, wire.WRITE) + wire.write(0, wire.block(1, [(0, 0, b"\xaa")]))
-DONE, NO_MEMORY, NO_REQUEST, DENIED_A1 = b"\x00", b"\x06", b"\x0a\x01", b"\x05\x01\x00\x01" + bytes(8)
+DONE, NO_MEMORY, NO_REQUEST, DENIED_A1 = (
+    b"\x00",
+    b"\x06",
+    b"\x0a\x01",
+    b"\x05\x01\x00\x01" + bytes(8),
+)
 
 # How often an honest client asks while another one waits, before that one counts as forgotten. A request takes some 50
 # microseconds, and longer on a busy machine, on which all takes longer.
@@ -34,20 +39,46 @@ class Serve(Service):
     """A `serve` of one database that ends by itself after this many connections."""
 
     def __init__(self, connections, workers, *words, program=PROGRAM, table=TABLE, **how):
-        super().__init__([program, "serve", "--listen", "127.0.0.1:0", "--table", table, "--primary", 2, "--dbs", 1,
-                          "--workers", workers, "--connections", connections, "--audit", 65536, *words], **how)
+        super().__init__(
+            [
+                program,
+                "serve",
+                "--listen",
+                "127.0.0.1:0",
+                "--table",
+                table,
+                "--primary",
+                2,
+                "--dbs",
+                1,
+                "--workers",
+                workers,
+                "--connections",
+                connections,
+                "--audit",
+                65536,
+                *words,
+            ],
+            **how,
+        )
 
     def threads(self):
         """The folders of its threads in /proc: of the workers, and not of the one that accepts."""
         folder = pathlib.Path(f"/proc/{self.process.pid}/task")
-        return [folder / name for name in sorted(os.listdir(folder), key=int) if name != str(self.process.pid)]
+        return [
+            folder / name
+            for name in sorted(os.listdir(folder), key=int)
+            if name != str(self.process.pid)
+        ]
 
     def descriptors(self):
         return len(os.listdir(f"/proc/{self.process.pid}/fd"))
 
     def spent(self):
         """The processor seconds that it has used."""
-        fields = pathlib.Path(f"/proc/{self.process.pid}/stat").read_text().rpartition(")")[2].split()
+        fields = (
+            pathlib.Path(f"/proc/{self.process.pid}/stat").read_text().rpartition(")")[2].split()
+        )
         return (int(fields[11]) + int(fields[12])) / os.sysconf("SC_CLK_TCK")
 
     def spends(self):
@@ -68,7 +99,9 @@ def used(thread):
 
 def sleeps(thread):
     """How often it has gone to sleep by itself."""
-    return int(re.search(r"^voluntary_ctxt_switches:\s*(\d+)$", (thread / "status").read_text(), re.M)[1])
+    return int(
+        re.search(r"^voluntary_ctxt_switches:\s*(\d+)$", (thread / "status").read_text(), re.M)[1]
+    )
 
 
 def has_sanitizer():

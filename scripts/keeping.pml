@@ -197,7 +197,7 @@ inline hold(r) {
                     // if referee.kept(switch.log, switch.next_run) is not None:
                     // return True
                     // kept = referee.kept(switch.log, switch.run)
-                    // return None if kept is not None and kept.archived == switch.old and has_newest_table(referee, switch) else False
+                    // return (None if kept is not None and kept.archived == switch.old and has_newest_table(referee, switch) else False)
 #ifdef DOUBT_IS_NO
 #define MAY_BEGIN_STILL false
 #else
@@ -252,7 +252,7 @@ end:
 // referee.py: kept
                     // found = self._ask("UPDATE pagelog_log SET archived = archived WHERE id = %s
                     // RETURNING archived, chain, generation, run", (log,))
-                    // return Kept(found[0][0], bytes(found[0][1]), found[0][2]) if found and found[0][3] == run else None
+                    // return (Kept(found[0][0], bytes(found[0][1]), found[0][2]) if found and found[0][3] == run else None)
     :: d_step { doubts ->
           doubts = 0;
           if

@@ -86,16 +86,50 @@ def number_up_to(least, most):
 
 
 def arguments():
-    parser = argparse.ArgumentParser(prog="model", description="The plain model of pagelog as a service over TCP.")
-    serve = parser.add_subparsers(required=True).add_parser("serve", help="answers the request frames of connections")
-    serve.add_argument("--listen", required=True, metavar="ADDRESS", help="as 127.0.0.1:7400; port 0 takes a free one")
-    serve.add_argument("--table", required=True, metavar="FILE", type=pathlib.Path, help="the table of each database")
-    serve.add_argument("--primary", required=True, metavar="N", type=number_up_to(0, 2 ** 32 - 1), help="the first primary")
-    serve.add_argument("--dbs", default=1, metavar="N", type=number_up_to(1, 16), help="how many databases there are, 1 to 16")
-    serve.add_argument("--audit", default=65536, metavar="N", type=number_up_to(1, 2 ** 24),
-                       help="how many entries each audit list holds")
+    parser = argparse.ArgumentParser(
+        prog="model", description="The plain model of pagelog as a service over TCP."
+    )
+    serve = parser.add_subparsers(required=True).add_parser(
+        "serve", help="answers the request frames of connections"
+    )
+    serve.add_argument(
+        "--listen",
+        required=True,
+        metavar="ADDRESS",
+        help="as 127.0.0.1:7400; port 0 takes a free one",
+    )
+    serve.add_argument(
+        "--table",
+        required=True,
+        metavar="FILE",
+        type=pathlib.Path,
+        help="the table of each database",
+    )
+    serve.add_argument(
+        "--primary",
+        required=True,
+        metavar="N",
+        type=number_up_to(0, 2**32 - 1),
+        help="the first primary",
+    )
+    serve.add_argument(
+        "--dbs",
+        default=1,
+        metavar="N",
+        type=number_up_to(1, 16),
+        help="how many databases there are, 1 to 16",
+    )
+    serve.add_argument(
+        "--audit",
+        default=65536,
+        metavar="N",
+        type=number_up_to(1, 2**24),
+        help="how many entries each audit list holds",
+    )
     for word in ("--workers", "--connections", "--idle-polls"):
-        serve.add_argument(word, metavar="N", type=int, help="taken as pagelog takes it, and without effect")
+        serve.add_argument(
+            word, metavar="N", type=int, help="taken as pagelog takes it, and without effect"
+        )
     return parser.parse_args()
 
 
@@ -122,7 +156,11 @@ def main():
     except (OSError, ValueError, OverflowError):
         fail("address")
     print("listening {}:{}".format(*server.server_address), flush=True)
-    print("model: this is the plain model in Python, and not pagelog: nothing is proved of it", file=sys.stderr, flush=True)
+    print(
+        "model: this is the plain model in Python, and not pagelog: nothing is proved of it",
+        file=sys.stderr,
+        flush=True,
+    )
     try:
         server.serve_forever()
     except KeyboardInterrupt:

@@ -2,20 +2,38 @@
 
 # How many words a page may have, one of docs/ and one of a crate that is not named, and all pages together. These limits only fall.
 WORDS = {
-    "CHANGELOG.md": 1150, "README.md": 1250, "bench/RESULTS.md": 900, "clients/python/README.md": 1900,
-    "crates/pl_conn/README.md": 1550, "crates/pl_core/README.md": 1250, "crates/pl_decide/README.md": 950,
-    "crates/pl_desk/README.md": 1050, "crates/pl_log/README.md": 1500, "crates/pl_wire/README.md": 1450,
+    "CHANGELOG.md": 1150,
+    "README.md": 1250,
+    "bench/RESULTS.md": 900,
+    "clients/python/README.md": 1900,
+    "crates/pl_conn/README.md": 1550,
+    "crates/pl_core/README.md": 1250,
+    "crates/pl_decide/README.md": 950,
+    "crates/pl_desk/README.md": 1050,
+    "crates/pl_log/README.md": 1500,
+    "crates/pl_wire/README.md": 1450,
     "docs/CLIENT.md": 2650,
 }
 DOCS_WORDS, CRATE_WORDS, ALL_WORDS = 2500, 1150, 62000
 # How many rows of a page's tables may have more characters than WIDTH. Tables that are printed are not counted. They only fall too.
 WIDTH = 200
 WIDE_ROWS = {
-    "clients/c/README.md": 1, "crates/pl_arena/README.md": 1, "crates/pl_conn/README.md": 4,
-    "crates/pl_core/README.md": 1, "crates/pl_decide/README.md": 1, "crates/pl_log/README.md": 2,
-    "crates/pl_table/README.md": 1, "crates/pl_wire/README.md": 5, "crates/rows_connections/README.md": 1,
-    "crates/rows_database/README.md": 1, "crates/rows_log/README.md": 3, "crates/rows_service/README.md": 3,
-    "crates/rows_table/README.md": 1, "docs/CLIENT.md": 2, "docs/GUARANTEES.md": 5, "docs/SQLITE.md": 1,
+    "clients/c/README.md": 1,
+    "crates/pl_arena/README.md": 1,
+    "crates/pl_conn/README.md": 4,
+    "crates/pl_core/README.md": 1,
+    "crates/pl_decide/README.md": 1,
+    "crates/pl_log/README.md": 2,
+    "crates/pl_table/README.md": 1,
+    "crates/pl_wire/README.md": 5,
+    "crates/rows_connections/README.md": 1,
+    "crates/rows_database/README.md": 1,
+    "crates/rows_log/README.md": 3,
+    "crates/rows_service/README.md": 3,
+    "crates/rows_table/README.md": 1,
+    "docs/CLIENT.md": 2,
+    "docs/GUARANTEES.md": 5,
+    "docs/SQLITE.md": 1,
 }
 # The tables that scripts/pages prints from the source.
 PRINTED_TABLES = "Calls", "Laws"

@@ -13,7 +13,13 @@ def rows_of_file(file):
     about = " ".join(line[3:].strip() for line in text.splitlines() if line.startswith("//!"))
     names = ", ".join(f"`{name}`" for name in tests)
     row = f"- [{file.stem}](../{file.relative_to(ROOT)}), {re.split('[.,:]', about)[0]}: {names}"
-    return textwrap.fill(row, 132, subsequent_indent="  ", break_long_words=False, break_on_hyphens=False) if tests else ""
+    return (
+        textwrap.fill(
+            row, 132, subsequent_indent="  ", break_long_words=False, break_on_hyphens=False
+        )
+        if tests
+        else ""
+    )
 
 
 def printed_rows():
@@ -26,7 +32,7 @@ def printed_rows():
 
 
 def with_printed_rows(page):
-    return page[:page.index("## rows_")] + printed_rows()
+    return page[: page.index("## rows_")] + printed_rows()
 
 
 def crate_rows():

@@ -40,7 +40,9 @@ def commit_of(version):
 
 def checkout(commit, folder):
     """The sources of the commit, with what git knows of it."""
-    known = subprocess.run(["git", "cat-file", "-e", f"{commit}^{{commit}}"], cwd=ROOT, stderr=subprocess.DEVNULL)
+    known = subprocess.run(
+        ["git", "cat-file", "-e", f"{commit}^{{commit}}"], cwd=ROOT, stderr=subprocess.DEVNULL
+    )
     if known.returncode:
         fail(f"there is no commit {commit} here: git fetch --unshallow")
     run(["git", "clone", "--quiet", "--shared", "--no-checkout", ROOT, folder])
@@ -68,20 +70,34 @@ def path_without_rt(folder):
 
 
 def main():
-    parser = argparse.ArgumentParser(description=__doc__, formatter_class=argparse.RawDescriptionHelpFormatter)
+    parser = argparse.ArgumentParser(
+        description=__doc__, formatter_class=argparse.RawDescriptionHelpFormatter
+    )
     parser.add_argument("version", help="as in CHANGELOG.md")
-    parser.add_argument("--out", metavar="FOLDER", type=pathlib.Path, required=True, help="where the packages go")
-    parser.add_argument("--quick", metavar="PROGRAM", type=pathlib.Path, help="the program of that version, which is not built then")
+    parser.add_argument(
+        "--out", metavar="FOLDER", type=pathlib.Path, required=True, help="where the packages go"
+    )
+    parser.add_argument(
+        "--quick",
+        metavar="PROGRAM",
+        type=pathlib.Path,
+        help="the program of that version, which is not built then",
+    )
     words = parser.parse_args()
     commit = commit_of(words.version)
     if not words.quick and not shutil.which("rt"):
-        fail("to compile its program, Rattle's command rt has to be on the PATH; --quick takes one that was built")
+        fail(
+            "to compile its program, Rattle's command rt has to be on the PATH; --quick takes one that was built"
+        )
     with tempfile.TemporaryDirectory() as name:
         sources = pathlib.Path(name) / "sources"
         checkout(commit, sources)
         program = words.quick.resolve() if words.quick else built_quickly(sources)
         environment = {**os.environ, "PATH": path_without_rt(pathlib.Path(name))}
-        run([sources / "scripts" / "package", "--quick", program, "--out", words.out.resolve()], env=environment)
+        run(
+            [sources / "scripts" / "package", "--quick", program, "--out", words.out.resolve()],
+            env=environment,
+        )
 
 
 main()

@@ -37,14 +37,37 @@ class Authority:
         self.folder = Path(folder)
         self.hosts = _HOSTS + (f",IP:{host}" if host else "")
         for name in ("ca", "other"):
-            self._openssl("req", "-x509", *_KEY, "-keyout", f"{name}.key", "-out", f"{name}.pem", "-days", "3650", "-subj", f"/CN={name}",
-                          "-addext", "basicConstraints=critical,CA:TRUE", "-addext", "keyUsage=critical,keyCertSign,cRLSign")  # fmt: skip
+            self._openssl(
+                "req",
+                "-x509",
+                *_KEY,
+                "-keyout",
+                f"{name}.key",
+                "-out",
+                f"{name}.pem",
+                "-days",
+                "3650",
+                "-subj",
+                f"/CN={name}",
+                "-addext",
+                "basicConstraints=critical,CA:TRUE",
+                "-addext",
+                "keyUsage=critical,keyCertSign,cRLSign",
+            )
 
     def __truediv__(self, name: str) -> str:
         return str(self.folder / name)
 
-    def make(self, name: str, hosts: str | None = None, *, usage: str = "serverAuth", ca: str = "ca", common: str | None = None,
-             dates: tuple[str, str] = ("20200101000000Z", "20991231000000Z")) -> str:  # fmt: skip
+    def make(
+        self,
+        name: str,
+        hosts: str | None = None,
+        *,
+        usage: str = "serverAuth",
+        ca: str = "ca",
+        common: str | None = None,
+        dates: tuple[str, str] = ("20200101000000Z", "20991231000000Z"),
+    ) -> str:
         """A certificate and its key. Returns the path of both without the suffix."""
         (self.folder / "ca.cnf").write_text(_CA_FILE)
         (self.folder / "index").write_text("")
@@ -52,10 +75,40 @@ class Authority:
             (self.folder / "serial").write_text("01\n")
         wanted = hosts if hosts is not None else self.hosts
         names = f"subjectAltName={wanted}\n" if wanted else ""
-        (self.folder / "extensions").write_text(f"{names}extendedKeyUsage={usage}\nkeyUsage=digitalSignature\n")
-        self._openssl("req", *_KEY, "-keyout", f"{name}.key", "-out", "request", "-subj", f"/CN={common or name}")
-        self._openssl("ca", "-batch", "-notext", "-config", "ca.cnf", "-cert", f"{ca}.pem", "-keyfile", f"{ca}.key", "-in", "request",
-                      "-out", f"{name}.pem", "-extfile", "extensions", "-startdate", dates[0], "-enddate", dates[1])  # fmt: skip
+        (self.folder / "extensions").write_text(
+            f"{names}extendedKeyUsage={usage}\nkeyUsage=digitalSignature\n"
+        )
+        self._openssl(
+            "req",
+            *_KEY,
+            "-keyout",
+            f"{name}.key",
+            "-out",
+            "request",
+            "-subj",
+            f"/CN={common or name}",
+        )
+        self._openssl(
+            "ca",
+            "-batch",
+            "-notext",
+            "-config",
+            "ca.cnf",
+            "-cert",
+            f"{ca}.pem",
+            "-keyfile",
+            f"{ca}.key",
+            "-in",
+            "request",
+            "-out",
+            f"{name}.pem",
+            "-extfile",
+            "extensions",
+            "-startdate",
+            dates[0],
+            "-enddate",
+            dates[1],
+        )
         (self.folder / f"{name}.key").chmod(0o600)
         return str(self.folder / name)
 
@@ -70,44 +123,85 @@ _KEY = ("-newkey", "ec", "-pkeyopt", "ec_paramgen_curve:P-256", "-nodes")
 
 def _load() -> ctypes.CDLL:
     lib = ctypes.CDLL("libssl.so.3")
-    pointers = {"TLS_server_method": (), "SSL_CTX_new": (ctypes.c_void_p,), "SSL_new": (ctypes.c_void_p,)}
+    pointers = {
+        "TLS_server_method": (),
+        "SSL_CTX_new": (ctypes.c_void_p,),
+        "SSL_new": (ctypes.c_void_p,),
+    }
     for name, arguments in pointers.items():
         getattr(lib, name).restype, getattr(lib, name).argtypes = ctypes.c_void_p, arguments
     text, number, pointer, long = ctypes.c_char_p, ctypes.c_int, ctypes.c_void_p, ctypes.c_long
     numbers = {
-        "SSL_CTX_use_certificate_chain_file": (pointer, text), "SSL_CTX_use_PrivateKey_file": (pointer, text, number),
-        "SSL_CTX_load_verify_file": (pointer, text), "SSL_CTX_ctrl": (pointer, number, long, pointer), "SSL_set_fd": (pointer, number),
-        "SSL_accept": (pointer,), "SSL_read": (pointer, text, number), "SSL_write": (pointer, text, number), "SSL_pending": (pointer,),
-        "SSL_key_update": (pointer, number), "SSL_new_session_ticket": (pointer,), "SSL_do_handshake": (pointer,),
-        "SSL_session_reused": (pointer,), "SSL_shutdown": (pointer,), "SSL_CTX_set_session_id_context": (pointer, text, ctypes.c_uint),
+        "SSL_CTX_use_certificate_chain_file": (pointer, text),
+        "SSL_CTX_use_PrivateKey_file": (pointer, text, number),
+        "SSL_CTX_load_verify_file": (pointer, text),
+        "SSL_CTX_ctrl": (pointer, number, long, pointer),
+        "SSL_set_fd": (pointer, number),
+        "SSL_accept": (pointer,),
+        "SSL_read": (pointer, text, number),
+        "SSL_write": (pointer, text, number),
+        "SSL_pending": (pointer,),
+        "SSL_key_update": (pointer, number),
+        "SSL_new_session_ticket": (pointer,),
+        "SSL_do_handshake": (pointer,),
+        "SSL_session_reused": (pointer,),
+        "SSL_shutdown": (pointer,),
+        "SSL_CTX_set_session_id_context": (pointer, text, ctypes.c_uint),
         "SSL_get_error": (pointer, number),
-    }  # fmt: skip
+    }
     for name, arguments in numbers.items():
         getattr(lib, name).argtypes = arguments
     for name in ("SSL_free", "SSL_CTX_free"):
         getattr(lib, name).argtypes, getattr(lib, name).restype = (pointer,), None
-    lib.SSL_CTX_set_verify.argtypes, lib.SSL_CTX_set_verify.restype = (pointer, number, pointer), None
+    lib.SSL_CTX_set_verify.argtypes, lib.SSL_CTX_set_verify.restype = (
+        pointer,
+        number,
+        pointer,
+    ), None
     return lib
 
 
-_NO_AUTO_RETRY, _WANTS_TO_READ = (78, 4), 2  # SSL_CTRL_CLEAR_MODE with SSL_MODE_AUTO_RETRY; SSL_ERROR_WANT_READ
-_LOWEST, _HIGHEST, _VERSION = 123, 124, {"1.2": 0x303, "1.3": 0x304}  # SSL_CTRL_SET_MIN_PROTO_VERSION, and of TLS
+_NO_AUTO_RETRY, _WANTS_TO_READ = (
+    78,
+    4,
+), 2  # SSL_CTRL_CLEAR_MODE with SSL_MODE_AUTO_RETRY; SSL_ERROR_WANT_READ
+_LOWEST, _HIGHEST, _VERSION = (
+    123,
+    124,
+    {"1.2": 0x303, "1.3": 0x304},
+)  # SSL_CTRL_SET_MIN_PROTO_VERSION, and of TLS
 
 
 class Terminator:
     """Listens with a certificate, and carries what is inside to `target`. Ends with the `with`."""
 
-    def __init__(self, certificate: str, target: str, *, clients: str | None = None, version: str = "1.3", record: int = 16384,
-                 odd: bool = False, host: str = "127.0.0.1") -> None:  # fmt: skip
+    def __init__(
+        self,
+        certificate: str,
+        target: str,
+        *,
+        clients: str | None = None,
+        version: str = "1.3",
+        record: int = 16384,
+        odd: bool = False,
+        host: str = "127.0.0.1",
+    ) -> None:
         """`certificate` is the path of both files without the suffix, and `clients` the CA of certificates that clients have to show.
-        A record has at most so many bytes; where it is `odd`, tickets and key updates come between them."""
+        A record has at most so many bytes; where it is `odd`, tickets and key updates come between them.
+        """
         self.lib, self.record, self.odd = _load(), record, odd
         self.context = self.lib.SSL_CTX_new(self.lib.TLS_server_method())
-        good = self.lib.SSL_CTX_use_certificate_chain_file(self.context, f"{certificate}.pem".encode())
-        good = good and self.lib.SSL_CTX_use_PrivateKey_file(self.context, f"{certificate}.key".encode(), 1)
+        good = self.lib.SSL_CTX_use_certificate_chain_file(
+            self.context, f"{certificate}.pem".encode()
+        )
+        good = good and self.lib.SSL_CTX_use_PrivateKey_file(
+            self.context, f"{certificate}.key".encode(), 1
+        )
         if clients:
             good = good and self.lib.SSL_CTX_load_verify_file(self.context, clients.encode())
-            self.lib.SSL_CTX_set_verify(self.context, 3, None)  # SSL_VERIFY_PEER, and it fails without a certificate
+            self.lib.SSL_CTX_set_verify(
+                self.context, 3, None
+            )  # SSL_VERIFY_PEER, and it fails without a certificate
             self.lib.SSL_CTX_set_session_id_context(self.context, b"pagelog", 7)
         self.lib.SSL_CTX_ctrl(self.context, *_NO_AUTO_RETRY, None)
         for which in (_LOWEST, _HIGHEST):
@@ -195,7 +289,9 @@ class Terminator:
                 return False
             self.written += len(piece)
             if self.odd and number % 3 == 0:
-                self.lib.SSL_key_update(ssl, number // 3 % 2)  # it asks for one of the client each second time
+                self.lib.SSL_key_update(
+                    ssl, number // 3 % 2
+                )  # it asks for one of the client each second time
                 self.lib.SSL_do_handshake(ssl)
             elif self.odd and number % 3 == 1:
                 self.lib.SSL_new_session_ticket(ssl)
@@ -208,7 +304,11 @@ class Halting:
     `stands` is silent."""
 
     def __init__(self, target: str, stands: bool = False) -> None:
-        self.target, self.stands, self.left = (target.rsplit(":", 1)[0], int(target.rsplit(":", 1)[1])), stands, 0
+        self.target, self.stands, self.left = (
+            (target.rsplit(":", 1)[0], int(target.rsplit(":", 1)[1])),
+            stands,
+            0,
+        )
         self.listener = socket.create_server(("127.0.0.1", 0), backlog=128)
         self.address = f"127.0.0.1:{self.listener.getsockname()[1]}"
         self.came = 0

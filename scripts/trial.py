@@ -23,7 +23,20 @@ import wire
 from clients import Service, asked
 from trial_lines import ENTRIES_OF_PLAY, Trial, put
 from trial_parts import PARTS
-from wire import ADVANCE, AUDIT, FAILOVER, GET, OFFER, OPS, PULL, REPORT, SET_TABLE, STATUS, WITHOUT_ARGUMENTS, WRITE
+from wire import (
+    ADVANCE,
+    AUDIT,
+    FAILOVER,
+    GET,
+    OFFER,
+    OPS,
+    PULL,
+    REPORT,
+    SET_TABLE,
+    STATUS,
+    WITHOUT_ARGUMENTS,
+    WRITE,
+)
 from wire import OPERATOR, PAGE_SERVER, PAGES_OF_A_PARTITION, PRIMARY, SECONDARY
 
 ROOT = pathlib.Path(__file__).resolve().parent.parent
@@ -37,7 +50,9 @@ SEED, RANDOM_LINES = 20, 2600
 
 
 def near(chance, hard):
-    return chance.choice([hard + 1] * 8 + [hard + 2] * 6 + [hard + 3] * 2 + [max(hard, 1), hard + 64, hard + 65])
+    return chance.choice(
+        [hard + 1] * 8 + [hard + 2] * 6 + [hard + 3] * 2 + [max(hard, 1), hard + 64, hard + 65]
+    )
 
 
 def block(chance, model):
@@ -55,13 +70,15 @@ def offer(chance, model):
 
 
 def report(chance, model):
-    lsn = chance.choice([near(chance, len(model.log))] * 9 + [0, 2 ** 48])
+    lsn = chance.choice([near(chance, len(model.log))] * 9 + [0, 2**48])
     return model.primary, PRIMARY, wire.report(lsn)
 
 
 def get(chance, model):
     hard = len(model.log)
-    page = chance.choice([0, 0, 1, 1, 2, 3, 4, 7]) * PAGES_OF_A_PARTITION + chance.choice([0] * 7 + [1])
+    page = chance.choice([0, 0, 1, 1, 2, 3, 4, 7]) * PAGES_OF_A_PARTITION + chance.choice(
+        [0] * 7 + [1]
+    )
     lsn = chance.choice([chance.randrange(hard + 1)] * 8 + [0, hard, hard + 1])
     who, role = (model.primary, PRIMARY) if chance.random() < 0.3 else (3, SECONDARY)
     return who, role, wire.get(page, lsn, chance.random() < 0.5)
@@ -84,18 +101,33 @@ def failover(chance, model):
 
 def set_table(chance, model):
     table = chance.choice(tables.TABLES).text
-    text = table if chance.random() < 0.6 else chance.choice(tables.FAULTY[1 + chance.randrange(13)]).encode()
+    text = (
+        table
+        if chance.random() < 0.6
+        else chance.choice(tables.FAULTY[1 + chance.randrange(13)]).encode()
+    )
     return 1, OPERATOR, text if len(text) < 2000 else table
 
 
 def audit(chance, model):
     there = len(model.lines)
-    first = chance.choice([1 + chance.randrange(there + 1)] * 6 + [max(1, there), there + 1, there + 2, 0])
+    first = chance.choice(
+        [1 + chance.randrange(there + 1)] * 6 + [max(1, there), there + 1, there + 2, 0]
+    )
     return 1, OPERATOR, wire.audit(first, chance.choice([1, 2, 5, 20]))
 
 
-ASKED = {WRITE: write, OFFER: offer, REPORT: report, GET: get, PULL: pull, ADVANCE: advance, FAILOVER: failover,
-         SET_TABLE: set_table, AUDIT: audit}
+ASKED = {
+    WRITE: write,
+    OFFER: offer,
+    REPORT: report,
+    GET: get,
+    PULL: pull,
+    ADVANCE: advance,
+    FAILOVER: failover,
+    SET_TABLE: set_table,
+    AUDIT: audit,
+}
 # How often these are asked for, for once that any other is: pages and audit lists make long replies.
 OFTEN = {WRITE: 64, OFFER: 12, REPORT: 18, PULL: 10, ADVANCE: 3, STATUS: 3, FAILOVER: 2, AUDIT: 2}
 
@@ -103,7 +135,9 @@ OFTEN = {WRITE: 64, OFFER: 12, REPORT: 18, PULL: 10, ADVANCE: 3, STATUS: 3, FAIL
 def request(chance, model):
     """An operation, who asks for it, as what, and the bytes of its arguments."""
     op = chance.choices(list(OPS), [OFTEN.get(op, 1) for op in OPS])[0]
-    return op, *(without_arguments(op, model) if op in WITHOUT_ARGUMENTS else ASKED[op](chance, model))
+    return op, *(
+        without_arguments(op, model) if op in WITHOUT_ARGUMENTS else ASKED[op](chance, model)
+    )
 
 
 def without_arguments(op, model):
@@ -131,7 +165,9 @@ def random_line(trial):
     body = trial.body(who, role, op, rest, epoch, key)
     if op != SET_TABLE and chance.random() < 0.03:
         at = chance.randrange(len(body))
-        body = chance.choice([body[:at], body + b"\0", body[:at] + bytes([chance.randrange(256)]) + body[at + 1:]])
+        body = chance.choice(
+            [body[:at], body + b"\0", body[:at] + bytes([chance.randrange(256)]) + body[at + 1 :]]
+        )
         if len(body) > 29 and body[29] == SET_TABLE:
             body = body[:29]
     trial.play(body)
@@ -175,14 +211,34 @@ def played(database, table):
     """What `play` answers, line by line, and if it does not end well a line that says how."""
     words = [PAGELOG, "play", "--table", table, "--primary", str(database.primary)]
     run = subprocess.run(words, input=lines_of(database.asked), capture_output=True, text=True)
-    ending = [f"status {run.returncode}: {run.stderr.strip()}"] if run.returncode or run.stderr else []
+    ending = (
+        [f"status {run.returncode}: {run.stderr.strip()}"] if run.returncode or run.stderr else []
+    )
     return run.stdout.splitlines() + ending
 
 
 def served(database, table):
     """The same of `serve`: one request after the other, each to the only database that there is."""
-    service = Service([PAGELOG, "serve", "--listen", "127.0.0.1:0", "--table", table, "--primary", database.primary, "--dbs", 1,
-                       "--workers", 1, "--connections", 1, "--audit", database.limit])
+    service = Service(
+        [
+            PAGELOG,
+            "serve",
+            "--listen",
+            "127.0.0.1:0",
+            "--table",
+            table,
+            "--primary",
+            database.primary,
+            "--dbs",
+            1,
+            "--workers",
+            1,
+            "--connections",
+            1,
+            "--audit",
+            database.limit,
+        ]
+    )
     client = service.connect()
     replies = [asked(client, wire.to_database(body, 0)) for body in database.asked]
     client.close()
@@ -205,12 +261,14 @@ def check(database):
 def fail(database, at, wanted, found):
     OUT.mkdir(exist_ok=True)
     left = OUT / f"trial-failed-{database.name}"
-    left.write_text(lines_of(database.asked[:at + 1]))
+    left.write_text(lines_of(database.asked[: at + 1]))
     left.with_suffix(".toml").write_bytes(database.table.text)
-    body = lines_of(database.asked[at:at + 1]).strip() or "nothing"
-    sys.exit(f"{database.name}, primary {database.primary}, audit list of {database.limit}, line {at + 1}: {body}\n"
-             f"the model: {wanted}\npagelog:   {found}\n"
-             f"The shortest prefix that fails is left in {left.relative_to(ROOT)}, and its table beside it")
+    body = lines_of(database.asked[at : at + 1]).strip() or "nothing"
+    sys.exit(
+        f"{database.name}, primary {database.primary}, audit list of {database.limit}, line {at + 1}: {body}\n"
+        f"the model: {wanted}\npagelog:   {found}\n"
+        f"The shortest prefix that fails is left in {left.relative_to(ROOT)}, and its table beside it"
+    )
 
 
 def summary(trial):
@@ -224,15 +282,19 @@ def play_parts():
     for database in trial.databases:
         check(database)
     count = sum(len(database.asked) for database in trial.databases)
-    print(f"{count} lines to {len(trial.databases)} databases: each reply is the model's\n  {summary(trial)}")
+    print(
+        f"{count} lines to {len(trial.databases)} databases: each reply is the model's\n  {summary(trial)}"
+    )
 
 
 def play_random_lines(count, seed):
     trial = random_lines(count, seed, tables.START if seed % 3 else tables.SIX_COPIES)
     check(trial.databases[0])
     model = trial.model
-    print(f"{count} lines, seed {seed}: each reply is the model's. Epoch {model.epoch}, {len(model.log)} blocks "
-          f"hardened, {len(model.lines)} entries, of which the first {trial.swept} were asked for\n  {summary(trial)}")
+    print(
+        f"{count} lines, seed {seed}: each reply is the model's. Epoch {model.epoch}, {len(model.log)} blocks "
+        f"hardened, {len(model.lines)} entries, of which the first {trial.swept} were asked for\n  {summary(trial)}"
+    )
 
 
 def main():

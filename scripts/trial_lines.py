@@ -43,13 +43,22 @@ class Trial:
     def body(self, who, role, op, arguments=b"", epoch=None, key=None):
         """A body of the present epoch; the number of the database decides nothing in `play`, and varies."""
         epoch = self.model.epoch if epoch is None else epoch
-        return wire.head(who, role, op, epoch, self.chance.choice([0, 0, 1, 7, 2 ** 32 - 1]), key) + arguments
+        return (
+            wire.head(who, role, op, epoch, self.chance.choice([0, 0, 1, 7, 2**32 - 1]), key)
+            + arguments
+        )
 
     def write(self, copy, lsn, records):
-        return self.play(self.body(self.model.primary, PRIMARY, WRITE, wire.write(copy, wire.block(lsn, records))))
+        return self.play(
+            self.body(
+                self.model.primary, PRIMARY, WRITE, wire.write(copy, wire.block(lsn, records))
+            )
+        )
 
     def offer(self, lsn, records):
-        return self.play(self.body(self.model.primary, PRIMARY, OFFER, wire.offer(wire.block(lsn, records))))
+        return self.play(
+            self.body(self.model.primary, PRIMARY, OFFER, wire.offer(wire.block(lsn, records)))
+        )
 
     def write_quorum(self, lsn, records):
         """Writes the block to as many copies as harden it, from the last one down."""
@@ -99,5 +108,8 @@ def put(lsn):
     if lsn % 11 == 8:
         return [(page,), (page, 8191, b"\xee")]
     if lsn % 13 == 7:
-        return [(page, 5, bytes([lsn % 251]) * 3), ((page + PAGES_OF_A_PARTITION) % (5 * PAGES_OF_A_PARTITION),)]
+        return [
+            (page, 5, bytes([lsn % 251]) * 3),
+            ((page + PAGES_OF_A_PARTITION) % (5 * PAGES_OF_A_PARTITION),),
+        ]
     return [(page, lsn % 4, bytes([lsn % 251]))]

@@ -8,7 +8,20 @@ import itertools
 import tables
 import wire
 from trial_lines import put
-from wire import ADVANCE, AUDIT, FAILOVER, GET, OFFER, OPS, PULL, REPORT, SET_TABLE, STATUS, WITHOUT_ARGUMENTS, WRITE
+from wire import (
+    ADVANCE,
+    AUDIT,
+    FAILOVER,
+    GET,
+    OFFER,
+    OPS,
+    PULL,
+    REPORT,
+    SET_TABLE,
+    STATUS,
+    WITHOUT_ARGUMENTS,
+    WRITE,
+)
 from wire import OPERATOR, PAGE_SERVER, PAGES_OF_A_PARTITION, PRIMARY, SECONDARY
 
 
@@ -74,11 +87,11 @@ def pages(trial):
 def ask_for_pages(trial, hard):
     for partition in (0, 1, 4, 65535):
         trial.advance(partition, 2)
-    for lsn in (0, 1, hard, hard + 1, 2 ** 48):
+    for lsn in (0, 1, hard, hard + 1, 2**48):
         for page in (lsn % 5 * PAGES_OF_A_PARTITION, 0, 1):
             trial.get(page, lsn, True)
             trial.get(page, lsn, False)
-    trial.get(2 ** 32 - 1, hard, True)
+    trial.get(2**32 - 1, hard, True)
     for page in (7 * PAGES_OF_A_PARTITION, 8 * PAGES_OF_A_PARTITION - 1, 8 * PAGES_OF_A_PARTITION):
         trial.get(page, hard + 1, True)
 
@@ -128,7 +141,7 @@ def audits(trial):
         ask_each_operation(trial, who)
     trial.audit(1, 1024)
     there = len(trial.model.lines)
-    for first in (0, 1, 2, there - 1, there, there + 9, there + 99, 2 ** 48, 2 ** 64 - 1):
+    for first in (0, 1, 2, there - 1, there, there + 9, there + 99, 2**48, 2**64 - 1):
         for most in (1, 3):
             trial.audit(first, most)
     trial.audit(there, 1023)
@@ -137,10 +150,17 @@ def audits(trial):
 
 def ask_each_operation(trial, who):
     """One request of each operation in each role, and of set_table two."""
-    asked = {WRITE: [wire.write(2, wire.block(who, put(who)))], OFFER: [wire.offer(wire.block(who + 1, put(who + 1)))],
-             REPORT: [wire.report(0)], GET: [wire.get(2 ** 32 - who, 0, who % 2)], PULL: [wire.pull(2, 9, 1, 16)],
-             ADVANCE: [wire.advance(who % 4, 1024)], FAILOVER: [wire.failover(2)],
-             SET_TABLE: [wire.set_table(tables.START.text), wire.set_table(b"x")], AUDIT: [wire.audit(who, 2)]}
+    asked = {
+        WRITE: [wire.write(2, wire.block(who, put(who)))],
+        OFFER: [wire.offer(wire.block(who + 1, put(who + 1)))],
+        REPORT: [wire.report(0)],
+        GET: [wire.get(2**32 - who, 0, who % 2)],
+        PULL: [wire.pull(2, 9, 1, 16)],
+        ADVANCE: [wire.advance(who % 4, 1024)],
+        FAILOVER: [wire.failover(2)],
+        SET_TABLE: [wire.set_table(tables.START.text), wire.set_table(b"x")],
+        AUDIT: [wire.audit(who, 2)],
+    }
     asked.update((op, [b""]) for op in WITHOUT_ARGUMENTS)
     for role in (PRIMARY, SECONDARY, PAGE_SERVER, OPERATOR):
         for op in OPS:
@@ -201,7 +221,14 @@ def six_copies(trial):
 def zones_change(trial):
     """Tables of three and six copies, set in the middle of a window: only a failover takes them up, and counts by the old one."""
     trial.open()
-    asked = (tables.SIX_COPIES, tables.SIX_COPIES, tables.START, tables.SIX_AND_ENDS, tables.THREE_COPIES, tables.SIX_COPIES)
+    asked = (
+        tables.SIX_COPIES,
+        tables.SIX_COPIES,
+        tables.START,
+        tables.SIX_AND_ENDS,
+        tables.THREE_COPIES,
+        tables.SIX_COPIES,
+    )
     for at, table in enumerate(asked):
         hard = len(trial.model.log)
         trial.write_quorum(hard + 1, put(hard + 1))
@@ -209,7 +236,7 @@ def zones_change(trial):
         for copy in range(7):
             trial.write(copy, hard + 2, put(hard + 2))
         trial.write_quorum(hard + 4, put(hard + 4))
-        for copy in (0, 1, 2)[:at % 3 + 1]:
+        for copy in (0, 1, 2)[: at % 3 + 1]:
             trial.write(copy, hard + 3, put(hard + 3))
         if at % 2:
             trial.set_table(tables.FAULTY[13][at].encode())
@@ -231,7 +258,13 @@ def rows_that_end(trial):
     trial.report(50)
     trial.advance(0, 16)
     trial.advance(1, 1024)
-    for table in (tables.ENDS_AT_2, tables.NO_PULL_ABOVE_3, tables.MANY_ENDS, tables.SIX_AND_ENDS, tables.START):
+    for table in (
+        tables.ENDS_AT_2,
+        tables.NO_PULL_ABOVE_3,
+        tables.MANY_ENDS,
+        tables.SIX_AND_ENDS,
+        tables.START,
+    ):
         trial.set_table(table.text)
         read_about_ends(trial)
         # The same once more: what was decided is cached by now.
@@ -296,7 +329,9 @@ def ask_each(trial):
         for role in (PRIMARY, SECONDARY, PAGE_SERVER, OPERATOR):
             trial.play(trial.body(who, role, STATUS))
         trial.play(trial.body(who, SECONDARY, PULL, wire.pull(2, 2, 1, 1)))
-        trial.play(trial.body(who, SECONDARY, GET, wire.get(who * PAGES_OF_A_PARTITION, 0, who % 2)))
+        trial.play(
+            trial.body(who, SECONDARY, GET, wire.get(who * PAGES_OF_A_PARTITION, 0, who % 2))
+        )
         trial.play(trial.body(who, PAGE_SERVER, ADVANCE, wire.advance(who, 1)))
         for page in (2, 4 * PAGES_OF_A_PARTITION):
             block = wire.block(who, [(page, 0, b"\1")])
@@ -312,12 +347,22 @@ def faults_of_bodies(trial):
     pull = trial.body(3, SECONDARY, PULL, wire.pull(0, 1, 1, 1))
     others = [trial.body(1, OPERATOR, op) for op in WITHOUT_ARGUMENTS if op != STATUS]
     bodies = [status[:at] for at in (0, 1, 4, 20, 29)]
-    bodies += [status + b"\0", report[:-1], report + b"\0", pull[:-2], pull + b"\1\1", *(body + b"\0" for body in others)]
+    bodies += [
+        status + b"\0",
+        report[:-1],
+        report + b"\0",
+        pull[:-2],
+        pull + b"\1\1",
+        *(body + b"\0" for body in others),
+    ]
     bodies += faulty_arguments(trial)
     for role in (0, 1, 4, 5, 255):
-        bodies += [status[:20] + bytes([role]) + status[21:29] + bytes([op]) for op in (0, 1, 2, 7, 10, wire.NO_OPERATION, 255)]
-    bodies += [report[:30] + wire.report(lsn) for lsn in (2 ** 48, 2 ** 48 + 1, 2 ** 64 - 1)]
-    out_of_range = ((2, 1, 1, 1), (0, 0, 0, 1), (0, 0, 2 ** 48 + 1, 1), (0, 0, 1, 0), (0, 0, 1, 17))
+        bodies += [
+            status[:20] + bytes([role]) + status[21:29] + bytes([op])
+            for op in (0, 1, 2, 7, 10, wire.NO_OPERATION, 255)
+        ]
+    bodies += [report[:30] + wire.report(lsn) for lsn in (2**48, 2**48 + 1, 2**64 - 1)]
+    out_of_range = ((2, 1, 1, 1), (0, 0, 0, 1), (0, 0, 2**48 + 1, 1), (0, 0, 1, 0), (0, 0, 1, 17))
     bodies += [pull[:30] + wire.pull(*parts) for parts in out_of_range]
     for spelled in faulty_blocks():
         bodies.append(trial.body(2, PRIMARY, WRITE, wire.write(0, spelled)))
@@ -335,10 +380,24 @@ def faulty_arguments(trial):
     audit = trial.body(1, OPERATOR, AUDIT, wire.audit(1, 1))
     for body in (get, advance, audit):
         most = body[:30] + b"\xff" * (len(body) - 30)
-        yield from (body[:-1], body[:30], body + b"\0", most, most + b"\xff", body[:30] + bytes(len(body) - 30))
-    yield from (get[:30] + wire.get(0, lsn, exact) for lsn, exact in ((0, 2), (0, 255), (2 ** 48, 1), (2 ** 48 + 1, 1)))
+        yield from (
+            body[:-1],
+            body[:30],
+            body + b"\0",
+            most,
+            most + b"\xff",
+            body[:30] + bytes(len(body) - 30),
+        )
+    yield from (
+        get[:30] + wire.get(0, lsn, exact)
+        for lsn, exact in ((0, 2), (0, 255), (2**48, 1), (2**48 + 1, 1))
+    )
     yield from (advance[:30] + wire.advance(3, steps) for steps in (0, 1, 1024, 1025))
-    yield from (audit[:30] + wire.audit(first, most) for first in (0, 1, 2 ** 64 - 1) for most in (0, 1, 1024, 1025))
+    yield from (
+        audit[:30] + wire.audit(first, most)
+        for first in (0, 1, 2**64 - 1)
+        for most in (0, 1, 1024, 1025)
+    )
 
 
 def faulty_blocks():
@@ -347,7 +406,7 @@ def faulty_blocks():
     yield from (good[:at] for at in range(len(good)))
     yield from (zeros[:at] for at in range(16, len(zeros) + 1))
     yield good + b"\0"
-    for lsn in (0, 2 ** 48, 2 ** 48 + 1):
+    for lsn in (0, 2**48, 2**48 + 1):
         yield wire.number(lsn, 8) + good[8:]
     yield good[:10] + b"\0\1\0\0" + good[14:]
     yield good[:10] + b"\0\0\0\0" + good[14:]
@@ -378,5 +437,18 @@ def full_audit_list(trial):
             trial.play(b"")
 
 
-PARTS = (full_windows, three_hundred_blocks, pages, offers, audits, failovers, six_copies, zones_change, rows_that_end,
-         large_blocks, texts_of_tables, faults_of_bodies, full_audit_list)
+PARTS = (
+    full_windows,
+    three_hundred_blocks,
+    pages,
+    offers,
+    audits,
+    failovers,
+    six_copies,
+    zones_change,
+    rows_that_end,
+    large_blocks,
+    texts_of_tables,
+    faults_of_bodies,
+    full_audit_list,
+)

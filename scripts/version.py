@@ -8,7 +8,11 @@ import sys
 ROOT = pathlib.Path(__file__).resolve().parent.parent
 SOURCE = "crates/pl_command/src/options.rt", r'^const VERSION: &str = "(\S+)";$'
 # What says the same.
-ALSO = [("clients/python/src/pagelog/__init__.py", r'^__version__ = "(.*)"$'), ("CHANGELOG.md", r"^## (\d\S*)$")]
+ALSO = [
+    ("crates/pagelog_verify/src/arguments.rt", SOURCE[1]),
+    ("clients/python/src/pagelog/__init__.py", r'^__version__ = "(.*)"$'),
+    ("CHANGELOG.md", r"^## (\d\S*)$"),
+]
 
 
 def found_in(name, pattern):

@@ -8,10 +8,33 @@ import pathlib
 import sys
 
 # The numbers are those of the plain model, which is installed with pagelogctl and needs nothing else of its package.
-sys.path.insert(0, str(pathlib.Path(__file__).resolve().parent.parent / "clients" / "python" / "src"))
+sys.path.insert(
+    0, str(pathlib.Path(__file__).resolve().parent.parent / "clients" / "python" / "src")
+)
 from pagelog_model.wire import (  # noqa: E402, F401
-    ADVANCE, AUDIT, FAILOVER, GET, HAS, LONGEST_BLOCK, OFFER, OPERATOR, OPS, PAGE_BYTES, PAGE_SERVER, PAGES_OF_A_PARTITION,
-    PRIMARY, PULL, REPORT, ROLES, SECONDARY, SET_TABLE, STATUS, TIDY, WRITE, number)
+    ADVANCE,
+    AUDIT,
+    FAILOVER,
+    GET,
+    HAS,
+    LONGEST_BLOCK,
+    OFFER,
+    OPERATOR,
+    OPS,
+    PAGE_BYTES,
+    PAGE_SERVER,
+    PAGES_OF_A_PARTITION,
+    PRIMARY,
+    PULL,
+    REPORT,
+    ROLES,
+    SECONDARY,
+    SET_TABLE,
+    STATUS,
+    TIDY,
+    WRITE,
+    number,
+)
 
 
 def token(principal):
@@ -46,19 +69,28 @@ def frame(body):
 
 def puts_of(size, byte):
     """Puts of about `size` bytes in all, each on a page of its own, from page 0 on."""
-    lengths = [PAGE_BYTES] * (size // PAGE_BYTES) + ([size % PAGE_BYTES] if size % PAGE_BYTES else [])
+    lengths = [PAGE_BYTES] * (size // PAGE_BYTES) + (
+        [size % PAGE_BYTES] if size % PAGE_BYTES else []
+    )
     return [(page, 0, bytes([byte]) * length) for page, length in enumerate(lengths)]
 
 
 def head(principal, role, op, epoch=1, database=0, key=None):
     """The head of a request; the token is the principal's own unless another is given."""
     key = token(principal) if key is None else key
-    return number(principal, 4) + key + bytes([role]) + number(database, 4) + number(epoch, 4) + bytes([op])
+    return (
+        number(principal, 4)
+        + key
+        + bytes([role])
+        + number(database, 4)
+        + number(epoch, 4)
+        + bytes([op])
+    )
 
 
 def to_database(body, database):
     """The body as one to this database; of a body that ends before the number or in it, no byte more."""
-    return body[:21] + number(database, 4)[:len(body[21:25])] + body[25:]
+    return body[:21] + number(database, 4)[: len(body[21:25])] + body[25:]
 
 
 def write(copy, spelled):
@@ -98,8 +130,17 @@ def audit(first, most):
 
 
 # What writes the arguments of an operation, which are taken in the order of the wire.
-WRITERS = {WRITE: write, OFFER: offer, REPORT: report, GET: get, PULL: pull, ADVANCE: advance, FAILOVER: failover,
-           SET_TABLE: set_table, AUDIT: audit}
+WRITERS = {
+    WRITE: write,
+    OFFER: offer,
+    REPORT: report,
+    GET: get,
+    PULL: pull,
+    ADVANCE: advance,
+    FAILOVER: failover,
+    SET_TABLE: set_table,
+    AUDIT: audit,
+}
 WITHOUT_ARGUMENTS = [op for op in OPS if op not in WRITERS]
 # A number above those of the operations.
 NO_OPERATION = max(OPS) + 1
