@@ -32,7 +32,9 @@ KINDS = {
     "write": [cost_cases.write(0, cost_cases.small(BLOCKS + at)) for at in range(1, ASKED + 1)],
     "get": [GET] * ASKED,
     "pull": [PULL] * ASKED,
-    "failover": [cost_cases.operate(cost_cases.FAILOVER, failover(2), epoch) for epoch in range(1, ASKED + 1)],
+    "failover": [
+        cost_cases.operate(cost_cases.FAILOVER, failover(2), epoch) for epoch in range(1, ASKED + 1)
+    ],
 }
 BEFORE = [*cost_cases.hardened(cost_cases.small)(BLOCKS), GET, PULL]
 
@@ -40,9 +42,30 @@ BEFORE = [*cost_cases.hardened(cost_cases.small)(BLOCKS), GET, PULL]
 def counted(asked):
     """How often each function calls which, while a service answers these requests on a log of some blocks."""
     with tempfile.NamedTemporaryFile() as out:
-        words = ["valgrind", "--tool=callgrind", f"--callgrind-out-file={out.name}", "--compress-strings=no", PROGRAM, "serve",
-                 "--listen", "127.0.0.1:0", "--table", CRATE / "data" / "t0.toml", "--primary", 2, "--dbs", 1, "--audit", 4096,
-                 "--workers", 1, "--idle-polls", 0, "--connections", 1]
+        words = [
+            "valgrind",
+            "--tool=callgrind",
+            f"--callgrind-out-file={out.name}",
+            "--compress-strings=no",
+            PROGRAM,
+            "serve",
+            "--listen",
+            "127.0.0.1:0",
+            "--table",
+            CRATE / "data" / "t0.toml",
+            "--primary",
+            2,
+            "--dbs",
+            1,
+            "--audit",
+            4096,
+            "--workers",
+            1,
+            "--idle-polls",
+            0,
+            "--connections",
+            1,
+        ]
         service = Service(words, stderr=subprocess.DEVNULL)
         with service.connect() as client:
             for body in [*BEFORE, *asked]:
@@ -69,7 +92,17 @@ def place(name):
 with ThreadPoolExecutor() as runs:
     nothing, *counts = runs.map(counted, KINDS.values())
 for kind, count in zip([*KINDS][1:], counts):
-    calls = {each: (count[each] - nothing[each]) / ASKED for each in count if count[each] >= nothing[each] + ASKED / 2}
-    calls = [(place(one), place(other), count) for (one, other), count in calls.items() if place(other)]
-    files, crossing = {other[1] for _, other, _ in calls}, sum(count for one, other, count in calls if one and one[0] != other[0])
-    print(f"{kind:9} {sum(count for *_, count in calls):7.0f} calls {len(files):4} files {crossing:7.0f} crossings")
+    calls = {
+        each: (count[each] - nothing[each]) / ASKED
+        for each in count
+        if count[each] >= nothing[each] + ASKED / 2
+    }
+    calls = [
+        (place(one), place(other), count) for (one, other), count in calls.items() if place(other)
+    ]
+    files, crossing = {other[1] for _, other, _ in calls}, sum(
+        count for one, other, count in calls if one and one[0] != other[0]
+    )
+    print(
+        f"{kind:9} {sum(count for *_, count in calls):7.0f} calls {len(files):4} files {crossing:7.0f} crossings"
+    )

@@ -37,7 +37,9 @@ def show(what, calls, figures, step, one):
     beside = f"{wall / step[0]:5.2f} of a step, processor {processor / step[1]:5.2f}"
     if one:
         beside += f"; {one / wall:5.2f} of the calls a second of one thread"
-    print(f"{what:<18} {1e9 / wall:>10.0f} calls/s, {wall:7.1f} ns a call, processor {processor:7.1f} ns: {beside}")
+    print(
+        f"{what:<18} {1e9 / wall:>10.0f} calls/s, {wall:7.1f} ns a call, processor {processor:7.1f} ns: {beside}"
+    )
     return wall
 
 
@@ -50,7 +52,13 @@ def main():
     for way in ("desk", "mutex"):
         one = None
         for threads in THREADS:
-            wall = show(f"{way}, {threads} threads", calls, best(binary, f"{way} {calls} {threads}"), step, one)
+            wall = show(
+                f"{way}, {threads} threads",
+                calls,
+                best(binary, f"{way} {calls} {threads}"),
+                step,
+                one,
+            )
             one = one or wall
 
 

@@ -77,7 +77,9 @@ def put_on(processor, pid):
 def apart(pair, keeper):
     """The client, a keeper with its service, and each PostgreSQL have a processor of their own, as on machines of their own."""
     everywhere = os.sched_getaffinity(0)
-    servers = [int((server.data / "postmaster.pid").read_text().split()[0]) for server in pair.servers]
+    servers = [
+        int((server.data / "postmaster.pid").read_text().split()[0]) for server in pair.servers
+    ]
     for processor, pid in zip(sorted(everywhere), (keeper, *servers)):
         put_on(processor, pid)
     os.sched_setaffinity(0, {max(everywhere)})
@@ -109,7 +111,9 @@ def fill(primary, count, pages=1):
 
 def blocks(first, count, pages=1):
     """Small blocks, each of one page of so many."""
-    return [Block.of(lsn, (Put(lsn % pages, 0, RECORD.data),)) for lsn in range(first, first + count)]
+    return [
+        Block.of(lsn, (Put(lsn % pages, 0, RECORD.data),)) for lsn in range(first, first + count)
+    ]
 
 
 class Alone:
@@ -133,7 +137,9 @@ class PlainCommits:
 
     def __init__(self, url):
         self.session = psycopg.connect(url + "&target_session_attrs=read-write", autocommit=True)
-        self.session.execute("CREATE TABLE IF NOT EXISTS plain (id serial PRIMARY KEY, data bytea NOT NULL)")
+        self.session.execute(
+            "CREATE TABLE IF NOT EXISTS plain (id serial PRIMARY KEY, data bytea NOT NULL)"
+        )
         self.data = Block.of(1, (RECORD,)).data
 
     def commit(self):
@@ -154,7 +160,9 @@ def writers(pair, share, is_apart):
     writer alone; and 64 writers."""
     count = max(100, round(1000 * share))
     plain = PlainCommits(pair.url)
-    with keeping(pair, standby=False) as kept, kept.primary() as primary, contextlib.ExitStack() as placed:
+    with keeping(
+        pair, standby=False
+    ) as kept, kept.primary() as primary, contextlib.ExitStack() as placed:
         pid = kept.processes["a"].pid
         if is_apart:
             placed.enter_context(apart(pair, pid))
@@ -175,21 +183,31 @@ def writers(pair, share, is_apart):
         keeper, client = processor_seconds(pid) - keeper, time.process_time() - client
         ours, theirs, trip = (at(50, times[what]) for what in ("durable", "PostgreSQL", "trip"))
         for what in ("PostgreSQL", "durable"):
-            print(f"commit of one block, {what}: p50 {at(50, times[what]):.2f} ms, p99 {at(99, times[what]):.2f} ms")
-        print(f"durable of PostgreSQL's p50: {ours / theirs:.2f}; without a round trip of {trip:.2f} ms {(ours - trip) / theirs:.2f}; "
-              f"of its p99 {at(99, times['durable']) / at(99, times['PostgreSQL']):.2f}")  # fmt: skip
-        print(f"of a processor a durable commit takes {1e3 * keeper / count:.2f} ms of the keeper's and "
-              f"{1e3 * client / count:.2f} of the client's")  # fmt: skip
+            print(
+                f"commit of one block, {what}: p50 {at(50, times[what]):.2f} ms, p99 {at(99, times[what]):.2f} ms"
+            )
+        print(
+            f"durable of PostgreSQL's p50: {ours / theirs:.2f}; without a round trip of {trip:.2f} ms {(ours - trip) / theirs:.2f}; "
+            f"of its p99 {at(99, times['durable']) / at(99, times['PostgreSQL']):.2f}"
+        )
+        print(
+            f"of a processor a durable commit takes {1e3 * keeper / count:.2f} ms of the keeper's and "
+            f"{1e3 * client / count:.2f} of the client's"
+        )
         many_writers(kept, primary, 1 / statistics.mean(alone), max(3, round(20 * share)))
 
 
 def many_writers(kept, primary, one, count):
     """Threads of one process share a writer, as a group; then as many commits wait at a time, each over a line of its own."""
     group = Group(primary)
-    for what, (rate, times) in (("in a group", rate_of_threads(lambda: group.commit(RECORD), 5 * count)),
-                                ("each with a line", rate_of_lines(primary, count))):  # fmt: skip
-        print(f"{WRITERS} writers {what}: {rate:,.0f} durable commits a second, {rate / one:.1f} times one writer's {one:,.0f}; "
-              f"p50 {at(50, times):.2f} ms, p99 {at(99, times):.2f} ms")  # fmt: skip
+    for what, (rate, times) in (
+        ("in a group", rate_of_threads(lambda: group.commit(RECORD), 5 * count)),
+        ("each with a line", rate_of_lines(primary, count)),
+    ):
+        print(
+            f"{WRITERS} writers {what}: {rate:,.0f} durable commits a second, {rate / one:.1f} times one writer's {one:,.0f}; "
+            f"p50 {at(50, times):.2f} ms, p99 {at(99, times):.2f} ms"
+        )
 
 
 def rate_of_lines(primary, count):
@@ -228,7 +246,9 @@ def rate_of_lines(primary, count):
 def rate_of_threads(commit, count):
     """How many commits a second all threads make, and how long each took."""
     times = []
-    threads = [threading.Thread(target=lambda: times.extend(timed(commit, count))) for _ in range(WRITERS)]
+    threads = [
+        threading.Thread(target=lambda: times.extend(timed(commit, count))) for _ in range(WRITERS)
+    ]
     began = time.perf_counter()
     for thread in threads:
         thread.start()
@@ -259,10 +279,12 @@ def loop(pair, share):
             trips.append(statistics.median(timed(lambda: commit(False), count)))
             primary.durable(primary.end)
     shares = sorted(one / other for one, other in zip(ours, theirs))
-    print(f"one writer in a loop, medians of {rounds} rounds of {count}: durable {1e3 * statistics.median(ours):.3f} ms, PostgreSQL "
-          f"{1e3 * statistics.median(theirs):.3f}, a trip {1e3 * statistics.median(trips):.3f}; durable of PostgreSQL's {statistics.median(shares):.2f} "
-          f"({shares[0]:.2f} to {shares[-1]:.2f}); {1e3 * spent / rounds / count:.3f} ms of the keeper's processor a commit; "
-          f"load {os.getloadavg()[0]:.1f}")  # fmt: skip
+    print(
+        f"one writer in a loop, medians of {rounds} rounds of {count}: durable {1e3 * statistics.median(ours):.3f} ms, PostgreSQL "
+        f"{1e3 * statistics.median(theirs):.3f}, a trip {1e3 * statistics.median(trips):.3f}; durable of PostgreSQL's {statistics.median(shares):.2f} "
+        f"({shares[0]:.2f} to {shares[-1]:.2f}); {1e3 * spent / rounds / count:.3f} ms of the keeper's processor a commit; "
+        f"load {os.getloadavg()[0]:.1f}"
+    )
 
 
 # Many databases.
@@ -274,7 +296,14 @@ class DatabaseWriter:
     """One database, whose commits are begun and waited for apart, over a line of its own."""
 
     def __init__(self, name, options):
-        self.primary = Primary.named(name, keepers=options["keepers"], principal=2, token=token(2), operator=(1, token(1)), patience=service.PATIENCE)
+        self.primary = Primary.named(
+            name,
+            keepers=options["keepers"],
+            principal=2,
+            token=token(2),
+            operator=(1, token(1)),
+            patience=service.PATIENCE,
+        )
         self.primary.append(RECORD)
         self.primary.commit(durable=True)
         place = self.primary.place
@@ -301,8 +330,12 @@ class SessionWriter:
 
     def __init__(self, url, number):
         self.session = psycopg.connect(url + "&target_session_attrs=read-write", autocommit=True)
-        self.session.execute(f"CREATE TABLE IF NOT EXISTS plain{number} (id serial PRIMARY KEY, data bytea NOT NULL)")
-        self.session.pgconn.prepare(b"put", f"INSERT INTO plain{number} (data) VALUES ($1)".encode())
+        self.session.execute(
+            f"CREATE TABLE IF NOT EXISTS plain{number} (id serial PRIMARY KEY, data bytea NOT NULL)"
+        )
+        self.session.pgconn.prepare(
+            b"put", f"INSERT INTO plain{number} (data) VALUES ($1)".encode()
+        )
         self.data = Block.of(1, (RECORD,)).data
         self.fileno = self.session.fileno
 
@@ -345,7 +378,9 @@ def commit_for(writers, seconds):
 
 def writers_of_one_process(words):
     """`kept.py --writers JSON`: told a line, it commits so long, and says how many and how long they took."""
-    made = [DatabaseWriter(name, words) for name in words["names"]] + [SessionWriter(words["url"], number) for number in words["numbers"]]
+    made = [DatabaseWriter(name, words) for name in words["names"]] + [
+        SessionWriter(words["url"], number) for number in words["numbers"]
+    ]
     print("ready", flush=True)
     for line in sys.stdin:
         times = commit_for(made, float(line))
@@ -361,7 +396,9 @@ class Writers:
         self.processes = []
         for each in words:
             command = [sys.executable, "-B", __file__, "--writers", json.dumps(each)]
-            process = subprocess.Popen(command, stdin=subprocess.PIPE, stdout=subprocess.PIPE, text=True)
+            process = subprocess.Popen(
+                command, stdin=subprocess.PIPE, stdout=subprocess.PIPE, text=True
+            )
             stack.callback(process.wait)
             stack.callback(process.stdin.close)
             self.processes.append(process)
@@ -374,7 +411,11 @@ class Writers:
             process.stdin.write(f"{seconds}\n")
             process.stdin.flush()
         told = [json.loads(process.stdout.readline()) for process in self.processes]
-        return sum(count for count, _, _ in told) / seconds, statistics.median(each for _, each, _ in told), max(each for _, _, each in told)
+        return (
+            sum(count for count, _, _ in told) / seconds,
+            statistics.median(each for _, each, _ in told),
+            max(each for _, _, each in told),
+        )
 
 
 def many(pair, share):
@@ -388,17 +429,29 @@ def many_of(pair, count, trail, seconds):
     names = [f"{'trail' if trail else 'many'}{number}of{count}" for number in range(count)]
     options = {"more": f"trail = {trail}\n"} if trail else {}
     with contextlib.ExitStack() as stack:
-        kept = stack.enter_context(Keeping(ttl=5.0, url=pair.url, audit=1 << 24, standby=False, **options))
+        kept = stack.enter_context(
+            Keeping(ttl=5.0, url=pair.url, audit=1 << 24, standby=False, **options)
+        )
         kept.referee.prepare()
         for name in names:
             kept.referee.create(name, kept.table.read_text(), b"s" * 16)
         kept.start("a")
         shares = [list(range(first, count, PROCESSES)) for first in range(min(PROCESSES, count))]
-        ours = Writers(stack, [{"names": [names[at] for at in some], "numbers": [], "keepers": kept.addresses} for some in shares])
-        theirs = Writers(stack, [{"names": [], "numbers": some, "url": pair.url} for some in shares])
+        ours = Writers(
+            stack,
+            [
+                {"names": [names[at] for at in some], "numbers": [], "keepers": kept.addresses}
+                for some in shares
+            ],
+        )
+        theirs = Writers(
+            stack, [{"names": [], "numbers": some, "url": pair.url} for some in shares]
+        )
         ours.rate(0.5), theirs.rate(0.5)
         pid, rounds, spent, made = kept.processes["a"].pid, [], 0.0, 0.0
-        threads, descriptors = len(os.listdir(f"/proc/{pid}/task")), len(os.listdir(f"/proc/{pid}/fd"))
+        threads, descriptors = len(os.listdir(f"/proc/{pid}/task")), len(
+            os.listdir(f"/proc/{pid}/fd")
+        )
         for _ in range(5):
             before = processor_seconds(pid)
             mine = ours.rate(seconds)
@@ -407,11 +460,14 @@ def many_of(pair, count, trail, seconds):
             rounds.append((mine, theirs.rate(seconds)))
         kept.kill("a", signal.SIGKILL)
     shares = sorted(mine[0] / other[0] for mine, other in rounds)
-    print(f"{count} databases{' with a trail' if trail else ''}, a writer each, {len(rounds)} rounds of {seconds:.0f} s: "
-          f"{statistics.median(mine[0] for mine, _ in rounds):,.0f} durable commits a second, PostgreSQL {statistics.median(other[0] for _, other in rounds):,.0f}: "
-          f"{statistics.median(shares):.2f} ({shares[0]:.2f} to {shares[-1]:.2f}); p50 {1e3 * statistics.median(mine[1] for mine, _ in rounds):.2f} and "
-          f"{1e3 * statistics.median(other[1] for _, other in rounds):.2f} ms; {1e3 * spent / made:.3f} ms of the keeper's processor a commit, "
-          f"{threads} threads, {descriptors} descriptors; load {os.getloadavg()[0]:.1f}", flush=True)  # fmt: skip
+    print(
+        f"{count} databases{' with a trail' if trail else ''}, a writer each, {len(rounds)} rounds of {seconds:.0f} s: "
+        f"{statistics.median(mine[0] for mine, _ in rounds):,.0f} durable commits a second, PostgreSQL {statistics.median(other[0] for _, other in rounds):,.0f}: "
+        f"{statistics.median(shares):.2f} ({shares[0]:.2f} to {shares[-1]:.2f}); p50 {1e3 * statistics.median(mine[1] for mine, _ in rounds):.2f} and "
+        f"{1e3 * statistics.median(other[1] for _, other in rounds):.2f} ms; {1e3 * spent / made:.3f} ms of the keeper's processor a commit, "
+        f"{threads} threads, {descriptors} descriptors; load {os.getloadavg()[0]:.1f}",
+        flush=True,
+    )
 
 
 # Archiving.
@@ -431,11 +487,15 @@ def archiving(pair, share):
         primary.durable(primary.end)
         took, spent = time.perf_counter() - began, processor_seconds(pid) - spent
     rate, each = count / took, 1e6 * spent / count
-    print(f"archiving {count:,} blocks behind, keeper: {rate:,.0f} blocks a second, {each:.1f} us of a processor a block, "
-          f"{spent / took:.2f} of a processor")  # fmt: skip
+    print(
+        f"archiving {count:,} blocks behind, keeper: {rate:,.0f} blocks a second, {each:.1f} us of a processor a block, "
+        f"{spent / took:.2f} of a processor"
+    )
     plain_rate, plain_each = plainly_archived(pair, count)
-    print(f"the same by `pagelogctl archive`: {plain_rate:,.0f} blocks a second, {plain_each:.1f} us of a processor a block; "
-          f"the keeper has {rate / plain_rate:.1f} times its rate, with {each / plain_each:.2f} of its processor time")  # fmt: skip
+    print(
+        f"the same by `pagelogctl archive`: {plain_rate:,.0f} blocks a second, {plain_each:.1f} us of a processor a block; "
+        f"the keeper has {rate / plain_rate:.1f} times its rate, with {each / plain_each:.2f} of its processor time"
+    )
 
 
 def plainly_archived(pair, count):
@@ -443,12 +503,28 @@ def plainly_archived(pair, count):
     url = pair.url.replace("/kept", "/plainly")
     pair.leader.run("createdb", "-h", pair.leader.folder, "-U", "pagelog", "plainly")
     with service.Service() as served, served.primary() as primary:
-        words = [sys.executable, "-m", "pagelog", "archive", "--credentials", served.credentials_file(), "--url", url]
+        words = [
+            sys.executable,
+            "-m",
+            "pagelog",
+            "archive",
+            "--credentials",
+            served.credentials_file(),
+            "--url",
+            url,
+        ]
 
         def run():
             began = time.perf_counter()
-            process = subprocess.Popen(list(map(str, words)), env={**os.environ, "PYTHONPATH": str(CLIENT / "src"),
-                                       "PGTARGETSESSIONATTRS": "read-write"}, stdout=subprocess.DEVNULL)  # fmt: skip
+            process = subprocess.Popen(
+                list(map(str, words)),
+                env={
+                    **os.environ,
+                    "PYTHONPATH": str(CLIENT / "src"),
+                    "PGTARGETSESSIONATTRS": "read-write",
+                },
+                stdout=subprocess.DEVNULL,
+            )
             _, status, usage = os.wait4(process.pid, 0)
             assert status == 0, "pagelogctl archive failed"
             return time.perf_counter() - began, usage.ru_utime + usage.ru_stime
@@ -456,7 +532,11 @@ def plainly_archived(pair, count):
         primary.begin()
         nothing = run()
         for first in range(1, count + 1, 1000):
-            list(primary.harden([Block.of(lsn, (RECORD,)) for lsn in range(first, min(count, first + 999) + 1)]))
+            list(
+                primary.harden(
+                    [Block.of(lsn, (RECORD,)) for lsn in range(first, min(count, first + 999) + 1)]
+                )
+            )
         took, spent = (whole - start for whole, start in zip(run(), nothing))
     return count / took, 1e6 * spent / count
 
@@ -468,26 +548,37 @@ def kills(pair, share):
     """From the SIGKILL of a service to the next durable commit of a writer that lives."""
     for count in (pair.blocks,) if pair.blocks else (round(10_000 * share), round(100_000 * share)):
         for standby in (True, False):
-            with keeping(pair, "ab" if standby else "a", standby=standby) as kept, kept.primary() as primary:
+            with keeping(
+                pair, "ab" if standby else "a", standby=standby
+            ) as kept, kept.primary() as primary:
                 fill(primary, count, pair.pages)
                 primary.durable(primary.end)
                 if standby:
-                    eventually(lambda: count in kept.standbys().values(), "a standby with all of it")
+                    eventually(
+                        lambda: count in kept.standbys().values(), "a standby with all of it"
+                    )
                 took = []
                 for number in range(1, 4):
                     if standby:
-                        eventually(lambda: primary.end in kept.standbys().values(), "a standby with all of it")
+                        eventually(
+                            lambda: primary.end in kept.standbys().values(),
+                            "a standby with all of it",
+                        )
                     os.kill(kept.pid(), signal.SIGKILL)
                     primary.append(RECORD)
                     took += timed(lambda: primary.commit(durable=True), 1)
-            print(f"SIGKILL of a service of {count:,} blocks over {pair.pages:,} pages, {'a' if standby else 'no'} standby: durable again after "
-                  f"{', '.join(f'{each:.2f}' for each in took)} s, where the ttl is {TTL} s; load {os.getloadavg()[0]:.1f}")  # fmt: skip
+            print(
+                f"SIGKILL of a service of {count:,} blocks over {pair.pages:,} pages, {'a' if standby else 'no'} standby: durable again after "
+                f"{', '.join(f'{each:.2f}' for each in took)} s, where the ttl is {TTL} s; load {os.getloadavg()[0]:.1f}"
+            )
 
 
 def restore(pair, share):
     """A service is filled from position 1, with no base: the archive is read alone, a service is loaded alone, and both at once."""
     count, rates = pair.blocks or round(300_000 * share), {"read": [], "loaded": [], "both": []}
-    with contextlib.closing(Referee(pair.url, "bench", "life")) as referee, tempfile.TemporaryDirectory() as folder:
+    with contextlib.closing(
+        Referee(pair.url, "bench", "life")
+    ) as referee, tempfile.TemporaryDirectory() as folder:
         referee.prepare()
         row, chain = archived(referee, "restored", count, pair.pages)
         for number in range(3):
@@ -495,7 +586,13 @@ def restore(pair, share):
             pieces = list(pieces_of(referee, row.id, 1, count))
             rates["read"].append(count / (time.perf_counter() - began))
             for what in ("loaded", "both"):
-                served = Served(row.name, f"{what}{number}", service.WIDE_TABLE, b"s" * 16, timeout=service.PATIENCE)
+                served = Served(
+                    row.name,
+                    f"{what}{number}",
+                    service.WIDE_TABLE,
+                    b"s" * 16,
+                    timeout=service.PATIENCE,
+                )
                 served.start(Program(os.environ["PAGELOG"], "127.0.0.1", pathlib.Path(folder)))
                 began = time.perf_counter()
                 if what == "both":
@@ -505,9 +602,14 @@ def restore(pair, share):
                 rates[what].append(count / (time.perf_counter() - began))
                 served.end()
         referee.drop(row.name)
-    print(f"restore of {count:,} blocks from position 1, blocks a second: " + "; ".join(
-        f"{what} {statistics.median(some):,.0f} ({', '.join(f'{each:,.0f}' for each in some)})" for what, some in rates.items())
-        + f"; load {os.getloadavg()[0]:.1f}")  # fmt: skip
+    print(
+        f"restore of {count:,} blocks from position 1, blocks a second: "
+        + "; ".join(
+            f"{what} {statistics.median(some):,.0f} ({', '.join(f'{each:,.0f}' for each in some)})"
+            for what, some in rates.items()
+        )
+        + f"; load {os.getloadavg()[0]:.1f}"
+    )
 
 
 def archived(referee, name, count, pages):
@@ -532,14 +634,18 @@ def switchover(pair, share):
         for durable in (False, True):
             longest, usual = [], []
             for _ in range(max(3, round(15 * share))):
-                eventually(lambda: primary.end in kept.standbys().values(), "a standby with all of it")
+                eventually(
+                    lambda: primary.end in kept.standbys().values(), "a standby with all of it"
+                )
                 own += timed(plain.commit, 20)
                 times = commits_until_elsewhere(kept, primary, durable)
                 longest.append(1000 * max(times))
                 usual += times
-            print(f"switchover, commits {'durable' if durable else 'not durable'}: the longest took {at(50, longest) / 1000:.0f} ms at the median, "
-                  f"{max(longest):.0f} at worst, of {len(longest)}: {', '.join(f'{each:.0f}' for each in sorted(longest))}; p50 of all commits "
-                  f"{at(50, usual):.2f} ms, of PostgreSQL's own {at(50, own):.2f}, load {os.getloadavg()[0]:.1f}")  # fmt: skip
+            print(
+                f"switchover, commits {'durable' if durable else 'not durable'}: the longest took {at(50, longest) / 1000:.0f} ms at the median, "
+                f"{max(longest):.0f} at worst, of {len(longest)}: {', '.join(f'{each:.0f}' for each in sorted(longest))}; p50 of all commits "
+                f"{at(50, usual):.2f} ms, of PostgreSQL's own {at(50, own):.2f}, load {os.getloadavg()[0]:.1f}"
+            )
 
 
 def commits_until_elsewhere(kept, primary, durable):
@@ -565,18 +671,34 @@ def idle(pair, share):
         for number in range(count):
             kept.referee.create(f"idle{number}", kept.table.read_text(), b"s" * 16)
         kept.start("a")
-        eventually(lambda: all(row.address for row in kept.referee.everything().rows if not row.dropped), "all of them")
+        eventually(
+            lambda: all(row.address for row in kept.referee.everything().rows if not row.dropped),
+            "all of them",
+        )
         pid = kept.processes["a"].pid
         time.sleep(2 * kept.ttl)  # the connection that archives is closed by then
         spent = processor_seconds(pid)
         time.sleep(period)
         spent = processor_seconds(pid) - spent
         with psycopg.connect(pair.url + "&target_session_attrs=read-write") as session:
-            [sessions] = session.execute("SELECT count(*) FROM pg_stat_activity WHERE application_name = 'pagelog keeper a'").fetchone()
-    print(f"{count} idle databases: {100 * spent / period:.1f} % of a processor, {sessions} connections to PostgreSQL")
+            [sessions] = session.execute(
+                "SELECT count(*) FROM pg_stat_activity WHERE application_name = 'pagelog keeper a'"
+            ).fetchone()
+    print(
+        f"{count} idle databases: {100 * spent / period:.1f} % of a processor, {sessions} connections to PostgreSQL"
+    )
 
 
-PARTS = {"commits": commits, "loop": loop, "many": many, "archiving": archiving, "kills": kills, "restore": restore, "switchover": switchover, "idle": idle}
+PARTS = {
+    "commits": commits,
+    "loop": loop,
+    "many": many,
+    "archiving": archiving,
+    "kills": kills,
+    "restore": restore,
+    "switchover": switchover,
+    "idle": idle,
+}
 
 
 def main():
@@ -585,7 +707,12 @@ def main():
     parser = argparse.ArgumentParser()
     parser.add_argument("parts", nargs="*", metavar="PART", help=", ".join(PARTS))
     parser.add_argument("--share", type=float, default=1.0, help="of the work of a whole run")
-    parser.add_argument("--blocks", type=int, default=0, help="of kills and restore, as 1000000 [default: 10,000 and 100,000; 300,000]")
+    parser.add_argument(
+        "--blocks",
+        type=int,
+        default=0,
+        help="of kills and restore, as 1000000 [default: 10,000 and 100,000; 300,000]",
+    )
     parser.add_argument("--pages", type=int, default=1, help="that these blocks change, by turns")
     parser.add_argument("--alone", action="store_true", help="one PostgreSQL, without a standby")
     words = parser.parse_args()
@@ -596,7 +723,9 @@ def main():
     pair = Alone() if words.alone else Pair()
     pair.blocks, pair.pages = words.blocks, words.pages
     try:
-        print(f"PostgreSQL {'without' if words.alone else 'with'} a synchronous standby on this machine; load {os.getloadavg()[0]:.1f} of {os.cpu_count()} processors")
+        print(
+            f"PostgreSQL {'without' if words.alone else 'with'} a synchronous standby on this machine; load {os.getloadavg()[0]:.1f} of {os.cpu_count()} processors"
+        )
         for name in words.parts or PARTS:
             PARTS[name](pair, words.share)
         print(f"load {os.getloadavg()[0]:.1f}")

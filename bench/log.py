@@ -43,7 +43,9 @@ class Program:
     """The program, asked line by line."""
 
     def __init__(self, path):
-        self.child = subprocess.Popen([path], stdin=subprocess.PIPE, stdout=subprocess.PIPE, text=True)
+        self.child = subprocess.Popen(
+            [path], stdin=subprocess.PIPE, stdout=subprocess.PIPE, text=True
+        )
 
     def ask(self, *words):
         self.child.stdin.write(" ".join(map(str, words)) + "\n")
@@ -74,9 +76,15 @@ def rows(program, case, blocks):
     old = blocks - 300
     if old > 64:
         step = max(16, old // 1000)
-        yield "pull of 16 out of the segments, cold", pulls(program, case, 1, step, 0, 65535, old // step)
-        yield "pull of 16 out of the segments, cached", pulls(program, case, old // 2, 0, 0, 65535, 20000)
-    yield "pull of a partition that one in 1,000 touches", pulls(program, case, 1, 0, 1, 1, max(20, 20_000_000 // blocks // 16))
+        yield "pull of 16 out of the segments, cold", pulls(
+            program, case, 1, step, 0, 65535, old // step
+        )
+        yield "pull of 16 out of the segments, cached", pulls(
+            program, case, old // 2, 0, 0, 65535, 20000
+        )
+    yield "pull of a partition that one in 1,000 touches", pulls(
+        program, case, 1, 0, 1, 1, max(20, 20_000_000 // blocks // 16)
+    )
 
 
 def empty(path):
@@ -91,34 +99,55 @@ def measure(path, blocks, length):
     program = Program(path)
     fill, _ = program.ask("fill", blocks, length)
     peak = program.end() - empty(path)
-    print(f"  {'memory for each hardened block':<50} {peak / blocks:10.0f} bytes, spelled in {spelled(length)}")
+    print(
+        f"  {'memory for each hardened block':<50} {peak / blocks:10.0f} bytes, spelled in {spelled(length)}"
+    )
     print(f"  {'made, written twice and reported':<50} {fill / blocks:10.0f} ns")
     program, plain = Program(path), Program(path)
     program.ask("fill", blocks, length)
     plain.ask("plain-fill", blocks, length)
     beside = dict(rows(plain, "plain-pull", blocks))
     for name, (nanos, served) in rows(program, "pull", blocks):
-        print(f"  {name:<50} {nanos:10.0f} ns   list {beside[name][0]:10.0f} ns   {served:.0f} blocks")
+        print(
+            f"  {name:<50} {nanos:10.0f} ns   list {beside[name][0]:10.0f} ns   {served:.0f} blocks"
+        )
     laps = 200 if length < 1000 else 20
     writes, reports = program.ask("windows", laps, length)
-    print(f"  {'a write to one copy':<50} {writes / laps / 128:10.0f} ns   (with half of making the block)")
+    print(
+        f"  {'a write to one copy':<50} {writes / laps / 128:10.0f} ns   (with half of making the block)"
+    )
     print(f"  {'a report of 64':<50} {reports / laps:10.0f} ns")
     _, reports = program.ask("reports", laps, length)
     print(f"  {'a report of one':<50} {reports / laps / 64:10.0f} ns")
     nanos, moved = program.ask("tidy")
-    print(f"  {'a tidy, for each block that it moves':<50} {nanos / max(1, moved):10.0f} ns   {moved} blocks")
+    print(
+        f"  {'a tidy, for each block that it moves':<50} {nanos / max(1, moved):10.0f} ns   {moved} blocks"
+    )
     program.end()
-    print(f"  {'memory of the list for each block':<50} {(plain.end() - empty(path)) / blocks:10.0f} bytes")
+    print(
+        f"  {'memory of the list for each block':<50} {(plain.end() - empty(path)) / blocks:10.0f} bytes"
+    )
 
 
 # Of each mix: its number in the program, and the ranges of partitions that are pulled, by name.
 MIXES = {
-    "one block in 1,000 touches partition 1, all others 0": (0, {
-        "common": (0, 0), "one in 1,000": (1, 1), "none": (9, 9), "none, wide": (2, 65535)}),
-    "each block touches another partition": (1, {
-        "one in 65,536": (7, 7), "one in 1,024": (64, 127), "one in 16": (0, 4095), "all": (0, 65535)}),
-    "each block touches two far apart": (2, {
-        "one in 50": (7, 7), "none": (30000, 30000), "none, wide": (50, 65485), "all": (0, 65535)}),
+    "one block in 1,000 touches partition 1, all others 0": (
+        0,
+        {"common": (0, 0), "one in 1,000": (1, 1), "none": (9, 9), "none, wide": (2, 65535)},
+    ),
+    "each block touches another partition": (
+        1,
+        {
+            "one in 65,536": (7, 7),
+            "one in 1,024": (64, 127),
+            "one in 16": (0, 4095),
+            "all": (0, 65535),
+        },
+    ),
+    "each block touches two far apart": (
+        2,
+        {"one in 50": (7, 7), "none": (30000, 30000), "none, wide": (50, 65485), "all": (0, 65535)},
+    ),
 }
 
 
@@ -132,7 +161,10 @@ def sparse(path, blocks):
         print(f"{blocks} blocks, {name}: the newest 16 in {newest:.0f} ns")
         for what, (lo, hi) in ranges.items():
             nanos, served = pulls(program, "pull", 1, 0, lo, hi, 200)
-            print(f"  {what:<20} {nanos:10.0f} ns   {nanos / newest:6.1f} times   {served:.0f} blocks", flush=True)
+            print(
+                f"  {what:<20} {nanos:10.0f} ns   {nanos / newest:6.1f} times   {served:.0f} blocks",
+                flush=True,
+            )
         program.end()
 
 
@@ -173,16 +205,25 @@ def bytes_of_place(path, copies, quorum, full):
 
 def compare_zones(paths):
     """The lines of both zones, for each program, and its times beside those of three copies in the last program."""
-    keys = [(where, zone) for zone, numbers in ZONES.items() for where, path in paths.items() if has_zone(path, *numbers)]
+    keys = [
+        (where, zone)
+        for zone, numbers in ZONES.items()
+        for where, path in paths.items()
+        if has_zone(path, *numbers)
+    ]
     times = rounds.in_turn(ROUNDS, keys, lambda key: times_of_zone(paths[key[0]], *ZONES[key[1]]))
     base = list(paths)[-1]
     beside = list(zip(*times[base, next(iter(ZONES))]))
     print(f"medians of {ROUNDS} rounds; ratios beside three copies {base}")
     for where, zone in keys:
-        cells = (f"{name} {statistics.median(own):.1f} ns, {rounds.ratio(own, other)}"
-                 for name, own, other in zip(TIMES, zip(*times[where, zone]), beside))
+        cells = (
+            f"{name} {statistics.median(own):.1f} ns, {rounds.ratio(own, other)}"
+            for name, own, other in zip(TIMES, zip(*times[where, zone]), beside)
+        )
         room, held = (bytes_of_place(paths[where], *ZONES[zone], full) for full in (0, 1))
-        print(f"{zone:<26}{where:<8}{'; '.join(cells)}; a place of a window {room:.1f} bytes, with a shared block {held:.1f}")
+        print(
+            f"{zone:<26}{where:<8}{'; '.join(cells)}; a place of a window {room:.1f} bytes, with a shared block {held:.1f}"
+        )
 
 
 def main():

@@ -24,15 +24,33 @@ HELD, WRITTEN = 10_000, int(20_000 * SHARE)
 def kinds():
     """Each kind of request: its name, its connections, and the frames that each of them sends."""
     drawn = random.Random(2)
-    writes = [frame for lsn in range(HELD + 1, HELD + 1 + WRITTEN)
-              for frame in (*in_copies(small_block, lsn), primary(wire.REPORT, wire.report(lsn)))]
+    writes = [
+        frame
+        for lsn in range(HELD + 1, HELD + 1 + WRITTEN)
+        for frame in (*in_copies(small_block, lsn), primary(wire.REPORT, wire.report(lsn)))
+    ]
     return (
         ("write", 1, writes),
-        ("pull", 20, [reader(wire.PULL, wire.pull(0, 65535, drawn.randrange(1, HELD), 1)) for _ in range(1000)]),
-        ("get_applied", 20, [get(drawn.randrange(1000), drawn.randrange(1, HELD // 2), 0) for _ in range(1000)]),
+        (
+            "pull",
+            20,
+            [
+                reader(wire.PULL, wire.pull(0, 65535, drawn.randrange(1, HELD), 1))
+                for _ in range(1000)
+            ],
+        ),
+        (
+            "get_applied",
+            20,
+            [get(drawn.randrange(1000), drawn.randrange(1, HELD // 2), 0) for _ in range(1000)],
+        ),
         ("get_exact", 20, [get(drawn.randrange(1000), HELD, 1) for _ in range(1000)]),
         ("status", 2, [reader(wire.STATUS, b"")]),
-        ("advance", 1, [wire.frame(wire.head(4, wire.PAGE_SERVER, wire.ADVANCE) + wire.advance(0, 64))]),
+        (
+            "advance",
+            1,
+            [wire.frame(wire.head(4, wire.PAGE_SERVER, wire.ADVANCE) + wire.advance(0, 64))],
+        ),
     )
 
 
@@ -60,7 +78,9 @@ class Load:
 
     def of_echo(self):
         reply = 4 + 8
-        bare = subprocess.Popen([str(self.frames), "echo", str(reply)], stdout=subprocess.PIPE, text=True)
+        bare = subprocess.Popen(
+            [str(self.frames), "echo", str(reply)], stdout=subprocess.PIPE, text=True
+        )
         try:
             return self.delays(int(bare.stdout.readline()))
         finally:
@@ -71,7 +91,10 @@ class Load:
 def medians(rounds):
     """Of each kind of request its name, and the median of each of its numbers."""
     for lines in zip(*rounds):
-        yield [lines[0][0], *(statistics.median(map(float, column)) for column in list(zip(*lines))[1:])]
+        yield [
+            lines[0][0],
+            *(statistics.median(map(float, column)) for column in list(zip(*lines))[1:]),
+        ]
 
 
 def measure(frames, work, workers):
@@ -84,8 +107,14 @@ def measure(frames, work, workers):
         plain.append(load.of_echo())
     heads = ("replies", "served", "50th", "99th", "99.9th", "longest", "99.9/50")
     for count, found in rounds.items():
-        print(f"{f'mixed, {count} workers':18}" + "".join(f"{head:>10}" for head in heads) + "   echo: 50th, 99th, 99.9th, longest")
+        print(
+            f"{f'mixed, {count} workers':18}"
+            + "".join(f"{head:>10}" for head in heads)
+            + "   echo: 50th, 99th, 99.9th, longest"
+        )
         for own, other in zip(medians(found), medians(plain)):
             name, *numbers = own
-            cells = "".join(f"{cell:10.0f}" for cell in numbers) + f"{numbers[4] / numbers[2]:10.1f}"
+            cells = (
+                "".join(f"{cell:10.0f}" for cell in numbers) + f"{numbers[4] / numbers[2]:10.1f}"
+            )
             print(f"{name:18}{cells}   " + " ".join(f"{it:9.0f}" for it in other[3:]), flush=True)

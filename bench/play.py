@@ -103,8 +103,12 @@ def run(command, source, output=os.devnull):
     """Wall seconds, processor seconds and the peak of memory in MiB."""
     with open(source, "rb") as stdin, open(output, "wb") as stdout:
         start = time.perf_counter()
-        child = subprocess.Popen([str(word) for word in command] if isinstance(command, list) else command,
-                                 stdin=stdin, stdout=stdout, shell=isinstance(command, str))
+        child = subprocess.Popen(
+            [str(word) for word in command] if isinstance(command, list) else command,
+            stdin=stdin,
+            stdout=stdout,
+            shell=isinstance(command, str),
+        )
         _, status, usage = os.wait4(child.pid, 0)
         wall = time.perf_counter() - start
     if status != 0:
@@ -128,13 +132,19 @@ def blocks(count, sizes):
         for part in (count // 8, count // 4, count // 2, count):
             written(source, itertools.islice(bodies(size, rounds), part))
             wall, _, peak = run(PLAY, source)
-            print(f"  play, {part:>7} lines: {wall:7.3f} s, {part / wall:>9.0f} lines/s, "
-                  f"{wall / part * 1e6:6.2f} us a line, peak {peak:6.1f} MiB")
+            print(
+                f"  play, {part:>7} lines: {wall:7.3f} s, {part / wall:>9.0f} lines/s, "
+                f"{wall / part * 1e6:6.2f} us a line, peak {peak:6.1f} MiB"
+            )
         text = source.stat().st_size / 2**20
-        for name, command in (("python3 binascii, line by line", [sys.executable, "-c", HEX_LINES]),
-                              ("xxd -r -p | xxd -p", "xxd -r -p | xxd -p")):
+        for name, command in (
+            ("python3 binascii, line by line", [sys.executable, "-c", HEX_LINES]),
+            ("xxd -r -p | xxd -p", "xxd -r -p | xxd -p"),
+        ):
             plain, _, peak = run(command, source)
-            print(f"  {name}, {text:.0f} MiB of text: {plain:7.3f} s; play took {wall / plain:.2f} times that")
+            print(
+                f"  {name}, {text:.0f} MiB of text: {plain:7.3f} s; play took {wall / plain:.2f} times that"
+            )
         source.unlink()
 
 
@@ -143,9 +153,13 @@ def pages(count):
     for hard in (100, 1_000, 10_000):
         print(f"{count} gets of four pages, over a log of {hard} blocks")
         before, _, _ = run(PLAY, written(source, log_of(hard)))
-        wall, _, peak = run(PLAY, written(source, itertools.chain(log_of(hard), reads_of(count, hard))), output)
-        print(f"  play: {wall - before:7.3f} s after the {before:.3f} s of the log, "
-              f"{(wall - before) / count * 1e6:7.2f} us a get, peak {peak:6.1f} MiB")
+        wall, _, peak = run(
+            PLAY, written(source, itertools.chain(log_of(hard), reads_of(count, hard))), output
+        )
+        print(
+            f"  play: {wall - before:7.3f} s after the {before:.3f} s of the log, "
+            f"{(wall - before) / count * 1e6:7.2f} us a get, peak {peak:6.1f} MiB"
+        )
         beside_copies("play", wall - before, wire.PAGE_BYTES, count, output)
     source.unlink()
     output.unlink()
@@ -162,7 +176,9 @@ def audits(count, asked=1_000):
         print(f"  {entries:>7} statuses: {wall:7.3f} s, peak {peak:6.1f} MiB")
         walls.append(wall)
         peaks.append(peak)
-    print(f"  {(peaks[2] - peaks[1]) * 2**20 / (2 * count):.0f} bytes an entry, with the room that the list keeps")
+    print(
+        f"  {(peaks[2] - peaks[1]) * 2**20 / (2 * count):.0f} bytes an entry, with the room that the list keeps"
+    )
     lines = itertools.chain(itertools.repeat(status, count), itertools.repeat(audit, asked))
     wall, _, _ = run(PLAY, written(source, lines), output)
     print(f"  play: {wall - walls[0]:7.3f} s, {(wall - walls[0]) / asked * 1e6:7.2f} us an audit")

@@ -16,7 +16,9 @@ ROOT = pathlib.Path(__file__).resolve().parent.parent
 
 def pagelog():
     """The program, as scripts/pagelog proves and builds it, or the one that PAGELOG names."""
-    found = pathlib.Path(os.environ.get("PAGELOG") or ROOT / "crates" / "pagelog" / "out" / "pagelog")
+    found = pathlib.Path(
+        os.environ.get("PAGELOG") or ROOT / "crates" / "pagelog" / "out" / "pagelog"
+    )
     if not found.exists():
         sys.exit(f"bench: no program {found}: `scripts/pagelog --help` proves and builds it")
     return found
@@ -37,7 +39,11 @@ def below(names, lines):
 def files_of(folder, is_older):
     """The files of a program by their places, and for older crates those of its folder `older` in the place of the same ones."""
     older = folder / "older"
-    files = {file.relative_to(folder): file for file in folder.rglob("*.txt") if older not in file.parents}
+    files = {
+        file.relative_to(folder): file
+        for file in folder.rglob("*.txt")
+        if older not in file.parents
+    }
     if is_older:
         files |= {file.relative_to(older): file for file in older.rglob("*.txt")}
     return files
@@ -61,7 +67,11 @@ def program(name, libraries, root=ROOT, is_older=False):
     shutil.rmtree(tree, ignore_errors=True)
     used = [name for name in lines if name in below(libraries.split(), lines)]
     for one in used:
-        shutil.copytree(root / "crates" / one, tree / "crates" / one, ignore=shutil.ignore_patterns("incremental"))
+        shutil.copytree(
+            root / "crates" / one,
+            tree / "crates" / one,
+            ignore=shutil.ignore_patterns("incremental"),
+        )
     for place, file in files_of(ROOT / "bench" / name, is_older).items():
         to = tree / "crates" / crate / place.with_suffix("")
         to.parent.mkdir(parents=True, exist_ok=True)
@@ -69,10 +79,17 @@ def program(name, libraries, root=ROOT, is_older=False):
     if aside.exists():
         aside.rename(kept)
     shutil.copy(root / "HANDLES", tree)
-    (tree / "crates.txt").write_text("".join(f"{one}:{lines[one]}\n" for one in used) + f"{crate}: {libraries}\n")
+    (tree / "crates.txt").write_text(
+        "".join(f"{one}:{lines[one]}\n" for one in used) + f"{crate}: {libraries}\n"
+    )
     subprocess.run(["git", "init", "-q", tree], check=True)
-    built = subprocess.run(["rt", "run", "--jobs", "2"], cwd=kept.parent, stdin=subprocess.DEVNULL, capture_output=True,
-                           text=True)
+    built = subprocess.run(
+        ["rt", "run", "--jobs", "2"],
+        cwd=kept.parent,
+        stdin=subprocess.DEVNULL,
+        capture_output=True,
+        text=True,
+    )
     binary = kept / crate
     # What an earlier build left there is not what this one was asked for.
     if f"rt: running out/{crate};" not in built.stdout + built.stderr or not binary.exists():

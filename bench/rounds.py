@@ -15,5 +15,7 @@ def in_turn(count, cases, run):
 def ratio(above, below):
     """The ratio of two times of each round: its median, and the half of the rounds around it."""
     values = [over / under for over, under in zip(above, below)]
-    low, middle, high = statistics.quantiles(values, method="inclusive") if len(values) > 1 else values * 3
+    low, middle, high = (
+        statistics.quantiles(values, method="inclusive") if len(values) > 1 else values * 3
+    )
     return f"{middle:.2f} ({low:.2f} to {high:.2f})"

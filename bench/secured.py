@@ -42,7 +42,12 @@ listen tls
   bind 127.0.0.1:{tls} ssl crt {folder}/both.pem ssl-min-ver TLSv1.3
   server one {service}
 """
-CASES = {"status, 1 connection": ("status", 1), "status, 64 connections": ("status", 64), "pages, 64 in flight on 1": ("get", 1), "pages, on 64": ("get", 64)}
+CASES = {
+    "status, 1 connection": ("status", 1),
+    "status, 64 connections": ("status", 64),
+    "pages, 64 in flight on 1": ("get", 1),
+    "pages, on 64": ("get", 64),
+}
 INSERTS, MILLISECONDS = 400, 700
 
 
@@ -54,7 +59,16 @@ def free_port() -> int:
 def built(folder: Path) -> Path:
     subprocess.run(["make", "-s", "-C", CLIENT, "pagelog_vfs.so", "static"], check=True)
     program = folder / "secured"
-    words = ["gcc", "-std=c11", "-D_GNU_SOURCE", "-O2", "-o", program, ROOT / "bench" / "secured.c", CLIENT / "out" / "libpagelog.a"]
+    words = [
+        "gcc",
+        "-std=c11",
+        "-D_GNU_SOURCE",
+        "-O2",
+        "-o",
+        program,
+        ROOT / "bench" / "secured.c",
+        CLIENT / "out" / "libpagelog.a",
+    ]
     subprocess.run([*words, "-lssl", "-lcrypto", "-lsqlite3"], check=True)
     return program
 
@@ -62,7 +76,9 @@ def built(folder: Path) -> Path:
 def requests(program: Path, address: str, kind: str, count: int, ca: str | None) -> float:
     """Seconds that a request took: the median of one connection, else one over the rate."""
     words = [program, address, kind, count, MILLISECONDS, *([ca] if ca else [])]
-    said = subprocess.run(list(map(str, words)), check=True, capture_output=True, text=True).stdout.split()
+    said = subprocess.run(
+        list(map(str, words)), check=True, capture_output=True, text=True
+    ).stdout.split()
     return int(said[0]) / 1e9 if (kind, count) == ("status", 1) else 1 / float(said[1])
 
 
@@ -79,7 +95,9 @@ def inserts(address: str, level: str, ca: str | None) -> float:
 def commits(address: str, ca: str | None) -> float:
     trust = pagelog.Trust(ca) if ca else None
     with pagelog.Operator.at(address, 1, "1" * 32, 1, trust=trust) as operator:
-        writer = pagelog.Primary.take_over(pagelog.Connection(address, trust=trust), pagelog.Credentials.of(2, "2" * 32), operator)
+        writer = pagelog.Primary.take_over(
+            pagelog.Connection(address, trust=trust), pagelog.Credentials.of(2, "2" * 32), operator
+        )
         with writer:
             return timed(lambda: (writer.append(pagelog.Put(5, 0, b"hello")), writer.commit()))
 
@@ -99,19 +117,52 @@ def main() -> None:
         folder = Path(name)
         program, authority = built(folder), Authority(folder)
         good = authority.make("good")
-        (folder / "both.pem").write_text(Path(f"{good}.pem").read_text() + Path(f"{good}.key").read_text())
+        (folder / "both.pem").write_text(
+            Path(f"{good}.pem").read_text() + Path(f"{good}.key").read_text()
+        )
         loader = sqlite3.connect(":memory:")
         loader.enable_load_extension(True)
         loader.load_extension(str(CLIENT / "pagelog_vfs"))
-        words = [PROGRAM, "serve", "--listen", "127.0.0.1:0", "--table", CLIENT / "table.toml", "--primary", 2, "--dbs", 2, "--workers", 4,
-                 "--connections", 1 << 30, "--audit", 1 << 24]  # fmt: skip
+        words = [
+            PROGRAM,
+            "serve",
+            "--listen",
+            "127.0.0.1:0",
+            "--table",
+            CLIENT / "table.toml",
+            "--primary",
+            2,
+            "--dbs",
+            2,
+            "--workers",
+            4,
+            "--connections",
+            1 << 30,
+            "--audit",
+            1 << 24,
+        ]
         service = subprocess.Popen(list(map(str, words)), stdout=subprocess.PIPE, text=True)
         assert service.stdout is not None
-        plain, ports = service.stdout.readline().split()[1], {"relay": free_port(), "tls": free_port()}
-        (folder / "haproxy.cfg").write_text(CONFIGURATION.format(service=plain, folder=folder, **ports))
+        plain, ports = service.stdout.readline().split()[1], {
+            "relay": free_port(),
+            "tls": free_port(),
+        }
+        (folder / "haproxy.cfg").write_text(
+            CONFIGURATION.format(service=plain, folder=folder, **ports)
+        )
         front = subprocess.Popen(["haproxy", "-q", "-f", str(folder / "haproxy.cfg")])
         try:
-            measure(count, program, {"plain": (plain, None), **{way: (f"127.0.0.1:{port}", authority / "ca.pem" if way == "tls" else None) for way, port in ports.items()}})
+            measure(
+                count,
+                program,
+                {
+                    "plain": (plain, None),
+                    **{
+                        way: (f"127.0.0.1:{port}", authority / "ca.pem" if way == "tls" else None)
+                        for way, port in ports.items()
+                    },
+                },
+            )
         finally:
             front.kill(), service.kill()
             front.wait(), service.wait()
@@ -121,20 +172,33 @@ def measure(count: int, program: Path, ways: dict[str, tuple[str, str | None]]) 
     for address, _ in ways.values():  # each of them listens
         while True:
             try:
-                socket.create_connection((address.rsplit(":", 1)[0], int(address.rsplit(":", 1)[1]))).close()
+                socket.create_connection(
+                    (address.rsplit(":", 1)[0], int(address.rsplit(":", 1)[1]))
+                ).close()
                 break
             except OSError:
                 time.sleep(0.01)
     inserts(ways["plain"][0], "full", None)  # there are pages
     print(f"load {os.getloadavg()[0]:.0f}, {count} rounds")
     print(f"{'':28}{'plain, us':>10}{'relay':>8}{'TLS':>8}   (times plain's)")
-    kinds = {what: lambda way, case=case: requests(program, ways[way][0], *case, ways[way][1]) for what, case in CASES.items()}
+    kinds = {
+        what: lambda way, case=case: requests(program, ways[way][0], *case, ways[way][1])
+        for what, case in CASES.items()
+    }
     for level in ("normal", "full"):
-        kinds[f"SQLite, an insert, {level}"] = lambda way, level=level: inserts(ways[way][0], level, ways[way][1])
+        kinds[f"SQLite, an insert, {level}"] = lambda way, level=level: inserts(
+            ways[way][0], level, ways[way][1]
+        )
     kinds["Python, a commit"] = lambda way: commits(ways[way][0], ways[way][1])
     for what, run in kinds.items():
-        found = {way: statistics.median(times) for way, times in in_turn(count, list(ways), run).items()}
-        print(f"{what:28}{1e6 * found['plain']:10.1f}" + "".join(f"{found[way] / found['plain']:8.2f}" for way in ("relay", "tls")), flush=True)
+        found = {
+            way: statistics.median(times) for way, times in in_turn(count, list(ways), run).items()
+        }
+        print(
+            f"{what:28}{1e6 * found['plain']:10.1f}"
+            + "".join(f"{found[way] / found['plain']:8.2f}" for way in ("relay", "tls")),
+            flush=True,
+        )
     print(f"load {os.getloadavg()[0]:.0f}")
 
 

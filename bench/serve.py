@@ -51,7 +51,14 @@ from serving import SHARE, about, build_frames, port_of, primary, reader, wire, 
 ROUNDS = 25
 WORKERS = (2, 4, 64)
 # Connections that ask, all connections, requests in flight on each, and requests of each connection in a round.
-SHAPES = ((1, 1, 1, 4000), (8, 8, 1, 2000), (64, 64, 1, 400), (64, 1000, 1, 400), (64, 10000, 1, 400), (1, 1, 64, 20000))
+SHAPES = (
+    (1, 1, 1, 4000),
+    (8, 8, 1, 2000),
+    (64, 64, 1, 400),
+    (64, 1000, 1, 400),
+    (64, 10000, 1, 400),
+    (1, 1, 64, 20000),
+)
 # How many descriptors a server and a client have beside their connections.
 OTHERS = 100
 TICKS = os.sysconf("SC_CLK_TCK")
@@ -62,15 +69,25 @@ def hundred_bytes(lsn):
 
 
 # What is asked before the timed requests: one hardened block, and a table of one row for each role.
-SETUP = [primary(wire.WRITE, wire.write(copy, hundred_bytes(1))) for copy in (0, 1)] + [primary(wire.REPORT, wire.report(1))]
+SETUP = [primary(wire.WRITE, wire.write(copy, hundred_bytes(1))) for copy in (0, 1)] + [
+    primary(wire.REPORT, wire.report(1))
+]
 
 # The name, the request, the bytes of its reply, and what redis is asked beside it.
 CASES = (
-    ("100-byte write", primary(wire.WRITE, wire.write(0, hundred_bytes(2))), 5,
-     ["XADD", "s", "MAXLEN", "~", "10000", "*", "f", "v" * 100]),
+    (
+        "100-byte write",
+        primary(wire.WRITE, wire.write(0, hundred_bytes(2))),
+        5,
+        ["XADD", "s", "MAXLEN", "~", "10000", "*", "f", "v" * 100],
+    ),
     ("report", primary(wire.REPORT, wire.report(1)), 5, None),
-    ("pull of one block", reader(wire.PULL, wire.pull(0, 65535, 1, 1)), 4 + 1 + 8 + 2 + 4 + len(hundred_bytes(1)),
-     ["XRANGE", "s", "-", "+", "COUNT", "1"]),
+    (
+        "pull of one block",
+        reader(wire.PULL, wire.pull(0, 65535, 1, 1)),
+        4 + 1 + 8 + 2 + 4 + len(hundred_bytes(1)),
+        ["XRANGE", "s", "-", "+", "COUNT", "1"],
+    ),
     ("get of a page", reader(wire.GET, wire.get(0, 1, 1)), 4 + 1 + 8 + 8192, ["GET", "page"]),
 )
 
@@ -85,8 +102,12 @@ class Running:
     """A server that is ended with this program's leave alone."""
 
     def __init__(self, words, port=None):
-        self.process = subprocess.Popen([str(word) for word in words], stdout=subprocess.PIPE, stderr=subprocess.DEVNULL,
-                                        text=True)
+        self.process = subprocess.Popen(
+            [str(word) for word in words],
+            stdout=subprocess.PIPE,
+            stderr=subprocess.DEVNULL,
+            text=True,
+        )
         self.port = port
 
     def seconds(self):
@@ -125,7 +146,10 @@ def echo(reply, *how):
 
 def redis():
     port = free_port()
-    running = Running(["redis-server", "--port", port, "--bind", "127.0.0.1", "--save", "", "--appendonly", "no"], port)
+    running = Running(
+        ["redis-server", "--port", port, "--bind", "127.0.0.1", "--save", "", "--appendonly", "no"],
+        port,
+    )
     for _ in range(100):
         try:
             first_bytes(port, spelled(["SET", "page", "p" * 8192]))
@@ -138,7 +162,9 @@ def redis():
 
 def spelled(words):
     """A command as redis reads it."""
-    return f"*{len(words)}\r\n".encode() + b"".join(f"${len(word)}\r\n{word}\r\n".encode() for word in words)
+    return f"*{len(words)}\r\n".encode() + b"".join(
+        f"${len(word)}\r\n{word}\r\n".encode() for word in words
+    )
 
 
 def first_bytes(port, request):
@@ -188,7 +214,13 @@ def silent(port, count, request, reply):
     """Has `count` connections ask once, and keeps them. Whether the server served all of them."""
     with written(request) as file:
         words = [str(word) for word in (FRAMES, "silent", port, count, reply, file)]
-        holder = subprocess.Popen(words, stdin=subprocess.PIPE, stdout=subprocess.PIPE, stderr=subprocess.DEVNULL, text=True)
+        holder = subprocess.Popen(
+            words,
+            stdin=subprocess.PIPE,
+            stdout=subprocess.PIPE,
+            stderr=subprocess.DEVNULL,
+            text=True,
+        )
         try:
             yield bool(holder.stdout.readline())
         finally:
@@ -219,13 +251,22 @@ class Case:
 
     def __init__(self, case, other, stack):
         self.name, self.request, reply, command = case
-        self.services = {workers: self.started(stack, f"{workers} workers", service(workers), reply) for workers in WORKERS}
+        self.services = {
+            workers: self.started(stack, f"{workers} workers", service(workers), reply)
+            for workers in WORKERS
+        }
         self.bare = self.started(stack, "echo", echo(reply), reply)
         self.gathering = self.started(stack, "gathered", echo(reply, "gather"), reply)
-        self.rules = self.started(stack, "rules", frames("rules"), reply) if self.name == CASES[0][0] else None
+        self.rules = (
+            self.started(stack, "rules", frames("rules"), reply)
+            if self.name == CASES[0][0]
+            else None
+        )
         self.other = None
         if other and command:
-            wanted = "+2" if command[0] == "XADD" else len(first_bytes(other.port, spelled(command)))
+            wanted = (
+                "+2" if command[0] == "XADD" else len(first_bytes(other.port, spelled(command)))
+            )
             self.other = Asked("redis", other, spelled(command), wanted)
         length = len(first_bytes(self.services[WORKERS[0]].server.port, self.request))
         assert length == reply, f"{self.name}: a reply of {length} bytes"
@@ -245,32 +286,69 @@ class Case:
         asked = [*self.services.values(), *filter(None, others)]
         before = {each: each.server.memory("VmRSS") for each in asked}
         with contextlib.ExitStack() as stack:
-            served = [each for each in asked if not quiet
-                      or stack.enter_context(silent(each.server.port, quiet, each.request, each.reply))]
-            kept = {each: (each.server.memory("VmRSS") - before[each]) / quiet if quiet else None for each in served}
+            served = [
+                each
+                for each in asked
+                if not quiet
+                or stack.enter_context(silent(each.server.port, quiet, each.request, each.reply))
+            ]
+            kept = {
+                each: (each.server.memory("VmRSS") - before[each]) / quiet if quiet else None
+                for each in served
+            }
             spent = {each: each.server.seconds() for each in served}
-            took = rounds.in_turn(ROUNDS, served, lambda each: each.seconds((speaking, flight, count)))
-            spent = {each: (each.server.seconds() - spent[each]) / (ROUNDS * speaking * count) for each in served}
-            rates = {each: [speaking * count / time for time in times] for each, times in took.items()}
+            took = rounds.in_turn(
+                ROUNDS, served, lambda each: each.seconds((speaking, flight, count))
+            )
+            spent = {
+                each: (each.server.seconds() - spent[each]) / (ROUNDS * speaking * count)
+                for each in served
+            }
+            rates = {
+                each: [speaking * count / time for time in times] for each, times in took.items()
+            }
             if speaking == 64:
-                self.time_delays([each for each in served if each is not self.other], speaking + quiet, count)
+                self.time_delays(
+                    [each for each in served if each is not self.other], speaking + quiet, count
+                )
         for workers, each in self.services.items():
             self.line(workers, each, speaking, speaking + quiet, flight, rates, spent, kept)
         if self.rules in rates:
-            shares = ", ".join(f"{workers} workers {beside(rates[each], rates[self.rules]).split(maxsplit=1)[1]}"
-                               for workers, each in self.services.items())
-            print(f"{self.name:18} of the rules in C, at {max(rates[self.rules]):,.0f}, best and median: {shares}", flush=True)
+            shares = ", ".join(
+                f"{workers} workers {beside(rates[each], rates[self.rules]).split(maxsplit=1)[1]}"
+                for workers, each in self.services.items()
+            )
+            print(
+                f"{self.name:18} of the rules in C, at {max(rates[self.rules]):,.0f}, best and median: {shares}",
+                flush=True,
+            )
 
     def stream(self, name, writes):
         """A line for each service, of these writes sent together."""
-        request = b"".join(primary(wire.WRITE, wire.write(copy, hundred_bytes(lsn))) for copy, lsn in writes)
+        request = b"".join(
+            primary(wire.WRITE, wire.write(copy, hundred_bytes(lsn))) for copy, lsn in writes
+        )
         asked = [*self.services.values(), self.gathering, self.rules]
         turns = SHAPES[-1][-1] // len(writes)
-        took = rounds.in_turn(ROUNDS, asked, lambda each: seconds(each.server.port, (1, 1, turns), request, each.reply * len(writes)))
-        rates = {each: [turns * len(writes) / time for time in times] for each, times in took.items()}
+        took = rounds.in_turn(
+            ROUNDS,
+            asked,
+            lambda each: seconds(
+                each.server.port, (1, 1, turns), request, each.reply * len(writes)
+            ),
+        )
+        rates = {
+            each: [turns * len(writes) / time for time in times] for each, times in took.items()
+        }
         for workers, each in self.services.items():
-            others = " ".join(f"{other.name} {beside(rates[each], rates[other])}" for other in (self.gathering, self.rules))
-            print(f"{name:18}  1 of      1 x {len(writes):2} {workers:7} {max(rates[each]):9,.0f}   {others}", flush=True)
+            others = " ".join(
+                f"{other.name} {beside(rates[each], rates[other])}"
+                for other in (self.gathering, self.rules)
+            )
+            print(
+                f"{name:18}  1 of      1 x {len(writes):2} {workers:7} {max(rates[each]):9,.0f}   {others}",
+                flush=True,
+            )
 
     def line(self, workers, each, speaking, connections, flight, rates, spent, kept):
         head = f"{self.name:18} {speaking:2} of {connections:6,} x {flight:2} {workers:7}"
@@ -280,9 +358,15 @@ class Case:
             return
         if connections == speaking == 64:
             self.alone[workers] = max(own)
-        others = " ".join(beside(own, rates.get(other)) for other in (self.bare, self.gathering, self.other))
+        others = " ".join(
+            beside(own, rates.get(other)) for other in (self.bare, self.gathering, self.other)
+        )
         cost = f"{spent[each] * 1e6:8.2f} {each.server.memory('VmHWM') / 1024:8.1f}"
-        tail = f" {max(own) / self.alone[workers]:8.2f} {kept[each]:8.1f}" if connections > speaking else ""
+        tail = (
+            f" {max(own) / self.alone[workers]:8.2f} {kept[each]:8.1f}"
+            if connections > speaking
+            else ""
+        )
         print(f"{head} {max(own):9,.0f} {others} {cost}{tail}", flush=True)
 
     def time_delays(self, asked, connections, count):
@@ -299,9 +383,27 @@ def free_port():
 
 def etcd(work):
     client, peer = (f"http://127.0.0.1:{free_port()}" for _ in range(2))
-    running = Running(["etcd", "--data-dir", pathlib.Path(work) / "etcd", "--log-level", "fatal", "--unsafe-no-fsync",
-                       "--listen-client-urls", client, "--advertise-client-urls", client, "--listen-peer-urls", peer,
-                       "--initial-advertise-peer-urls", peer, "--initial-cluster", f"default={peer}"], int(client.rsplit(":", 1)[1]))
+    running = Running(
+        [
+            "etcd",
+            "--data-dir",
+            pathlib.Path(work) / "etcd",
+            "--log-level",
+            "fatal",
+            "--unsafe-no-fsync",
+            "--listen-client-urls",
+            client,
+            "--advertise-client-urls",
+            client,
+            "--listen-peer-urls",
+            peer,
+            "--initial-advertise-peer-urls",
+            peer,
+            "--initial-cluster",
+            f"default={peer}",
+        ],
+        int(client.rsplit(":", 1)[1]),
+    )
     for _ in range(100):
         try:
             with socket.create_connection(("127.0.0.1", running.port)):
@@ -334,8 +436,10 @@ def beside_etcd(work):
 
     try:
         value = base64.b64encode(b"v" * 100).decode()
-        asked = (("100-byte write", lambda: posted("/v3/kv/put", {"key": key, "value": value})),
-                 ("pull of one block", lambda: posted("/v3/kv/range", {"key": key})))
+        asked = (
+            ("100-byte write", lambda: posted("/v3/kv/put", {"key": key, "value": value})),
+            ("pull of one block", lambda: posted("/v3/kv/range", {"key": key})),
+        )
         print(f"\n{'':18} {'':9} {'pagelog':>9} {'etcd':>9} {'ratio':>6}   (a client in Python)")
         with socket.create_connection(("127.0.0.1", ours.port)) as client:
             for name, theirs in asked:
@@ -348,7 +452,10 @@ def beside_etcd(work):
                         left -= len(client.recv(left))
 
                 own, other = rate_by_python(count, ask), rate_by_python(count, theirs)
-                print(f"{name:18} {1:4} x {1:2} {own:9,.0f} {other:9,.0f} {own / other:6.2f}", flush=True)
+                print(
+                    f"{name:18} {1:4} x {1:2} {own:9,.0f} {other:9,.0f} {own / other:6.2f}",
+                    flush=True,
+                )
     finally:
         connection.close()
         ours.end()
@@ -363,7 +470,9 @@ def raise_limit():
 
 def main():
     raise_limit()
-    heads = " ".join(f"{head:>9} {'best':>6} {'median':>6}" for head in ("echo", "gathered", "redis"))
+    heads = " ".join(
+        f"{head:>9} {'best':>6} {'median':>6}" for head in ("echo", "gathered", "redis")
+    )
     print(about())
     tail = " ".join(f"{head:>8}" for head in ("us each", "MiB", "of alone", "KiB each"))
     print(f"{'':18} {'connections':17} {'workers':>7} {'pagelog':>9} {heads} {tail}")
@@ -380,7 +489,11 @@ def main():
                 for stream in STREAMS if asked.rules else ():
                     asked.stream(*stream)
                 lines += asked.lines
-    print(f"\n{'':31} {'':12}" + "".join(f"{head:>10}" for head in ("50th", "99th", "99.9th", "longest")) + "   (us)")
+    print(
+        f"\n{'':31} {'':12}"
+        + "".join(f"{head:>10}" for head in ("50th", "99th", "99.9th", "longest"))
+        + "   (us)"
+    )
     print("\n".join(lines), flush=True)
 
 

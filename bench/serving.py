@@ -26,8 +26,20 @@ PAGE, BLOCKS = 2, 1
 
 def words():
     parser = argparse.ArgumentParser()
-    parser.add_argument("share", nargs="?", type=float, default=1.0, metavar="SHARE", help="of the work of a whole run")
-    parser.add_argument("--idle-polls", type=int, metavar="N", help="the option of pagelog serve, which has a default")
+    parser.add_argument(
+        "share",
+        nargs="?",
+        type=float,
+        default=1.0,
+        metavar="SHARE",
+        help="of the work of a whole run",
+    )
+    parser.add_argument(
+        "--idle-polls",
+        type=int,
+        metavar="N",
+        help="the option of pagelog serve, which has a default",
+    )
     return parser.parse_args()
 
 
@@ -69,8 +81,25 @@ def in_copies(block, lsn):
 
 def words_of_service(workers):
     """The words that start a service of one database."""
-    return [PROGRAM, "serve", "--listen", "127.0.0.1:0", "--table", TABLE, "--primary", 2, "--dbs", 1, "--workers", workers,
-            "--connections", 4294967295, "--audit", 16777216, *IDLE]
+    return [
+        PROGRAM,
+        "serve",
+        "--listen",
+        "127.0.0.1:0",
+        "--table",
+        TABLE,
+        "--primary",
+        2,
+        "--dbs",
+        1,
+        "--workers",
+        workers,
+        "--connections",
+        4294967295,
+        "--audit",
+        16777216,
+        *IDLE,
+    ]
 
 
 def port_of(process):
@@ -82,8 +111,12 @@ class Service:
     """A service that is ended with this program's leave alone, and a connection to it."""
 
     def __init__(self, workers=64):
-        self.process = subprocess.Popen([str(word) for word in words_of_service(workers)], stdout=subprocess.PIPE,
-                                        stderr=subprocess.DEVNULL, text=True)
+        self.process = subprocess.Popen(
+            [str(word) for word in words_of_service(workers)],
+            stdout=subprocess.PIPE,
+            stderr=subprocess.DEVNULL,
+            text=True,
+        )
         self.port = port_of(self.process)
         self.socket = socket.create_connection(("127.0.0.1", self.port))
         self.socket.setsockopt(socket.IPPROTO_TCP, socket.TCP_NODELAY, 1)
@@ -126,11 +159,15 @@ class Service:
 def build_frames(work):
     """The program that sends frames and times the replies, built in this folder."""
     program = pathlib.Path(work) / "frames"
-    subprocess.run(["gcc", "-O2", "-pthread", "-o", program, ROOT / "bench" / "frames.c"], check=True)
+    subprocess.run(
+        ["gcc", "-O2", "-pthread", "-o", program, ROOT / "bench" / "frames.c"], check=True
+    )
     return program
 
 
 def about():
     """What a run was made with, in a line."""
-    return (f"{os.cpu_count()} processors, load {os.getloadavg()[0]:.1f}, {PROGRAM.name}, {idle_polls(IDLE_POLLS)}, "
-            f"share {SHARE}")
+    return (
+        f"{os.cpu_count()} processors, load {os.getloadavg()[0]:.1f}, {PROGRAM.name}, {idle_polls(IDLE_POLLS)}, "
+        f"share {SHARE}"
+    )

@@ -50,18 +50,42 @@ WORK = ROOT / "bench" / "work" / "sqlite"
 UPDATE = "update t set value = value + 1 where id = 1"
 ROUNDS = 20
 # How many there are in all rounds together, where the share is 1.
-COLUMNS = {"inserts": 8000, "updates": 8000, "thousands": 40, "warm": 40000, "in one": 80000, "cold": 40000, "scan": 10}
+COLUMNS = {
+    "inserts": 8000,
+    "updates": 8000,
+    "thousands": 40,
+    "warm": 40000,
+    "in one": 80000,
+    "cold": 40000,
+    "scan": 10,
+}
 WRITES = ("inserts", "updates", "thousands")
 LOADS = "import sqlite3; sqlite3.Connection.enable_load_extension"
 
 
 def words():
     parser = argparse.ArgumentParser()
-    parser.add_argument("share", nargs="?", type=float, default=1.0, metavar="SHARE", help="of the work of a whole run")
+    parser.add_argument(
+        "share",
+        nargs="?",
+        type=float,
+        default=1.0,
+        metavar="SHARE",
+        help="of the work of a whole run",
+    )
     parser.add_argument("--short", action="store_true", help="0.3 of it")
     parser.add_argument("--keepers", action="store_true", help="databases of keepers")
-    parser.add_argument("--pairs", action="store_true", help="what keepers cost a commit that does not wait for the archive")
-    parser.add_argument("--idle-polls", type=int, metavar="N", help="the option of pagelog serve, which has a default")
+    parser.add_argument(
+        "--pairs",
+        action="store_true",
+        help="what keepers cost a commit that does not wait for the archive",
+    )
+    parser.add_argument(
+        "--idle-polls",
+        type=int,
+        metavar="N",
+        help="the option of pagelog serve, which has a default",
+    )
     return parser.parse_args()
 
 
@@ -72,9 +96,14 @@ def python_that_loads():
     """Not every build of Python lets SQLite load extensions: one on the path that does."""
     for folder in os.get_exec_path():
         program = os.path.join(folder, "python3")
-        if os.access(program, os.X_OK) and not subprocess.run([program, "-c", LOADS], capture_output=True).returncode:
+        if (
+            os.access(program, os.X_OK)
+            and not subprocess.run([program, "-c", LOADS], capture_output=True).returncode
+        ):
             return program
-    sys.exit("no python3 on the path has an sqlite3 that loads extensions: apt-get install -y python3")
+    sys.exit(
+        "no python3 on the path has an sqlite3 that loads extensions: apt-get install -y python3"
+    )
 
 
 import sqlite3  # noqa: E402
@@ -104,14 +133,18 @@ class Work:
     def __init__(self, opened):
         self.opened, self.numbers = opened, random.Random(1)
         self.connection = opened()
-        self.connection.executescript("create table t(id integer primary key, number int, value int, text text);"
-                                      "create index by_number on t(number);")
+        self.connection.executescript(
+            "create table t(id integer primary key, number int, value int, text text);"
+            "create index by_number on t(number);"
+        )
         self.rows = 0
 
     def insert(self):
         self.rows += 1
-        self.connection.execute("insert into t(number, value, text) values (?, 0, ?)",
-                                (self.numbers.randrange(1 << 40), "x" * 100))
+        self.connection.execute(
+            "insert into t(number, value, text) values (?, 0, ?)",
+            (self.numbers.randrange(1 << 40), "x" * 100),
+        )
 
     def inserts(self, number):
         for _ in range(number):
@@ -130,7 +163,9 @@ class Work:
 
     def reads(self, connection, number):
         for _ in range(number):
-            connection.execute("select text from t where id = ?", (self.numbers.randrange(self.rows) + 1,)).fetchone()
+            connection.execute(
+                "select text from t where id = ?", (self.numbers.randrange(self.rows) + 1,)
+            ).fetchone()
 
     def within_one(self, connection, number):
         connection.execute("begin")
@@ -157,7 +192,12 @@ class System:
             if not self.warm:
                 self.warm = self.opened()
                 self.work.within_one(self.warm, count(20000))
-            return rate(number, lambda many: (self.work.reads if column == "warm" else self.work.within_one)(self.warm, many))
+            return rate(
+                number,
+                lambda many: (self.work.reads if column == "warm" else self.work.within_one)(
+                    self.warm, many
+                ),
+            )
         if self.shares:  # connections of a writer share their pages, so that none of them is cold
             return None
         connection = self.opened()
@@ -165,7 +205,9 @@ class System:
             found = rate(number, lambda many: self.work.within_one(connection, many))
         else:
             pages = connection.execute("pragma page_count").fetchone()[0]
-            found = rate(pages, lambda _: connection.execute("select total(length(text)) from t").fetchone())
+            found = rate(
+                pages, lambda _: connection.execute("select total(length(text)) from t").fetchone()
+            )
         connection.close()
         return found
 
@@ -175,7 +217,9 @@ def measure(systems):
     for column, most in COLUMNS.items():
         for number in range(ROUNDS):
             for system in random.Random(number).sample(systems, len(systems)):
-                found = system.once(column, max(int(most * SHARE / ROUNDS), 1 if column == "thousands" else 10))
+                found = system.once(
+                    column, max(int(most * SHARE / ROUNDS), 1 if column == "thousands" else 10)
+                )
                 if found:
                     system.rates[column].append(found)
 
@@ -218,11 +262,15 @@ class Aims:
     def add(self, what, values, least=None, most=None, digits=2):
         """The median of the values, of which there may be one, is at least or at most so much."""
         middle = statistics.median(values)
-        low, _, high = statistics.quantiles(values, method="inclusive") if len(values) > 1 else [middle] * 3
+        low, _, high = (
+            statistics.quantiles(values, method="inclusive") if len(values) > 1 else [middle] * 3
+        )
         is_met = middle >= least if most is None else middle <= most
         aim = f"at least {least:,}" if most is None else f"at most {most:,}"
         around = f"{low:,.{digits}f} to {high:,.{digits}f}" if len(values) > 1 else ""
-        self.lines.append((what, aim, f"{middle:,.{digits}f}", around, "met" if is_met else "missed"))
+        self.lines.append(
+            (what, aim, f"{middle:,.{digits}f}", around, "met" if is_met else "missed")
+        )
 
     def lacks(self, what, why):
         self.lines.append((what, "", "", "", why))
@@ -237,14 +285,29 @@ class Aims:
 def add_rates(aims, systems):
     """The aims that are of rates."""
     _, trusted, unwaited, follower, _, plain_off = systems
-    for column, what, least in (("inserts", "one-row inserts", 0.5), ("thousands", "transactions of 1,000 rows", 1)):
-        aims.add(f"{what}, a COMMIT waits: share of WAL, off", shares(trusted, plain_off, column), least=least)
-        aims.add(f"{what}, nobody waits: share of WAL, off", shares(unwaited, plain_off, column), least=least)
+    for column, what, least in (
+        ("inserts", "one-row inserts", 0.5),
+        ("thousands", "transactions of 1,000 rows", 1),
+    ):
+        aims.add(
+            f"{what}, a COMMIT waits: share of WAL, off",
+            shares(trusted, plain_off, column),
+            least=least,
+        )
+        aims.add(
+            f"{what}, nobody waits: share of WAL, off",
+            shares(unwaited, plain_off, column),
+            least=least,
+        )
     for who, system in (("a writer", trusted), ("a follower", follower)):
         times = [1 / share for share in shares(system, plain_off, "warm")]
         aims.add(f"warm reads, check=50, {who}: time beside WAL, off", times, most=1.2)
     aims.add("cold reads of a follower, a second", follower.rates["cold"], least=12000, digits=0)
-    aims.add("cold reads of a follower: share of WAL, off", shares(follower, plain_off, "cold"), least=0.5)
+    aims.add(
+        "cold reads of a follower: share of WAL, off",
+        shares(follower, plain_off, "cold"),
+        least=0.5,
+    )
 
 
 def cost(work, name, statement):
@@ -257,8 +320,10 @@ def cost(work, name, statement):
         for what, values in sent.items():
             values.append(told(what) - before[what])
     middle = {what: statistics.median(values) for what, values in sent.items()}
-    print(f"{name}: {middle['bytes_sent']:,.0f} bytes sent, {middle['blocks_written']:.0f} blocks, "
-          f"{middle['requests']:.0f} requests, {middle['round_trips']:.0f} round trips")
+    print(
+        f"{name}: {middle['bytes_sent']:,.0f} bytes sent, {middle['blocks_written']:.0f} blocks, "
+        f"{middle['requests']:.0f} requests, {middle['round_trips']:.0f} round trips"
+    )
     return sent["bytes_sent"], sent["round_trips"]
 
 
@@ -275,7 +340,9 @@ def waits(work):
             found[way].append([1e6 * seconds / (number // ROUNDS) for seconds in taken])
     for way, taken in found.items():
         whole, used = (statistics.median(column) for column in zip(*taken))
-        print(f"an insert whose wait {way}: {whole:.0f} us, {used:.0f} us of the client's processor")
+        print(
+            f"an insert whose wait {way}: {whole:.0f} us, {used:.0f} us of the client's processor"
+        )
 
 
 def lag(work, follower):
@@ -297,22 +364,30 @@ def speedtest(program, opened):
     preload = {"LD_PRELOAD": str(CLIENT / "out" / "pagelog_preload.so")}
     for _ in range(5):
         with opened() as service:
-            runs = [("pagelog", ["--vfs", "pagelog", service.uri], preload),
-                    ("WAL, full", ["--journal", "wal", WORK / "speed_full.db"], {}),
-                    ("WAL, off", ["--journal", "wal", "--nosync", WORK / "speed_off.db"], {})]
+            runs = [
+                ("pagelog", ["--vfs", "pagelog", service.uri], preload),
+                ("WAL, full", ["--journal", "wal", WORK / "speed_full.db"], {}),
+                ("WAL, off", ["--journal", "wal", "--nosync", WORK / "speed_off.db"], {}),
+            ]
             for name, words, more in runs:
                 for old in WORK.glob("speed_*"):
                     old.unlink()
                 start = time.perf_counter()
-                ran = subprocess.run([program, "--size", size, *words], capture_output=True, text=True,
-                                     env={**os.environ, **more})
+                ran = subprocess.run(
+                    [program, "--size", size, *words],
+                    capture_output=True,
+                    text=True,
+                    env={**os.environ, **more},
+                )
                 if ran.returncode:
                     sys.exit(f"speedtest1: {ran.stdout[-300:]}{ran.stderr[-300:]}")
                 found.setdefault(name, []).append(time.perf_counter() - start)
     for name, seconds in found.items():
         beside = [one / other for one, other in zip(seconds, found["WAL, off"])]
-        print(f"speedtest1, size {size}, {name}: {statistics.median(seconds):.2f} s, {min(seconds):.2f} at best, "
-              f"{statistics.median(beside):.2f} of WAL, off")
+        print(
+            f"speedtest1, size {size}, {name}: {statistics.median(seconds):.2f} s, {min(seconds):.2f} at best, "
+            f"{statistics.median(beside):.2f} of WAL, off"
+        )
     return [one / other for one, other in zip(found["pagelog"], found["WAL, off"])]
 
 
@@ -337,12 +412,18 @@ def measure_writer(aims, work, follower):
     sent, trips = cost(work, "an update of one number", UPDATE)
     aims.add("an update of one number: bytes sent", sent, most=303, digits=0)
     aims.add("an update of one number: round trips", trips, most=1, digits=0)
-    cost(work, "an insert of one row", "insert into t(number, value, text) values (random(), 0, hex(randomblob(50)))")
+    cost(
+        work,
+        "an insert of one row",
+        "insert into t(number, value, text) values (random(), 0, hex(randomblob(50)))",
+    )
     work.rows = work.connection.execute("select count(*) from t").fetchone()[0]
     waits(work)
     lags = lag(work, follower)
     most = lags[-len(lags) // 100]
-    print(f"lag of a follower: median {statistics.median(lags):.2f} ms, 99 of 100 within {most:.2f} ms, most {lags[-1]:.2f} ms")
+    print(
+        f"lag of a follower: median {statistics.median(lags):.2f} ms, 99 of 100 within {most:.2f} ms, most {lags[-1]:.2f} ms"
+    )
     aims.add("lag of a follower, ms", lags, most=10)
     aims.add("lag of a follower, ms: 99 of 100 within", [most], most=10)
 
@@ -389,10 +470,15 @@ def main():
     WORK.mkdir(parents=True)
     if words().keepers or words().pairs:
         return measure_keepers()
-    print(f"{os.cpu_count()} processors, load {os.getloadavg()[0]:.1f}, SQLite {sqlite3.sqlite_version}, share {SHARE}, "
-          f"{'default' if IDLE_POLLS is None else IDLE_POLLS} idle polls, {ROUNDS} rounds")
-    with (Service(idle_polls=IDLE_POLLS) as first, Service(idle_polls=IDLE_POLLS) as second,
-          Service(idle_polls=IDLE_POLLS) as third):
+    print(
+        f"{os.cpu_count()} processors, load {os.getloadavg()[0]:.1f}, SQLite {sqlite3.sqlite_version}, share {SHARE}, "
+        f"{'default' if IDLE_POLLS is None else IDLE_POLLS} idle polls, {ROUNDS} rounds"
+    )
+    with (
+        Service(idle_polls=IDLE_POLLS) as first,
+        Service(idle_polls=IDLE_POLLS) as second,
+        Service(idle_polls=IDLE_POLLS) as third,
+    ):
         systems = systems_of(first, second, third)
         measure(systems)
         show(systems)

@@ -16,7 +16,10 @@ import threading
 import time
 
 ROOT = pathlib.Path(__file__).resolve().parent.parent
-sys.path[:0] = [str(ROOT / "clients" / "python" / "tests"), str(ROOT / "clients" / "python" / "src")]
+sys.path[:0] = [
+    str(ROOT / "clients" / "python" / "tests"),
+    str(ROOT / "clients" / "python" / "src"),
+]
 TABLE = "create table if not exists t(id integer primary key, text text)"
 INSERT = "insert into t(text) values ('{}')".format("x" * 100)
 ROUNDS, COMMITS, TIMES = 30, 20, 5
@@ -42,8 +45,10 @@ def show(found, beside):
     for name, taken in found.items():
         shares = [one / other for one, other in zip(taken, found[beside])]
         low, _, high = statistics.quantiles(shares, method="inclusive")
-        print(f"{name:32} {1000 * statistics.median(taken):8.3f} ms a commit, {statistics.median(shares):.2f} of {beside} "
-              f"({low:.2f} to {high:.2f})")
+        print(
+            f"{name:32} {1000 * statistics.median(taken):8.3f} ms a commit, {statistics.median(shares):.2f} of {beside} "
+            f"({low:.2f} to {high:.2f})"
+        )
 
 
 class Writer:
@@ -77,8 +82,12 @@ def events_of(keeping, name):
         os.kill(pid, signal.SIGKILL)
         return holder
 
-    return {"a succession": lambda: keeping.word("succeed", name), "a switchover": lambda: keeping.word("switchover", name),
-            "a death of the service": lambda: os.kill(keeping.pid(name), signal.SIGKILL), "a takeover": take_over}
+    return {
+        "a succession": lambda: keeping.word("succeed", name),
+        "a switchover": lambda: keeping.word("switchover", name),
+        "a death of the service": lambda: os.kill(keeping.pid(name), signal.SIGKILL),
+        "a takeover": take_over,
+    }
 
 
 def measure_events(keeping, name, level, opened):
@@ -103,8 +112,10 @@ def measure_events(keeping, name, level, opened):
             if what == "a takeover":
                 keeping.start(dead)
             connection.close()
-        print(f"{what:24} synchronous={level:7} the longest statement {1000 * statistics.median(longest):6.0f} ms, "
-              f"{1000 * max(longest):.0f} at most of {TIMES}")
+        print(
+            f"{what:24} synchronous={level:7} the longest statement {1000 * statistics.median(longest):6.0f} ms, "
+            f"{1000 * max(longest):.0f} at most of {TIMES}"
+        )
 
 
 def measure(work, service):
@@ -116,7 +127,9 @@ def measure(work, service):
 
     with Keeping(ttl=1.5) as keeping:
         for name in ("full", "normal", "direct"):
-            keeping.referee.create(name, (ROOT / "clients" / "c" / "table.toml").read_text(), b"s" * 16)
+            keeping.referee.create(
+                name, (ROOT / "clients" / "c" / "table.toml").read_text(), b"s" * 16
+            )
         keeping.start("a", "b")
         addresses = ",".join(keeping.addresses)
 
@@ -129,7 +142,10 @@ def measure(work, service):
         for name in ("full", "normal"):
             keeping.place(name)
         place = keeping.place("direct")
-        keys = {word: token_of(bytes.fromhex(TOKENS[number]), "direct", place.run).hex() for word, number in (("token", 2), ("optoken", 1))}
+        keys = {
+            word: token_of(bytes.fromhex(TOKENS[number]), "direct", place.run).hex()
+            for word, number in (("token", 2), ("optoken", 1))
+        }
         plain = sqlite3.connect(work / "keepers.db", isolation_level=None)
         plain.execute("pragma journal_mode = wal")
         plain.execute("pragma synchronous = full")
@@ -141,10 +157,28 @@ def measure(work, service):
         for each in (direct, alone):
             each.execute(TABLE)
         print(f"commits of one row, load {os.getloadavg()[0]:.1f}")
-        show(in_turns({"keepers, synchronous=full": full.execute, "plain SQLite, WAL, full": plain.execute,
-                       "PostgreSQL": postgresql.execute}, COMMITS), "plain SQLite, WAL, full")
-        show(in_turns({"keepers, synchronous=normal": normal.execute, "to=, of the same keepers": direct.execute,
-                       "to=, a service alone": alone.execute}, 10 * COMMITS), "to=, of the same keepers")
+        show(
+            in_turns(
+                {
+                    "keepers, synchronous=full": full.execute,
+                    "plain SQLite, WAL, full": plain.execute,
+                    "PostgreSQL": postgresql.execute,
+                },
+                COMMITS,
+            ),
+            "plain SQLite, WAL, full",
+        )
+        show(
+            in_turns(
+                {
+                    "keepers, synchronous=normal": normal.execute,
+                    "to=, of the same keepers": direct.execute,
+                    "to=, a service alone": alone.execute,
+                },
+                10 * COMMITS,
+            ),
+            "to=, of the same keepers",
+        )
         postgresql.execute("drop table t")
         postgresql.close()
         for each in (full, normal, direct):

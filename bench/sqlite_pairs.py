@@ -55,7 +55,10 @@ def keys_of(place, name):
     from database import TOKENS
     from stub_keeper import token_of
 
-    return {word: token_of(bytes.fromhex(TOKENS[number]), name, place.run).hex() for word, number in (("token", 2), ("optoken", 1))}
+    return {
+        word: token_of(bytes.fromhex(TOKENS[number]), name, place.run).hex()
+        for word, number in (("token", 2), ("optoken", 1))
+    }
 
 
 def opened(keeping, named_one, direct_one):
@@ -89,7 +92,11 @@ connection.close()
 
 def instructions(words):
     with tempfile.NamedTemporaryFile() as file:
-        ran = subprocess.run(["valgrind", "--tool=callgrind", f"--callgrind-out-file={file.name}", *words], capture_output=True, text=True)
+        ran = subprocess.run(
+            ["valgrind", "--tool=callgrind", f"--callgrind-out-file={file.name}", *words],
+            capture_output=True,
+            text=True,
+        )
     return {"instructions": int(re.search(r"Collected : (\d+)", ran.stderr)[1])}
 
 
@@ -97,7 +104,11 @@ def system_calls(words):
     with tempfile.NamedTemporaryFile("r") as file:
         subprocess.run(["strace", "-f", "-c", "-o", file.name, *words], check=True)
         rows = [line.split() for line in file]
-    return {row[-1]: int(row[3]) for row in rows if len(row) >= 5 and row[0][0].isdigit() and row[-1] != "total"}
+    return {
+        row[-1]: int(row[3])
+        for row in rows
+        if len(row) >= 5 and row[0][0].isdigit() and row[-1] != "total"
+    }
 
 
 def counted(uri):
@@ -105,7 +116,9 @@ def counted(uri):
     script = WRITES.format(tests=str(ROOT / "clients" / "c" / "tests"), insert=INSERT)
     found = {}
     for count in (instructions, system_calls):
-        few, many = (count([sys.executable, "-B", "-c", script, uri, str(number)]) for number in (FEW, MANY))
+        few, many = (
+            count([sys.executable, "-B", "-c", script, uri, str(number)]) for number in (FEW, MANY)
+        )
         found.update({name: (many[name] - few.get(name, 0)) / (MANY - FEW) for name in many})
     return {name: number for name, number in found.items() if number >= 0.05}
 
@@ -115,19 +128,29 @@ def count_costs(keeping):
 
     named, direct = NAMES
     place = keeping.place(direct)
-    uris = {"through keepers": uri_of(",".join(keeping.addresses), named, 2, check=50, spin=0),
-            "by the address": uri(place.address, check=50, spin=0, **keys_of(place, direct))}
+    uris = {
+        "through keepers": uri_of(",".join(keeping.addresses), named, 2, check=50, spin=0),
+        "by the address": uri(place.address, check=50, spin=0, **keys_of(place, direct)),
+    }
     for what, each in uris.items():
-        print(f"a commit {what}: " + ", ".join(f"{name} {number:,.2f}" for name, number in sorted(counted(each).items())))
+        print(
+            f"a commit {what}: "
+            + ", ".join(f"{name} {number:,.2f}" for name, number in sorted(counted(each).items()))
+        )
 
 
 def measure():
-    sys.path[:0] = [str(ROOT / "clients" / "python" / "tests"), str(ROOT / "clients" / "python" / "src")]
+    sys.path[:0] = [
+        str(ROOT / "clients" / "python" / "tests"),
+        str(ROOT / "clients" / "python" / "src"),
+    ]
     from keepers import Keeping
 
     with Keeping(ttl=10.0, standby=False) as keeping:
         for name in NAMES:
-            keeping.referee.create(name, (ROOT / "clients" / "c" / "table.toml").read_text(), b"s" * 16)
+            keeping.referee.create(
+                name, (ROOT / "clients" / "c" / "table.toml").read_text(), b"s" * 16
+            )
         keeping.start("a")
         for name in NAMES:
             keeping.place(name)
@@ -137,8 +160,12 @@ def measure():
             named, direct = opened(keeping, *pair)
             found.append(ratios(named.execute, direct.execute, PAIRS // 2))
             named.close(), direct.close()
-        for what, values in zip(("first half", "databases changed over", "all"), (*found, sum(found, []))):
+        for what, values in zip(
+            ("first half", "databases changed over", "all"), (*found, sum(found, []))
+        ):
             middle, low, high = interval(values)
-            print(f"normal through keepers, of by the address, {what}: {middle:.3f} ({low:.3f} to {high:.3f}, {len(values)} pairs)")
+            print(
+                f"normal through keepers, of by the address, {what}: {middle:.3f} ({low:.3f} to {high:.3f}, {len(values)} pairs)"
+            )
         count_costs(keeping)
         print(f"load at the end {os.getloadavg()[0]:.1f}")

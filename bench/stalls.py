@@ -30,7 +30,10 @@ WORKERS = 64, 4, 2
 
 def percentiles(delays):
     delays = sorted(delays)
-    return " ".join(f"{delays[min(len(delays) - 1, int(len(delays) * part))]:10,.0f}" for part in (0.5, 0.99, 0.999, 1))
+    return " ".join(
+        f"{delays[min(len(delays) - 1, int(len(delays) * part))]:10,.0f}"
+        for part in (0.5, 0.99, 0.999, 1)
+    )
 
 
 def first_get():
@@ -38,7 +41,10 @@ def first_get():
     with Service() as service:
         service.harden(count, small_block)
         delays = [service.delay(get(7, count, 1)) for _ in range(3)]
-    print(f"first get after {count:,} blocks: {delays[0]:,.0f}; once more: {delays[1]:,.0f}, {delays[2]:,.0f}", flush=True)
+    print(
+        f"first get after {count:,} blocks: {delays[0]:,.0f}; once more: {delays[1]:,.0f}, {delays[2]:,.0f}",
+        flush=True,
+    )
 
 
 def old_pages():
@@ -46,13 +52,19 @@ def old_pages():
     for name, image in (("no image", 0), ("an image each 256 blocks", 256)):
 
         def block(lsn, image=image):
-            return wire.block(lsn, [(0, 0, bytes([lsn % 256] * 8192))]) if image and lsn % image == 0 else \
-                wire.block(lsn, [(0, lsn * 8 % 8184, bytes([lsn % 256] * 8))])
+            return (
+                wire.block(lsn, [(0, 0, bytes([lsn % 256] * 8192))])
+                if image and lsn % image == 0
+                else wire.block(lsn, [(0, lsn * 8 % 8184, bytes([lsn % 256] * 8))])
+            )
 
         with Service() as service:
             service.harden(count, block)
             drawn = random.Random(1)
-            delays = [service.delay(get(0, drawn.randrange(1, count + 1), 1)) for _ in range(int(4000 * SHARE) or 1)]
+            delays = [
+                service.delay(get(0, drawn.randrange(1, count + 1), 1))
+                for _ in range(int(4000 * SHARE) or 1)
+            ]
         print(f"old pages of {count:,} blocks, {name:25}{percentiles(delays)}", flush=True)
 
 
@@ -60,7 +72,9 @@ def sparse_pulls():
     """Each length goes on from the one before."""
 
     def block(lsn):
-        return wire.block(lsn, [((lsn % 1000 == 0) * 65536, lsn * 8 % 8184, bytes([lsn % 256] * 8))])
+        return wire.block(
+            lsn, [((lsn % 1000 == 0) * 65536, lsn * 8 % 8184, bytes([lsn % 256] * 8))]
+        )
 
     with Service() as service:
         hardened = 0
@@ -68,8 +82,14 @@ def sparse_pulls():
             service.harden(count, block, hardened + 1)
             hardened = count
             asked = {"newest": (0, count - 15), "common": (0, 1), "rare": (1, 1), "none": (2, 1)}
-            medians = {name: statistics.median(service.delay(pull(*what), BLOCKS) for _ in range(200)) for name, what in asked.items()}
-            cells = "".join(f"   {name} {delay:,.0f} ({delay / medians['newest']:.1f} times)" for name, delay in medians.items())
+            medians = {
+                name: statistics.median(service.delay(pull(*what), BLOCKS) for _ in range(200))
+                for name, what in asked.items()
+            }
+            cells = "".join(
+                f"   {name} {delay:,.0f} ({delay / medians['newest']:.1f} times)"
+                for name, delay in medians.items()
+            )
             print(f"pulls of 16 out of {count:>9,} blocks{cells}", flush=True)
 
 

@@ -47,10 +47,14 @@ CASES = (
 def service(program, frames):
     """A service of this program with one hardened block. Gives its port."""
     words = [program, *words_of_service(ASKED.workers)[1:]]
-    process = subprocess.Popen([str(word) for word in words], stdout=subprocess.PIPE, stderr=subprocess.DEVNULL, text=True)
+    process = subprocess.Popen(
+        [str(word) for word in words], stdout=subprocess.PIPE, stderr=subprocess.DEVNULL, text=True
+    )
     try:
         port = port_of(process)
-        for request in [primary(wire.WRITE, wire.write(copy, BLOCK)) for copy in (0, 1)] + [primary(wire.REPORT, wire.report(1))]:
+        for request in [primary(wire.WRITE, wire.write(copy, BLOCK)) for copy in (0, 1)] + [
+            primary(wire.REPORT, wire.report(1))
+        ]:
             seconds(frames, port, (1, 1, 1), request, 5)
         yield port
     finally:
@@ -65,17 +69,29 @@ def seconds(frames, port, shape, request, reply):
         file.write(request)
         file.flush()
         words = (frames, "ask", port, connections, flight, count, reply, file.name)
-        return float(subprocess.run([str(word) for word in words], stdout=subprocess.PIPE, text=True, check=True).stdout.split()[0])
+        return float(
+            subprocess.run(
+                [str(word) for word in words], stdout=subprocess.PIPE, text=True, check=True
+            ).stdout.split()[0]
+        )
 
 
 def main():
     with tempfile.TemporaryDirectory() as work, contextlib.ExitStack() as stack:
         frames = build_frames(work)
-        ports = [stack.enter_context(service(pathlib.Path(program).resolve(), frames)) for program in (ASKED.first, ASKED.second)]
+        ports = [
+            stack.enter_context(service(pathlib.Path(program).resolve(), frames))
+            for program in (ASKED.first, ASKED.second)
+        ]
         for name, request, reply in CASES:
             for shape in SHAPES:
-                took = rounds.in_turn(ASKED.rounds, ports, lambda port: seconds(frames, port, shape, request, reply))
-                print(f"{name:8} {shape[0]:3} x {shape[1]:2}  {rounds.ratio(took[ports[1]], took[ports[0]])}", flush=True)
+                took = rounds.in_turn(
+                    ASKED.rounds, ports, lambda port: seconds(frames, port, shape, request, reply)
+                )
+                print(
+                    f"{name:8} {shape[0]:3} x {shape[1]:2}  {rounds.ratio(took[ports[1]], took[ports[0]])}",
+                    flush=True,
+                )
 
 
 main()

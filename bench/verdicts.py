@@ -33,18 +33,32 @@ import programs
 import rounds
 
 TIMES = ("walk", "index", "miss", "again", "along", "reach", "near")
-SHARES = ("walk / index", "walk / again", "miss / again", "along / again", "reach / miss", "reach / walk", "near / miss")
+SHARES = (
+    "walk / index",
+    "walk / again",
+    "miss / again",
+    "along / again",
+    "reach / miss",
+    "reach / walk",
+    "near / miss",
+)
 PULLS = 20_000
 # The tables: how many rows, whether each names a principal, and whether each ends. Six rows are the small table.
-TABLES = [(6, True, ends) for ends in (False, True)] + \
-    [(rows, named, ends) for ends in (False, True) for named in (True, False) for rows in (1, 16, 256)]
+TABLES = [(6, True, ends) for ends in (False, True)] + [
+    (rows, named, ends)
+    for ends in (False, True)
+    for named in (True, False)
+    for rows in (1, 16, 256)
+]
 
 
 class Program:
     """The program, asked for one table after the other."""
 
     def __init__(self, path):
-        self.child = subprocess.Popen([path], stdin=subprocess.PIPE, stdout=subprocess.PIPE, text=True)
+        self.child = subprocess.Popen(
+            [path], stdin=subprocess.PIPE, stdout=subprocess.PIPE, text=True
+        )
 
     def ask(self, table):
         """What it says of each request for a table: its times, whether a verdict was kept, and misses of pulls along the log."""
@@ -58,7 +72,9 @@ class Program:
                 sys.exit("bench: the program ended")
             if words[0] == "further":
                 followed, far, near, misses = (int(word) for word in words[1:5])
-                lines[asked].update(along=followed / 10, reach=far / 10, near=near / 10, misses=misses)
+                lines[asked].update(
+                    along=followed / 10, reach=far / 10, near=near / 10, misses=misses
+                )
             elif words[0] != "table":
                 asked = words[0]
                 if words[6] != "true":
@@ -88,9 +104,15 @@ def print_line(table, asked, now, before):
     title = f"{rows} rows {'of one of 64' if named else 'of nobody'}{' that end' if ends else ''}, {asked}"
     hits = 1000 * (1 - now[0]["misses"] / PULLS)
     kept = f"kept 1, hits {hits:.1f}" if now[0]["kept"] else "kept 0"
-    print(f"{title:<40} " + ", ".join(f"{name} {statistics.median(times[name]):.1f}" for name in TIMES) + f"; {kept}")
+    print(
+        f"{title:<40} "
+        + ", ".join(f"{name} {statistics.median(times[name]):.1f}" for name in TIMES)
+        + f"; {kept}"
+    )
     shares = (share.split(" / ") for share in SHARES)
-    print(f"{'':8}{joined((f'{above} / {below}', ratio(times[above], times[below])) for above, below in shares)}")
+    print(
+        f"{'':8}{joined((f'{above} / {below}', ratio(times[above], times[below])) for above, below in shares)}"
+    )
     if before:
         others = ((name, ratio(times[name], [line[name] for line in before])) for name in TIMES[:5])
         print(f"{'':8}now / before: {joined(others)}")
@@ -114,8 +136,12 @@ def main():
     for table in TABLES:
         before = said.get((table, "before"), [])
         for asked in said[table, "now"][0]:
-            print_line(table, asked, [lines[asked] for lines in said[table, "now"]],
-                       [lines[asked] for lines in before if asked in lines])
+            print_line(
+                table,
+                asked,
+                [lines[asked] for lines in said[table, "now"]],
+                [lines[asked] for lines in before if asked in lines],
+            )
 
 
 if __name__ == "__main__":

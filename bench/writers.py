@@ -56,7 +56,10 @@ class System:
     def round(self, processes, seconds):
         context = multiprocessing.get_context("fork")
         start, told = context.Event(), context.Queue()
-        made = [context.Process(target=self.write, args=(who, seconds, start, told)) for who in range(processes)]
+        made = [
+            context.Process(target=self.write, args=(who, seconds, start, told))
+            for who in range(processes)
+        ]
         for each in made:
             each.start()
         time.sleep(0.4)
@@ -75,9 +78,14 @@ class System:
             least.append(min(counts))
             most.append(max(counts))
             errors += sum(count for _, count in said)
-        at = [1000 * taken[min(len(taken) - 1, int(len(taken) * share))] for share in (0.5, 0.99, 1)]
-        print(f"{processes} processes, {self.name:28} {statistics.median(rates):8.0f} a second; {at[0]:6.2f}, {at[1]:7.2f}, {at[2]:7.1f} ms "
-              f"(half, 99 in 100, longest); of a process {statistics.median(least):.0f} to {statistics.median(most):.0f}; {errors} errors", flush=True)
+        at = [
+            1000 * taken[min(len(taken) - 1, int(len(taken) * share))] for share in (0.5, 0.99, 1)
+        ]
+        print(
+            f"{processes} processes, {self.name:28} {statistics.median(rates):8.0f} a second; {at[0]:6.2f}, {at[1]:7.2f}, {at[2]:7.1f} ms "
+            f"(half, 99 in 100, longest); of a process {statistics.median(least):.0f} to {statistics.median(most):.0f}; {errors} errors",
+            flush=True,
+        )
         self.rounds = []
 
 
@@ -111,7 +119,10 @@ def systems(folder):
 
     run = postgres.Postgres.run
     postgres.Postgres.run = lambda server, program, *words: run(
-        server, program, *(str(word).replace("max_connections=30", "max_connections=200") for word in words))
+        server,
+        program,
+        *(str(word).replace("max_connections=30", "max_connections=200") for word in words),
+    )
 
     def kept(name, level):
         connection = sqlite_of(addresses, name, 2, busy=60, check=50)
@@ -120,32 +131,49 @@ def systems(folder):
 
     with Keeping(ttl=3.0) as keeping:
         for name in ("full", "normal"):
-            keeping.referee.create(name, (ROOT / "clients" / "c" / "table.toml").read_text(), b"s" * 16)
+            keeping.referee.create(
+                name, (ROOT / "clients" / "c" / "table.toml").read_text(), b"s" * 16
+            )
         keeping.start("a")
         addresses = ",".join(keeping.addresses)
         made = []
         for name in ("full", "normal"):
             keeping.place(name)
             made.append(System(f"keepers, synchronous={name}", lambda name=name: kept(name, name)))
-        made.append(System("PostgreSQL", lambda: psycopg.connect(keeping.url, autocommit=True), "begin", "%s"))
+        made.append(
+            System(
+                "PostgreSQL", lambda: psycopg.connect(keeping.url, autocommit=True), "begin", "%s"
+            )
+        )
         for level in ("full", "normal"):
-            made.append(System(f"plain SQLite, WAL, {level}", lambda level=level: plain(folder / f"{level}.db", level)))
+            made.append(
+                System(
+                    f"plain SQLite, WAL, {level}",
+                    lambda level=level: plain(folder / f"{level}.db", level),
+                )
+            )
         for each in made:
             connection = each.opened()
-            connection.execute(TABLE.format("integer primary key" if each.mark == "?" else "bigserial primary key"))
+            connection.execute(
+                TABLE.format("integer primary key" if each.mark == "?" else "bigserial primary key")
+            )
             connection.close()
         yield made
 
 
 def main():
-    words = argparse.ArgumentParser(description=__doc__, formatter_class=argparse.RawDescriptionHelpFormatter)
+    words = argparse.ArgumentParser(
+        description=__doc__, formatter_class=argparse.RawDescriptionHelpFormatter
+    )
     words.add_argument("--seconds", type=float, default=1.5)
     words.add_argument("--rounds", type=int, default=3)
     words.add_argument("--only", default="", help="systems whose names have this alone")
     words.add_argument("processes", nargs="*", type=int, default=[1, 2, 8])
     asked = words.parse_args()
     with tempfile.TemporaryDirectory() as folder, systems(pathlib.Path(folder)) as made:
-        print(f"fdatasync of 8 KiB: {fdatasync_ms(folder):.2f} ms; {os.cpu_count()} processors; load {os.getloadavg()[0]:.1f}")
+        print(
+            f"fdatasync of 8 KiB: {fdatasync_ms(folder):.2f} ms; {os.cpu_count()} processors; load {os.getloadavg()[0]:.1f}"
+        )
         for processes in asked.processes or [1, 2, 8]:
             before = os.getloadavg()[0]
             for _ in range(asked.rounds):
