@@ -392,6 +392,26 @@ enum pagelog_outcome pagelog_status(struct pagelog *log, enum pagelog_role role,
 enum pagelog_outcome pagelog_get(struct pagelog *log, enum pagelog_role role, uint64_t lsn,
                                  const uint32_t *pages, size_t count, uint8_t *out);
 
+/* A page that nobody waits for has come, 8,192 bytes, as it is at the LSN that it was asked at. It calls
+ * nothing of the object. */
+typedef void pagelog_take(void *argument, uint64_t lsn, uint32_t page, const uint8_t *bytes);
+
+/* As pagelog_get of the first of `count` pages. It asks for the others too, which will probably be read, and
+ * waits for none of them: `take` of pagelog_set_taker is given each, within whatever later call has read its
+ * reply. Those of one that is in flight already are not asked for again. What is in flight of an object so is
+ * forgotten with its connection, and a page that is refused is passed over. They count as requests in
+ * flight, of which there may be PAGELOG_IN_FLIGHT, but all calls may be made meanwhile. */
+enum pagelog_outcome pagelog_get_ahead(struct pagelog *log, enum pagelog_role role, uint64_t lsn,
+                                       const uint32_t *pages, size_t count, uint8_t *out);
+
+/* By whom the pages are taken; NULL: by nobody. */
+void pagelog_set_taker(struct pagelog *log, pagelog_take *take, void *argument);
+
+/* Whether such a page is on its way at this LSN; and how many requests are, whose replies nobody waits for.
+ */
+bool pagelog_is_ahead(const struct pagelog *log, uint64_t lsn, uint32_t page);
+size_t pagelog_count_ahead(const struct pagelog *log);
+
 /* The blocks from an LSN on, at most `max` (1 to 16), as a secondary, of all partitions. At the end of the
  * log it is DONE with a count of 0 and `next` as it was asked. `hard` is the end of the log where the blocks
  * go so far, else 0; where the table ends this principal's row at an LSN, that LSN, and a pull from the next

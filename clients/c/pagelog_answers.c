@@ -4,6 +4,7 @@
 struct asked pagelog_asked_of(const struct pagelog_request *request) {
     return (struct asked){.lsn = request->lsn,
                           .epoch = request->epoch,
+                          .page = request->page,
                           .max = request->max,
                           .operation = request->operation,
                           .is_exact = request->exact};

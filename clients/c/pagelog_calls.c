@@ -115,6 +115,45 @@ enum pagelog_outcome pagelog_get(struct pagelog *log, enum pagelog_role role, ui
     return PAGELOG_DONE;
 }
 
+/* Asks for the first page, if it is not in flight, and for the others, and waits for the first one. */
+static enum pagelog_outcome get_with_others(struct pagelog *log, enum pagelog_role role, uint64_t lsn,
+                                            const uint32_t *pages, size_t count, uint8_t *out) {
+    struct pagelog_request request = {
+        .role = (uint8_t)role, .operation = PAGELOG_GET, .lsn = lsn, .exact = 1};
+    struct pagelog_reply reply;
+    size_t sent = pagelog_await_ahead(log, lsn, pages[0]) ? 1 : 0;
+    for (size_t i = sent; i < count; i++) {
+        request.page = pages[i];
+        enum pagelog_outcome outcome =
+            i == 0 ? pagelog_send(log, &request) : pagelog_send_ahead(log, &request);
+        if (outcome == PAGELOG_DONE) continue;
+        pagelog_disconnect(log);
+        return outcome;
+    }
+    enum pagelog_outcome outcome = pagelog_receive(log, &reply);
+    if (outcome == PAGELOG_DONE) memcpy(out, reply.bytes, PAGELOG_PAGE_BYTES);
+    if (outcome == PAGELOG_DONE) pagelog_take_ahead(log);
+    return outcome;
+}
+
+enum pagelog_outcome pagelog_get_ahead(struct pagelog *log, enum pagelog_role role, uint64_t lsn,
+                                       const uint32_t *pages, size_t count, uint8_t *out) {
+    struct pagelog_patience patience = pagelog_patience_of(log);
+    if (log->asked_count > 0) return pagelog_fail(log, PAGELOG_MALFORMED);
+    for (;;) {
+        uint32_t epoch = log->epoch;
+        bool was_ahead = pagelog_is_ahead(log, lsn, pages[0]);
+        enum pagelog_outcome outcome = get_with_others(log, role, lsn, pages, count, out);
+        if (outcome == PAGELOG_DONE) return outcome;
+        bool is_refused_ahead = was_ahead && log->socket >= 0; /* as of an epoch that was over by then */
+        bool is_lost = outcome == PAGELOG_LOST && pagelog_may_try_again(&patience);
+        bool is_fenced = outcome == PAGELOG_FENCED && takes_over_epoch(log, role, epoch);
+        if (!is_refused_ahead && !is_lost && !(is_fenced && pagelog_may_change_epoch(&patience)))
+            return outcome;
+        count = 1; /* the others are in flight, or were refused too, or went with their connection */
+    }
+}
+
 /* Whether the last denial says that the log ends just before `from`. */
 static bool is_at_the_end(const struct pagelog *log, uint64_t from) {
     const struct pagelog_reply *reply = &log->refused;

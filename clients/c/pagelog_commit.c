@@ -45,7 +45,8 @@ static enum pagelog_outcome fetch_bases(struct commit *commit, size_t first) {
     if (count == 0) return PAGELOG_DONE;
     uint8_t *bytes = malloc(count * PAGELOG_PAGE_BYTES);
     if (!bytes) return out_of_memory(commit->file);
-    enum pagelog_outcome outcome = pagelog_fetch(commit->file, commit->file->mark.lsn, pages, count, bytes);
+    struct wanted wanted = {.pages = pages, .count = count};
+    enum pagelog_outcome outcome = pagelog_fetch(commit->file, commit->file->mark.lsn, wanted, bytes);
     for (size_t i = 0; i < count && outcome == PAGELOG_DONE; i++) {
         memcpy(frames[i]->base, bytes + i * PAGELOG_PAGE_BYTES, PAGELOG_PAGE_BYTES);
         frames[i]->has_base = true;

@@ -28,6 +28,7 @@ void pagelog_abandon(struct pagelog *log) {
 void pagelog_disconnect(struct pagelog *log) {
     pagelog_abandon(log);
     log->asked_count = log->unheard = 0;
+    memset(log->coming, 0, sizeof log->coming);
     log->ahead = (struct ahead){0};
     log->waits = false;
     log->lent_count = 0;

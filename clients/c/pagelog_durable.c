@@ -246,6 +246,7 @@ enum pagelog_outcome pagelog_glance(struct pagelog_file *file) {
     enum pagelog_outcome outcome = pagelog_where(named->keepers, named->place.generation, &place);
     if (outcome == PAGELOG_DENIED && pagelog_keepers_reason(named->keepers)) return pagelog_take_denial(file);
     if (outcome != PAGELOG_DONE) return PAGELOG_DONE;
+    named->place.pages = place.pages;
     if (place.generation > named->place.generation)
         return was_suspect && has_lost_run(file, &place) ? PAGELOG_DONE : pagelog_move_on(file);
     if (strcmp(place.run, named->place.run) != 0) return leave_if_lost(file);

@@ -8,12 +8,6 @@
 
 enum { DEFAULT_CACHE = 4096 };
 
-/* Where a file is read into memory: after so many misses twice as many pages are fetched with each, up to a
- * group; and how many pages are looked at for each of those. */
-enum { MISSES_EACH = 2, MOST_MISSES = 6 * MISSES_EACH, LOOKED_FOR = 8 };
-
-_Static_assert(1 << MOST_MISSES / MISSES_EACH == GROUP, "as many as there is room for");
-
 /* ---- Making, opening, freeing ---- */
 
 enum pagelog_outcome pagelog_file_fail(struct pagelog_file *file, enum pagelog_outcome outcome,
@@ -41,8 +35,8 @@ struct pagelog_file *pagelog_file_new(const struct pagelog_file_options *options
     file->cache = pagelog_cache_new(options->cache_pages ? options->cache_pages : DEFAULT_CACHE);
     file->blocks = pagelog_blocks_new();
     file->next = 1;
-    file->fetched = malloc((size_t)GROUP * PAGELOG_PAGE_BYTES);
-    if (is_made && file->log && file->cache && file->blocks && file->fetched) return file;
+    if (file->log) pagelog_set_taker(file->log, pagelog_take_page, file);
+    if (is_made && file->log && file->cache && file->blocks) return file;
     pagelog_file_free(file);
     return NULL;
 }
@@ -51,11 +45,14 @@ void pagelog_file_free(struct pagelog_file *file) {
     if (!file) return;
     pagelog_free(file->log);
     pagelog_keepers_free(file->named.keepers);
+    pagelog_copies_free(file->named.copies);
+    free(file->named.copied);
+    pagelog_held_free(&file->named.held);
     pagelog_tail_free(&file->named.tail);
     pagelog_cache_free(file->cache);
     pagelog_blocks_free(file->blocks);
     free(file->pending.bytes);
-    free(file->fetched);
+    free(file->expected.pages);
     free(file);
 }
 
@@ -69,6 +66,7 @@ enum pagelog_outcome pagelog_file_connect(struct pagelog_file *file, char *peer,
 void pagelog_file_abandon(struct pagelog_file *file) {
     pagelog_abandon(file->log);
     if (is_named(file)) pagelog_keepers_abandon(file->named.keepers);
+    pagelog_copies_abandon(file->named.copies);
 }
 
 /* Reads the newest end mark as a writer, and undoes what is after it. */
@@ -258,25 +256,33 @@ static enum pagelog_outcome out_of_memory(struct pagelog_file *file) {
     return pagelog_file_fail(file, PAGELOG_NO_MEMORY, "this process has no memory left");
 }
 
-enum pagelog_outcome pagelog_fetch(struct pagelog_file *file, uint64_t lsn, const uint32_t *pages,
-                                   size_t count, uint8_t *out) {
+enum pagelog_outcome pagelog_fetch(struct pagelog_file *file, uint64_t lsn, struct wanted wanted,
+                                   uint8_t *out) {
     uint64_t position = position_of(file, lsn); /* the settling may move the file */
     if (file->on_their_way > 0) {
         enum pagelog_outcome settled = pagelog_file_settle(file);
         if (settled != PAGELOG_DONE) return settled;
     }
-    return is_named(file) ? pagelog_fetch_wherever(file, position, pages, count, out)
-                          : pagelog_fetch_here(file, lsn, pages, count, out);
+    return is_named(file) ? pagelog_fetch_wherever(file, position, wanted, out)
+                          : pagelog_fetch_here(file, lsn, wanted, out);
 }
 
-enum pagelog_outcome pagelog_fetch_here(struct pagelog_file *file, uint64_t lsn, const uint32_t *pages,
-                                        size_t count, uint8_t *out) {
-    enum pagelog_outcome outcome = pagelog_get(file->log, role_of(file), lsn, pages, count, out);
+static enum pagelog_outcome get(struct pagelog_file *file, uint64_t lsn, struct wanted wanted, uint8_t *out) {
+    enum pagelog_role role = role_of(file);
+    size_t all = wanted.count + wanted.ahead;
+    return wanted.count == 1 ? pagelog_get_ahead(file->log, role, lsn, wanted.pages, all, out)
+                             : pagelog_get(file->log, role, lsn, wanted.pages, wanted.count, out);
+}
+
+enum pagelog_outcome pagelog_fetch_here(struct pagelog_file *file, uint64_t lsn, struct wanted wanted,
+                                        uint8_t *out) {
+    enum pagelog_outcome outcome = get(file, lsn, wanted, out);
     if (outcome == PAGELOG_FENCED && is_writer(file) && !pagelog_is_restarted(file->log)) {
         pagelog_become_follower(file);
-        outcome = pagelog_get(file->log, role_of(file), lsn, pages, count, out);
+        wanted.ahead = 0;
+        outcome = get(file, lsn, wanted, out);
     }
-    if (outcome == PAGELOG_DONE) file->pages_fetched += count;
+    if (outcome == PAGELOG_DONE) file->pages_fetched += wanted.count;
     return outcome;
 }
 
@@ -285,61 +291,13 @@ static bool is_fresh(const struct pagelog_file *file, uint32_t page) {
     return page > pages_of(file->least);
 }
 
-/* How many pages are fetched for one that is missing: more where page after page is missing. */
-static uint32_t pages_ahead(struct pagelog_file *file, uint32_t page) {
-    bool follows = page == file->last_miss + file->ahead;
-    uint32_t wanted = follows ? 2 * file->ahead : 1, left = pages_of(file->least) - page + 1;
-    if (wanted > GROUP) wanted = GROUP;
-    file->last_miss = page;
-    file->ahead = wanted < left ? wanted : left;
-    return file->ahead;
-}
-
-/* The same where all of the file has room in memory: more where who reads spends half of its time with pages
- * that are missing, in whatever order. One that misses a page now and then fetches that alone. */
-static uint32_t pages_to_fill(struct pagelog_file *file, uint64_t now) {
-    bool is_busy = now - file->fetched_at <= file->fetched_in;
-    if (pages_of(file->least) > pagelog_cache_most(file->cache)) return 1;
-    file->misses = is_busy ? file->misses + 1 : file->misses / 2;
-    if (file->misses > MOST_MISSES) file->misses = MOST_MISSES;
-    return UINT32_C(1) << file->misses / MISSES_EACH;
-}
-
-/* The pages that are fetched for one that is missing, which is the first, and others that are. */
-static uint32_t choose_pages(struct pagelog_file *file, uint32_t page, uint64_t now, uint32_t pages[GROUP]) {
-    uint32_t ahead = pages_ahead(file, page), fill = pages_to_fill(file, now), last = pages_of(file->least);
-    uint32_t wanted = fill > ahead ? fill : ahead, looked = fill > ahead ? LOOKED_FOR * fill : ahead;
-    uint32_t count = 0, at = page;
-    for (uint32_t i = 0; i < looked && i < last && count < wanted; i++) {
-        if (i == 0 || !pagelog_cache_has(file->cache, at)) pages[count++] = at;
-        at = at < last ? at + 1 : 1;
-    }
-    return count;
-}
-
-/* Fetches a page, and others that will probably be read next. */
-static enum pagelog_outcome fetch_page(struct pagelog_file *file, uint32_t page) {
-    uint64_t began = pagelog_now_ns();
-    uint32_t pages[GROUP] = {0}, count = choose_pages(file, page, began, pages);
-    enum pagelog_outcome outcome = pagelog_fetch(file, file->mark.lsn, pages, count, file->fetched);
-    for (uint32_t i = count; i > 0 && outcome == PAGELOG_DONE; i--) {
-        struct pagelog_frame *frame = pagelog_cache_make(file->cache, pages[i - 1]);
-        if (!frame) return out_of_memory(file);
-        memcpy(frame->base, file->fetched + (size_t)(i - 1) * PAGELOG_PAGE_BYTES, PAGELOG_PAGE_BYTES);
-        frame->has_base = true;
-    }
-    file->fetched_at = pagelog_now_ns();
-    file->fetched_in = file->fetched_at - began;
-    return outcome;
-}
-
 /* The bytes of a page as the transaction has it; NULL in `*found` for zeros. */
 static enum pagelog_outcome look_up(struct pagelog_file *file, uint32_t page, const uint8_t **found) {
     struct pagelog_frame *frame = pagelog_cache_find(file->cache, page);
     *found = frame ? frame->changed : NULL;
     if (*found || is_fresh(file, page)) return PAGELOG_DONE;
     if (!frame || !frame->has_base) {
-        enum pagelog_outcome outcome = fetch_page(file, page);
+        enum pagelog_outcome outcome = pagelog_fetch_page(file, page);
         if (outcome != PAGELOG_DONE) return outcome;
         frame = pagelog_cache_find(file->cache, page);
     }

@@ -31,9 +31,15 @@ enum { PAGELOG_NAME_BYTES = 255 }; /* of a database's name, at most */
 
 struct pagelog_file;
 
-/* Whether a reader goes to page servers: for positions that the service does not have any more; never; or
+/* Whether a reader goes to page servers: for pages, as long as one has them and answers soon, and else to the
+ * service, which says what is newest; for positions alone that the service does not have any more; never; or
  * alone, and then all that it reads is durable. */
-enum pagelog_pages { PAGELOG_PAGES_FOR_OLDER, PAGELOG_PAGES_NEVER, PAGELOG_PAGES_ONLY };
+enum pagelog_pages {
+    PAGELOG_PAGES_PREFERRED,
+    PAGELOG_PAGES_FOR_OLDER,
+    PAGELOG_PAGES_NEVER,
+    PAGELOG_PAGES_ONLY
+};
 
 struct pagelog_file_options {
     struct pagelog_options service;
@@ -91,6 +97,7 @@ struct pagelog_file_state {
     uint64_t on_their_way; /* commits that nobody waited for, and whose replies are not known yet */
     uint64_t losses;       /* how often such commits were lost */
     uint64_t commits, repairs, pages_fetched, blocks_written;
+    uint64_t pages_copied; /* of those that were fetched: at page servers beside the one that it is at */
     struct pagelog_counts wire;
 };
 
@@ -141,6 +148,13 @@ enum pagelog_outcome pagelog_file_begin(struct pagelog_file *file);
 enum pagelog_outcome pagelog_file_read(struct pagelog_file *file, uint64_t offset, void *bytes, size_t length,
                                        size_t *count);
 
+/* For who knows what is in the file: a page, from 1 on, refers to others, which will probably be read in this
+ * order or in any other. Where pages are missing some of these are asked for before they are read. */
+void pagelog_file_expect(struct pagelog_file *file, uint32_t parent, const uint32_t *pages, size_t count);
+
+/* Whether that was said of a page, and would be of no use again. */
+bool pagelog_file_expects(const struct pagelog_file *file, uint32_t parent);
+
 /* Replaces bytes, and makes the file longer where they go past its end. Nothing is sent. MALFORMED: past the
  * most bytes that a file may have. */
 enum pagelog_outcome pagelog_file_write(struct pagelog_file *file, uint64_t offset, const void *bytes,
@@ -186,6 +200,9 @@ void pagelog_file_hand_over(struct pagelog_file *file, uint32_t epoch, uint64_t 
 
 /* Of a named database: keepers may have gone on without the run that is read, so that the next begin asks. */
 void pagelog_file_suspect(struct pagelog_file *file);
+
+/* Of a named database: it has so many page servers, as keepers have said. */
+void pagelog_file_hear_of_page_servers(struct pagelog_file *file, unsigned count);
 
 /* Of a reader of what is durable: waits until this position is known to be, so that the next begin reads what
  * another file has read before. LOST: no keeper has said it in time. Else as of a begin. */

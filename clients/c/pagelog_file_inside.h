@@ -4,6 +4,7 @@
 
 #include "pagelog_cache.h"
 #include "pagelog_common.h"
+#include "pagelog_copies.h"
 #include "pagelog_file.h"
 #include "pagelog_place.h"
 #include "pagelog_tail.h"
@@ -68,21 +69,37 @@ struct named {
     const char *dropped; /* why the database is no more, and nothing goes on; NULL: it is there */
     const char *lost;    /* why commits were lost, until a begin; NULL: another writer has gone on */
     uint64_t shown;      /* position: of the newest transaction that was read at a page server */
-    bool is_accepted;    /* the service of this run has answered: it knows the principal */
-    uint64_t refused;    /* when that of this run said first that it does not; 0: it has not */
-    bool is_superseded;  /* PostgreSQL went on without the run that the file is in: another place is to be had
-                          */
-    bool is_between;     /* it has come to this generation, and not looked yet what is there of it */
-    bool is_sent_again;  /* blocks of the tail were sent in this move */
-    bool is_doubted;     /* another process may have written since the last begin */
-    uint32_t handed;     /* the epoch that the next begin goes on from as the writer; 0: it does not */
-    bool is_gone;      /* the transaction that was read is not to be had here: nothing but a begin goes on */
-    uint64_t given_up; /* how often that was so */
+    struct pagelog_copies *copies; /* of a reader: the page servers that it asks for pages; NULL: none yet */
+    uint8_t *copied;               /* room for the pages of one question to these; NULL: none yet */
+    struct pagelog_held held;      /* and the transactions that it has read in this run: */
+    char held_run[PAGELOG_RUN_BYTES];
+    uint64_t listed;    /* when keepers were asked last which page servers there are */
+    bool is_accepted;   /* the service of this run has answered: it knows the principal */
+    uint64_t refused;   /* when that of this run said first that it does not; 0: it has not */
+    bool is_superseded; /* PostgreSQL went on without the run that the file is in: another place is to be had
+                         */
+    bool is_between;    /* it has come to this generation, and not looked yet what is there of it */
+    bool is_sent_again; /* blocks of the tail were sent in this move */
+    bool is_doubted;    /* another process may have written since the last begin */
+    uint32_t handed;    /* the epoch that the next begin goes on from as the writer; 0: it does not */
+    bool is_gone;       /* the transaction that was read is not to be had here: nothing but a begin goes on */
+    uint64_t given_up;  /* how often that was so */
     uint64_t moves, resent;
     char noted[PAGELOG_RUN_BYTES]; /* the last run whose mark is not explained; whether that was not said yet
                                     */
     bool has_note;
     char why[WHY_BYTES]; /* a sentence on what was waited for in vain */
+};
+
+/* Pages that will probably be read, as who uses the file says: those that a few others refer to, up to as
+ * many as have room in memory, and are looked through at each page that is missing. */
+enum { MOST_PARENTS = 512, MOST_EXPECTED = 16384 };
+struct expected {
+    uint32_t *pages;
+    size_t count, room;
+    uint32_t parents[MOST_PARENTS];
+    size_t parent_count;
+    bool is_over; /* there were more */
 };
 
 struct pagelog_file {
@@ -115,14 +132,18 @@ struct pagelog_file {
     uint64_t begun;   /* when the last begin was asked for */
     uint64_t checked; /* when the service last said that this is the newest, or that the epoch is not over */
     bool is_checked;
-    uint32_t last_miss, ahead;       /* the page that was fetched last, and how many were with it */
-    uint32_t misses;                 /* that came soon after one another */
-    uint64_t fetched_at, fetched_in; /* when the last fetch ended, and how long it took, in nanoseconds */
-    uint8_t *fetched;                /* room for the pages of one fetch */
-    enum pagelog_outcome failed;     /* the last outcome of a call that the wire did not give, and why */
+    struct expected expected;
+    uint32_t run;      /* how many pages go with one that follows the last ones */
+    uint32_t asked;    /* how many were asked for ahead last */
+    uint32_t next_run; /* the page after them, or their place among those that are expected */
+    bool is_by_place;
+    uint32_t misses;             /* that came soon after one another */
+    uint64_t fetched_at;         /* when the last wait for a page ended */
+    uint64_t fetched_in;         /* how long all takes that was asked for with it; both in nanoseconds */
+    enum pagelog_outcome failed; /* the last outcome of a call that the wire did not give, and why */
     const char *reason;
     char words[REASON_BYTES]; /* of a reason that is made of several */
-    uint64_t commits, repairs, pages_fetched, blocks_written;
+    uint64_t commits, repairs, pages_fetched, pages_copied, blocks_written;
 };
 
 /* Enters an outcome that the wire did not give, and returns it. */
@@ -202,13 +223,27 @@ bool pagelog_has_mark(const struct pagelog_file *file, const uint8_t *block, str
 /* Whether two marks are of the same transaction. */
 bool pagelog_is_same_mark(const struct mark *one, const struct mark *other);
 
-/* Pages at an LSN, as the role that the file has. A writer that is fenced by it goes on as a secondary. */
-enum pagelog_outcome pagelog_fetch(struct pagelog_file *file, uint64_t lsn, const uint32_t *pages,
-                                   size_t count, uint8_t *out);
+/* Pages that are wanted: `count` of them now, and `ahead` more that will probably be read. */
+struct wanted {
+    const uint32_t *pages;
+    size_t count, ahead; /* ahead: 0 but where count is 1 */
+};
+
+/* Pages at an LSN, as the role that the file has. A writer that is fenced by it goes on as a secondary. Those
+ * ahead come into the cache later. */
+enum pagelog_outcome pagelog_fetch(struct pagelog_file *file, uint64_t lsn, struct wanted wanted,
+                                   uint8_t *out);
 
 /* The same, in the generation that the file is in, and with nothing on its way. */
-enum pagelog_outcome pagelog_fetch_here(struct pagelog_file *file, uint64_t lsn, const uint32_t *pages,
-                                        size_t count, uint8_t *out);
+enum pagelog_outcome pagelog_fetch_here(struct pagelog_file *file, uint64_t lsn, struct wanted wanted,
+                                        uint8_t *out);
+
+/* Fetches a page of the transaction that is read into the cache, and asks for others that will probably be
+ * read next. */
+enum pagelog_outcome pagelog_fetch_page(struct pagelog_file *file, uint32_t page);
+
+/* Takes a page that was asked for ahead, as of pagelog_set_taker. */
+void pagelog_take_page(void *argument, uint64_t lsn, uint32_t page, const uint8_t *bytes);
 
 /* Whether page 0 has another name than the options. */
 bool pagelog_is_misnamed(const struct pagelog_file *file, const uint8_t *page);

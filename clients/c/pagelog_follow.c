@@ -64,7 +64,10 @@ static enum pagelog_outcome take_block(struct pagelog_file *file, const uint8_t 
     if (!pagelog_has_mark(file, block, &mark)) return PAGELOG_DONE;
     enum pagelog_outcome outcome = pagelog_check_pending(file, &mark);
     if (outcome != PAGELOG_DONE) return outcome;
-    if (file->is_far) pagelog_cache_clear(file->cache);
+    if (file->is_far)
+        pagelog_cache_clear(file->cache);
+    else
+        pagelog_hold_transaction(file, &mark);
     file->is_far = false;
     apply_pending(file, &mark);
     return PAGELOG_DONE;

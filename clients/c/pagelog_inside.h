@@ -44,13 +44,17 @@ struct lent {
 /* Pieces that are lent at once, at most. */
 enum { MOST_LENT = 8 };
 
+/* Of the pages that are on their way and nobody waits for, a number for all with the same low bits. */
+enum { AHEAD_SLOTS = 1024 };
+
 /* A request in flight: what its reply has to fit. */
 struct asked {
     uint64_t lsn;
-    uint32_t epoch;
+    uint32_t epoch, page;
     uint16_t max;
     uint8_t operation;
     uint8_t is_exact;
+    bool is_unheard; /* nobody waits for the reply: it is passed over, but for a page (pagelog_set_taker) */
 };
 
 /* What a page has at an LSN of the log, from an offset on. */
@@ -90,9 +94,12 @@ struct pagelog {
     struct lent lent[MOST_LENT]; /* bytes of these requests that are not in the buffer; none of them empty */
     size_t lent_count;
     struct asked asked[PAGELOG_IN_FLIGHT]; /* a ring: the requests in flight, the oldest first */
-    size_t asked_first, asked_count;
-    size_t unheard;               /* requests before these, the replies to which are passed over */
-    bool is_tidying_refused;      /* one of them was, in the writing epoch */
+    size_t asked_first;
+    size_t asked_count, unheard;  /* of them: those whose replies are waited for, and the others */
+    uint16_t coming[AHEAD_SLOTS]; /* gets among the others, by their page */
+    pagelog_take *take;           /* who is given the pages among these, with its argument; NULL: nobody */
+    void *taker;
+    bool is_tidying_refused;      /* a report or a tidy among them was, in the writing epoch */
     uint32_t epoch;               /* the newest that was heard of; 0: none yet */
     uint32_t writing_epoch;       /* 0: no writer */
     uint64_t end;                 /* the highest LSN known to be in the log */
@@ -150,8 +157,17 @@ void pagelog_push(struct pagelog *log);
 size_t pagelog_encode_front(const struct pagelog_request *request, uint8_t front[FRONT_BYTES],
                             size_t *length);
 
-/* The replies to what is in flight will be passed over. REQUIRES: each of them is Done, or a refusal. */
+/* Nobody waits for the replies to what is in flight. REQUIRES: each of them is Done, a page, or a refusal. */
 void pagelog_pass_over(struct pagelog *log);
+
+/* As pagelog_send, of a get whose reply nobody waits for. */
+enum pagelog_outcome pagelog_send_ahead(struct pagelog *log, const struct pagelog_request *get);
+
+/* Somebody waits for the reply to a get that was sent so, if it is in flight: whether it is. */
+bool pagelog_await_ahead(struct pagelog *log, uint64_t lsn, uint32_t page);
+
+/* Takes the next replies that nobody waits for, as far as they were read from the connection. */
+void pagelog_take_ahead(struct pagelog *log);
 
 /* Whether all that was queued has left this process. */
 bool pagelog_is_pushed(const struct pagelog *log);

@@ -50,6 +50,7 @@ static void connect_to(struct pagelog_line *line, const struct addrinfo *at) {
     int one = 1;
     line->socket = socket(at->ai_family, at->ai_socktype | SOCK_NONBLOCK | SOCK_CLOEXEC, at->ai_protocol);
     if (line->socket < 0) return;
+    line->connects++;
     setsockopt(line->socket, IPPROTO_TCP, TCP_NODELAY, &one, sizeof one);
     bool is_open = connect(line->socket, at->ai_addr, at->ai_addrlen) == 0;
     if (!is_open && errno != EINPROGRESS) return pagelog_line_leave(line);
@@ -119,8 +120,13 @@ static bool awaits_nonce(const struct pagelog_line *line) {
     return line->proof && line->version == 0;
 }
 
+/* Whether bytes of the greeting are still to leave. */
+static bool has_to_greet(const struct pagelog_line *line) {
+    return !line->is_bare && line->greeted < sizeof greeting - 1;
+}
+
 bool pagelog_line_has_more(const struct pagelog_line *line, size_t length) {
-    if (line->is_connecting || line->greeted < sizeof greeting - 1) return true;
+    if (line->is_connecting || has_to_greet(line)) return true;
     return line->sent < length && !awaits_nonce(line);
 }
 
@@ -165,8 +171,8 @@ bool pagelog_line_send(struct pagelog_line *line, const char *text, size_t lengt
     if (line->is_shaking) return true;
     size_t whole = sizeof greeting - 1;
     int more = awaits_nonce(line) ? 0 : MSG_MORE;
-    if (line->greeted < whole && !send_rest(line, greeting, whole, &line->greeted, more)) return false;
-    if (line->greeted < whole || awaits_nonce(line)) return true;
+    if (has_to_greet(line) && !send_rest(line, greeting, whole, &line->greeted, more)) return false;
+    if (has_to_greet(line) || awaits_nonce(line)) return true;
     if (!send_proof(line)) return false;
     return line->proving_sent < line->proving_length || send_rest(line, text, length, &line->sent, 0);
 }

@@ -1,5 +1,6 @@
 /* A line to a keeper: one connection, over which lines of text go both ways. It greets the keeper, and learns
- * its version; of all else it knows not what it means (docs/LINES.md). */
+ * its version; of all else it knows not what it means (docs/LINES.md). One to a page server greets nobody,
+ * and its bytes are requests and replies, which who uses it reads. */
 #ifndef PAGELOG_LINE_H
 #define PAGELOG_LINE_H
 
@@ -15,6 +16,7 @@ enum { PAGELOG_LINES_VERSION = 2 };
 struct pagelog_line {
     char host[PAGELOG_PLACE_BYTES], port[16];
     int socket;                    /* -1: none */
+    unsigned connects;             /* how many connections were begun */
     struct pagelog_tls *tls;       /* NULL: none is spoken */
     struct pagelog_secure *secure; /* NULL: none yet */
     bool is_shaking, awaits_shake; /* its handshake is not done; and waits for bytes of the keeper */
@@ -25,6 +27,7 @@ struct pagelog_line {
     bool is_silent;              /* one of them has not even refused it in time */
     char why[PAGELOG_WHY_BYTES]; /* what was wrong with TLS, of the last question; empty: nothing */
     unsigned unheard;            /* answers before that, which nobody waits for any more */
+    bool is_bare;                /* no greeting goes before the question */
     size_t greeted;              /* bytes of the greeting that have left */
     unsigned version;            /* the keeper's; 0: it has not answered the greeting yet */
     const struct pagelog_proof *proof; /* what is to be proved before the question; NULL: nothing */

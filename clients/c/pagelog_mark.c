@@ -190,7 +190,8 @@ enum pagelog_outcome pagelog_take_mark(struct pagelog_file *file, uint64_t lsn) 
     struct mark mark;
     uint64_t position = position_of(file, lsn); /* the fetch may move the file */
     bool was_gone = file->named.is_gone;
-    enum pagelog_outcome outcome = pagelog_fetch(file, lsn, &number, 1, page);
+    enum pagelog_outcome outcome =
+        pagelog_fetch(file, lsn, (struct wanted){.pages = &number, .count = 1}, page);
     bool is_gone_now = file->named.is_gone && !was_gone;
     lsn = lsn_of(file, position);
     /* What was read before is not there, and is not asked for: another look may be had. */

@@ -31,7 +31,7 @@ uint64_t pagelog_limit_of(const struct pagelog_file *file);
 
 /* As pagelog_fetch, at a position. LOST where that cannot be had any more. */
 enum pagelog_outcome pagelog_fetch_wherever(struct pagelog_file *file, uint64_t position,
-                                            const uint32_t *pages, size_t count, uint8_t *out);
+                                            struct wanted wanted, uint8_t *out);
 
 /* What every call but a begin returns where `is_gone`: LOST. */
 enum pagelog_outcome pagelog_refuse_gone(struct pagelog_file *file);
@@ -86,6 +86,14 @@ enum pagelog_outcome pagelog_look_at_page_server(struct pagelog_file *file);
 
 /* The same as pagelog_file_reach, of one that is at a page server. */
 enum pagelog_outcome pagelog_reach_at_page_server(struct pagelog_file *file, uint64_t position);
+
+/* Pages, PAGELOG_COPY_PAGES at most, as the transaction that is read has them, of a page server: the file's
+ * until the next call. NULL where none has them and answers soon, or none is to be asked: the service has
+ * them then. */
+const uint8_t *pagelog_fetch_copied(struct pagelog_file *file, const uint32_t *pages, size_t count);
+
+/* A follower has pulled all blocks up to this mark since the transaction that is read, and goes on to it. */
+void pagelog_hold_transaction(struct pagelog_file *file, const struct mark *mark);
 
 /* The transaction that was read cannot be had any more. */
 void pagelog_give_up_transaction(struct pagelog_file *file);

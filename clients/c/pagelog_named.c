@@ -147,20 +147,21 @@ enum pagelog_outcome pagelog_begin_named(struct pagelog_file *file,
 }
 
 enum pagelog_outcome pagelog_fetch_wherever(struct pagelog_file *file, uint64_t position,
-                                            const uint32_t *pages, size_t count, uint8_t *out) {
+                                            struct wanted wanted, uint8_t *out) {
     file->reason = NULL;
     bool was_gone = file->named.is_gone; /* a begin asks for the newest one then */
     enum pagelog_outcome outcome = pagelog_arrive(file);
     if (outcome != PAGELOG_DONE) return outcome;
     if (file->named.is_gone && !was_gone) return pagelog_refuse_gone(file);
-    outcome = pagelog_fetch_here(file, lsn_of(file, position), pages, count, out);
+    outcome = pagelog_fetch_here(file, lsn_of(file, position), wanted, out);
     if (outcome == PAGELOG_DONE) return outcome;
+    wanted.ahead = 0;
     struct pagelog_file_patience patience = pagelog_file_patience(file);
     for (unsigned moves = 0; pagelog_may_move(file, outcome) && may_try(file, moves, &patience); moves++) {
         outcome = pagelog_move(file, outcome);
         if (outcome != PAGELOG_DONE) return outcome;
         if (file->named.is_gone) return was_gone ? PAGELOG_LOST : pagelog_refuse_gone(file);
-        outcome = pagelog_fetch_here(file, lsn_of(file, position), pages, count, out);
+        outcome = pagelog_fetch_here(file, lsn_of(file, position), wanted, out);
     }
     return outcome;
 }

@@ -153,8 +153,8 @@ enum pagelog_outcome pagelog_file_origin(struct pagelog_file *file, char *text, 
     struct mark mark = file->mark;
     struct origin origin;
     *text = 0;
-    enum pagelog_outcome outcome =
-        mark.lsn > 0 ? pagelog_fetch(file, mark.lsn, &number, 1, page) : PAGELOG_DONE;
+    struct wanted wanted = {.pages = &number, .count = 1};
+    enum pagelog_outcome outcome = mark.lsn > 0 ? pagelog_fetch(file, mark.lsn, wanted, page) : PAGELOG_DONE;
     if (mark.lsn > 0 && outcome == PAGELOG_DONE && read_origin(page + ORIGIN_PLACE, &mark, &origin))
         snprintf(text, room, "%s/%s", origin.database, origin.run);
     return outcome;

@@ -1,10 +1,14 @@
 /* Readers of a named database that go to a page server in place of its service: there positions are LSNs, all
- * of them are durable, and the epoch is 1. */
+ * of them are durable, and the epoch is 1. And those that ask page servers for pages alone, beside where they
+ * are, which says what is newest. */
+#include "pagelog_copy.h"
+#include "pagelog_inside.h"
 #include "pagelog_move.h"
 
+#include <stdlib.h>
 #include <string.h>
 
-enum { GLANCE_MS = 1000 };
+enum { GLANCE_MS = 1000, LIST_MS = 5000, SOON_MS = 50 };
 
 /* Whether a position is not to be had at the service of a place. */
 static bool is_below(uint64_t position, const struct pagelog_place *place) {
@@ -104,4 +108,76 @@ enum pagelog_outcome pagelog_reach_at_page_server(struct pagelog_file *file, uin
         outcome = pagelog_look_at_page_server(file);
     }
     return outcome;
+}
+
+/* ---- Beside where the file is ---- */
+
+/* Whether page servers are asked for pages of the transaction that is read. */
+static bool may_ask(const struct pagelog_file *file) {
+    const struct named *named = &file->named;
+    bool is_wanted =
+        file->options.pages == PAGELOG_PAGES_PREFERRED || file->options.pages == PAGELOG_PAGES_ONLY;
+    bool is_here = named->has_place && !named->is_between && !named->is_gone && !named->dropped;
+    return is_named(file) && file->options.reads_only && is_wanted && is_here && named->place.pages > 0 &&
+           file->mark.lsn > 0 && pagelog_is_own(file->log);
+}
+
+static struct pagelog_held_mark held_mark(const struct pagelog_file *file, const struct mark *mark) {
+    return (struct pagelog_held_mark){
+        .position = position_of(file, mark->lsn), .session = mark->session, .transaction = mark->transaction};
+}
+
+/* Whether the last transaction that is held is this one, of the run that the file is in. */
+static bool is_held(const struct pagelog_file *file, const struct pagelog_held_mark *mark) {
+    const struct named *named = &file->named;
+    const struct pagelog_held_mark *last = pagelog_held_last(&named->held);
+    return last && strcmp(named->held_run, named->place.run) == 0 && last->position == mark->position &&
+           last->session == mark->session && last->transaction == mark->transaction;
+}
+
+void pagelog_hold_transaction(struct pagelog_file *file, const struct mark *mark) {
+    struct pagelog_held_mark before = held_mark(file, &file->mark), next = held_mark(file, mark);
+    if (is_held(file, &before))
+        pagelog_held_add(&file->named.held, &next, file->pending.bytes, file->pending.length);
+}
+
+/* Holds the transaction that is read. One run has one history: what was proved of page servers holds in it.
+ */
+static void hold_read(struct pagelog_file *file) {
+    struct named *named = &file->named;
+    struct pagelog_held_mark mark = held_mark(file, &file->mark);
+    if (is_held(file, &mark)) return;
+    if (strcmp(named->held_run, named->place.run) != 0) pagelog_copies_doubt(named->copies);
+    strcpy(named->held_run, named->place.run);
+    pagelog_held_begin(&named->held, &mark);
+}
+
+void pagelog_file_hear_of_page_servers(struct pagelog_file *file, unsigned count) {
+    file->named.place.pages = count;
+}
+
+/* Asks which page servers there are, where that is due. */
+static void list_copies(struct pagelog_file *file) {
+    struct named *named = &file->named;
+    struct pagelog_page_server servers[PAGELOG_MOST_PAGE_SERVERS];
+    size_t count;
+    uint64_t now = pagelog_now();
+    if (named->listed > 0 && now - named->listed < LIST_MS) return;
+    named->listed = now;
+    if (pagelog_page_servers_soon(named->keepers, SOON_MS, servers, &count) == PAGELOG_DONE)
+        pagelog_copies_set(named->copies, servers, count, named->keepers, named->token);
+}
+
+const uint8_t *pagelog_fetch_copied(struct pagelog_file *file, const uint32_t *pages, size_t count) {
+    struct named *named = &file->named;
+    if (!may_ask(file)) return NULL;
+    if (!named->copies) named->copies = pagelog_copies_new(&file->options.service);
+    if (!named->copied) named->copied = malloc(PAGELOG_COPY_PAGES * PAGELOG_PAGE_BYTES);
+    if (!named->copies || !named->copied) return NULL;
+    hold_read(file);
+    list_copies(file);
+    if (!pagelog_copies_get(named->copies, &named->held, pages, count, named->copied)) return NULL;
+    file->pages_fetched += count;
+    file->pages_copied += count;
+    return named->copied;
 }

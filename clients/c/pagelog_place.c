@@ -388,6 +388,7 @@ bool pagelog_where_take(struct pagelog_keepers *keepers, uint64_t ms, struct pag
         .is_doubtful = !told->is_found && (told->unknown > 0 || told->is_other),
     };
     if (told->is_found) strcpy(said->run, keepers->found.run);
+    if (told->is_found) said->pages = keepers->found.pages;
     if (ready >= 0 && pagelog_now() < told->until) return false;
     stop_asking(keepers, line, true);
     return true;
@@ -511,12 +512,16 @@ static size_t read_page_servers(char **words, size_t count,
     return read;
 }
 
+static void ask_for_page_servers(const struct pagelog_keepers *keepers, char line[LINE_BYTES]) {
+    snprintf(line, LINE_BYTES, "pages %s of=%s\n", keepers->name, keepers->own.database);
+}
+
 enum pagelog_outcome pagelog_page_servers(struct pagelog_keepers *keepers,
                                           struct pagelog_page_server found[PAGELOG_MOST_PAGE_SERVERS],
                                           size_t *count) {
     char line[LINE_BYTES], answer[PAGELOG_LINE_BYTES], *words[MOST_WORDS];
     bool is_told = false;
-    snprintf(line, sizeof line, "pages %s of=%s\n", keepers->name, keepers->own.database);
+    ask_for_page_servers(keepers, line);
     *count = 0;
     for (size_t i = 0; i < keepers->count && *count == 0; i++) {
         size_t length = ask_one(keepers, &keepers->keepers[i], line, ANSWER_MS, answer, words);
@@ -524,6 +529,28 @@ enum pagelog_outcome pagelog_page_servers(struct pagelog_keepers *keepers,
         is_told |= is_answer;
         if (is_answer) *count = read_page_servers(words, length, found);
     }
+    return is_told ? PAGELOG_DONE : PAGELOG_LOST;
+}
+
+enum pagelog_outcome pagelog_page_servers_soon(struct pagelog_keepers *keepers, uint64_t ms,
+                                               struct pagelog_page_server found[PAGELOG_MOST_PAGE_SERVERS],
+                                               size_t *count) {
+    char line[LINE_BYTES], answer[PAGELOG_LINE_BYTES], *words[MOST_WORDS];
+    uint64_t until = pagelog_after(ms);
+    bool is_told = false;
+    *count = 0;
+    ask_for_page_servers(keepers, line);
+    for (size_t i = 0; i < keepers->count; i++) {
+        keepers->keepers[i].proof = NULL;
+        pagelog_line_ask(&keepers->keepers[i]);
+    }
+    while (*count == 0 && next_answer(keepers, line, until, answer)) {
+        size_t length = split(answer, words);
+        bool is_answer = length >= 2 && strcmp(words[0], "pages") == 0;
+        is_told |= is_answer;
+        if (is_answer) *count = read_page_servers(words, length, found);
+    }
+    stop_asking(keepers, line, true);
     return is_told ? PAGELOG_DONE : PAGELOG_LOST;
 }
 

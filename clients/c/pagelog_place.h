@@ -118,6 +118,7 @@ enum pagelog_outcome pagelog_where(struct pagelog_keepers *keepers, uint64_t lea
 struct pagelog_told {
     uint64_t generation;
     char run[PAGELOG_RUN_BYTES];
+    unsigned pages; /* how many page servers the database has */
     bool is_doubtful;
 };
 
@@ -144,6 +145,11 @@ enum pagelog_outcome pagelog_fate_at_once(struct pagelog_keepers *keepers, const
 enum pagelog_outcome pagelog_page_servers(struct pagelog_keepers *keepers,
                                           struct pagelog_page_server found[PAGELOG_MOST_PAGE_SERVERS],
                                           size_t *count);
+
+/* The same, of all keepers side by side, for so long at most: the first that names any. */
+enum pagelog_outcome pagelog_page_servers_soon(struct pagelog_keepers *keepers, uint64_t ms,
+                                               struct pagelog_page_server found[PAGELOG_MOST_PAGE_SERVERS],
+                                               size_t *count);
 
 /* Tells the keeper of a place that its service had no memory: it begins the next generation, if it may. */
 void pagelog_keepers_tell_full(struct pagelog_keepers *keepers, const struct pagelog_place *place);

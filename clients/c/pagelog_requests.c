@@ -113,14 +113,46 @@ static enum pagelog_outcome read_frame(struct pagelog *log, const uint8_t **body
 
 /* ---- Requests in flight ---- */
 
+static size_t in_flight(const struct pagelog *log) {
+    return log->asked_count + log->unheard;
+}
+
+/* The request that was asked so many after the oldest in flight. */
+static struct asked *asked_at(struct pagelog *log, size_t index) {
+    return &log->asked[(log->asked_first + index) % PAGELOG_IN_FLIGHT];
+}
+
+/* Whether nobody waits for the next reply. */
+static bool is_next_unheard(struct pagelog *log) {
+    return in_flight(log) > 0 && asked_at(log, 0)->is_unheard;
+}
+
+/* Notes whether somebody waits for the reply to a request. */
+static void set_unheard(struct pagelog *log, struct asked *asked, bool is_unheard) {
+    int one = is_unheard ? 1 : -1;
+    if (asked->is_unheard == is_unheard) return;
+    asked->is_unheard = is_unheard;
+    log->unheard += (size_t)one;
+    log->asked_count -= (size_t)one;
+    if (asked->operation == PAGELOG_GET) log->coming[asked->page % AHEAD_SLOTS] += (uint16_t)one;
+}
+
+/* The oldest request in flight, which is answered. */
+static struct asked take_asked(struct pagelog *log) {
+    struct asked asked = *asked_at(log, 0);
+    set_unheard(log, &asked, false);
+    log->asked_first = (log->asked_first + 1) % PAGELOG_IN_FLIGHT;
+    log->asked_count--;
+    return asked;
+}
+
 /* Queues a request. The bytes at its end stay where they are if they may be lent; even then the output has
  * room for them. */
 static enum pagelog_outcome queue(struct pagelog *log, const struct pagelog_request *request, bool may_lend) {
     struct buffer *output = &log->output;
     uint8_t front[FRONT_BYTES];
     size_t length = 0, front_length = pagelog_encode_front(request, front, &length);
-    if (log->asked_count == PAGELOG_IN_FLIGHT || front_length == 0)
-        return pagelog_fail(log, PAGELOG_MALFORMED);
+    if (in_flight(log) == PAGELOG_IN_FLIGHT || front_length == 0) return pagelog_fail(log, PAGELOG_MALFORMED);
     if (!pagelog_reserve(output, pagelog_lent_bytes(log) + 4 + front_length + length))
         return pagelog_fail(log, PAGELOG_NO_MEMORY);
     uint8_t *at = pagelog_write_number(output->bytes + output->end, front_length + length, 4);
@@ -132,7 +164,8 @@ static enum pagelog_outcome queue(struct pagelog *log, const struct pagelog_requ
         if (length > 0) memcpy(at + front_length, request->bytes, length);
         output->end += length;
     }
-    log->asked[(log->asked_first + log->asked_count++) % PAGELOG_IN_FLIGHT] = pagelog_asked_of(request);
+    *asked_at(log, in_flight(log)) = pagelog_asked_of(request);
+    log->asked_count++;
     log->counts.requests++;
     return PAGELOG_DONE;
 }
@@ -162,24 +195,88 @@ enum pagelog_outcome pagelog_lend(struct pagelog *log, const struct pagelog_requ
 }
 
 void pagelog_pass_over(struct pagelog *log) {
-    log->unheard += log->asked_count;
-    log->asked_count = 0;
+    for (size_t i = 0; i < in_flight(log); i++)
+        set_unheard(log, asked_at(log, i), true);
 }
 
-/* Reads the next reply, which is passed over. */
+enum pagelog_outcome pagelog_send_ahead(struct pagelog *log, const struct pagelog_request *get) {
+    enum pagelog_outcome outcome = pagelog_send(log, get);
+    if (outcome != PAGELOG_DONE) return outcome;
+    set_unheard(log, asked_at(log, in_flight(log) - 1), true);
+    return PAGELOG_DONE;
+}
+
+/* The place of a get of a page at an LSN whose reply nobody waits for; behind the last where there is none.
+ */
+static size_t find_ahead(const struct pagelog *log, uint64_t lsn, uint32_t page) {
+    size_t count = log->coming[page % AHEAD_SLOTS] > 0 ? in_flight(log) : 0;
+    for (size_t i = 0; i < count; i++) {
+        const struct asked *asked = &log->asked[(log->asked_first + i) % PAGELOG_IN_FLIGHT];
+        bool is_get = asked->is_unheard && asked->operation == PAGELOG_GET;
+        if (is_get && asked->page == page && asked->lsn == lsn) return i;
+    }
+    return in_flight(log);
+}
+
+bool pagelog_is_ahead(const struct pagelog *log, uint64_t lsn, uint32_t page) {
+    return find_ahead(log, lsn, page) < in_flight(log);
+}
+
+bool pagelog_await_ahead(struct pagelog *log, uint64_t lsn, uint32_t page) {
+    size_t place = find_ahead(log, lsn, page);
+    if (place == in_flight(log)) return false;
+    set_unheard(log, asked_at(log, place), false);
+    return true;
+}
+
+size_t pagelog_count_ahead(const struct pagelog *log) {
+    return log->unheard;
+}
+
+void pagelog_set_taker(struct pagelog *log, pagelog_take *take, void *argument) {
+    log->take = take;
+    log->taker = argument;
+}
+
+/* Reads the next reply, which nobody waits for. A page goes to who takes it. */
 static enum pagelog_outcome pass_over_one(struct pagelog *log) {
     const uint8_t *body = NULL;
     size_t length = 0;
     struct pagelog_reply reply;
     enum pagelog_outcome outcome = read_frame(log, &body, &length);
     if (outcome != PAGELOG_DONE) return outcome;
-    const struct asked report = {.operation = PAGELOG_REPORT}; /* or a tidy, which is answered alike */
-    if (pagelog_decode_reply(body, length, &reply) != 0 || !pagelog_answers(report, &reply))
+    struct asked asked = take_asked(log);
+    if (pagelog_decode_reply(body, length, &reply) != 0 || !pagelog_answers(asked, &reply))
         return pagelog_distrust(log);
-    if (reply.kind != PAGELOG_REPLY_DONE) log->is_tidying_refused = true;
-    log->unheard--;
     log->counts.replies++;
+    if (asked.operation != PAGELOG_GET)
+        log->is_tidying_refused |= reply.kind != PAGELOG_REPLY_DONE;
+    else if (reply.kind == PAGELOG_REPLY_PAGE && log->take && !log->is_restarted)
+        log->take(log->taker, asked.lsn, asked.page, reply.bytes);
     return PAGELOG_DONE;
+}
+
+/* Whether the next frame is all there, and a reply that is Done. */
+static bool is_done_next(const struct pagelog *log) {
+    static const uint8_t frame[] = {0, 0, 0, 1, PAGELOG_REPLY_DONE};
+    return held(&log->input) >= sizeof frame &&
+           memcmp(log->input.bytes + log->input.start, frame, sizeof frame) == 0;
+}
+
+/* Whether the next frame is all there. */
+static bool is_whole_next(const struct pagelog *log) {
+    const struct buffer *input = &log->input;
+    return held(input) >= 4 && held(input) - 4 >= pagelog_read_number(input->bytes + input->start, 4);
+}
+
+/* Whether the next reply is to a get that nobody waits for. */
+static bool is_next_ahead(struct pagelog *log) {
+    return is_next_unheard(log) && asked_at(log, 0)->operation == PAGELOG_GET;
+}
+
+void pagelog_take_ahead(struct pagelog *log) {
+    while (is_next_ahead(log) ? is_whole_next(log) : is_next_unheard(log) && is_done_next(log))
+        pass_over_one(log);
 }
 
 enum pagelog_outcome pagelog_receive(struct pagelog *log, struct pagelog_reply *reply) {
@@ -188,13 +285,11 @@ enum pagelog_outcome pagelog_receive(struct pagelog *log, struct pagelog_reply *
     memset(reply, 0, sizeof *reply);
     if (log->asked_count == 0) return pagelog_fail(log, PAGELOG_MALFORMED);
     enum pagelog_outcome outcome = pagelog_flush(log);
-    while (outcome == PAGELOG_DONE && log->unheard > 0)
+    while (outcome == PAGELOG_DONE && is_next_unheard(log))
         outcome = pass_over_one(log);
     if (outcome == PAGELOG_DONE) outcome = read_frame(log, &body, &length);
     if (outcome != PAGELOG_DONE) return outcome;
-    struct asked asked = log->asked[log->asked_first];
-    log->asked_first = (log->asked_first + 1) % PAGELOG_IN_FLIGHT;
-    log->asked_count--;
+    struct asked asked = take_asked(log);
     if (pagelog_decode_reply(body, length, reply) != 0 || !pagelog_answers(asked, reply)) {
         memset(reply, 0, sizeof *reply);
         return pagelog_distrust(log);
@@ -231,23 +326,16 @@ size_t pagelog_in_flight(const struct pagelog *log) {
     return log->asked_count;
 }
 
-/* Whether the next frame is all there, and a reply that is Done. */
-static bool is_done_next(const struct pagelog *log) {
-    static const uint8_t frame[] = {0, 0, 0, 1, PAGELOG_REPLY_DONE};
-    return held(&log->input) >= sizeof frame &&
-           memcmp(log->input.bytes + log->input.start, frame, sizeof frame) == 0;
-}
-
 size_t pagelog_take_done(struct pagelog *log, bool *is_over) {
     struct pagelog_reply reply;
     size_t count = 0;
     bool is_full = held(&log->input) >= MOST_INPUT; /* of what was not asked for, mostly */
     *is_over = !pagelog_is_pushed(log) || (!is_full && !pagelog_read_some(log, MSG_DONTWAIT));
     if (*is_over) return 0;
-    while (log->unheard > 0 && is_done_next(log))
-        pass_over_one(log);
+    pagelog_take_ahead(log);
+    if (is_next_ahead(log)) return 0; /* the replies that are waited for come after it */
     while (log->asked_count > 0 && is_done_next(log) && pagelog_receive(log, &reply) == PAGELOG_DONE)
         count++;
-    *is_over = held(&log->input) >= LEAST_REPLY;
+    *is_over = log->socket < 0 || held(&log->input) >= LEAST_REPLY;
     return count;
 }

@@ -114,6 +114,7 @@ struct pagelog_file_state pagelog_file_state_of(const struct pagelog_file *file)
         .commits = file->commits,
         .repairs = file->repairs,
         .pages_fetched = file->pages_fetched,
+        .pages_copied = file->pages_copied,
         .blocks_written = file->blocks_written,
         .wire = pagelog_counts_of(file->log),
     };

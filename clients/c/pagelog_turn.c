@@ -10,6 +10,10 @@
 
 enum { ANSWER_MS = 1000, SHUNNED_MS = 1000, PATIENT_MS = 3000, FRESH_MS = 10, MOST_READS = 128 };
 
+/* So soon after a place has become known a keeper that lives may wait for who wrote last in the generation
+ * before, and answers nobody else for a second. */
+enum { YOUNG_MS = 2000 };
+
 /* Of who writes one transaction after the other: milliseconds from one to the next, and how many times. */
 enum { GAP_MS = 1, FEW_GAPS = 3, MOST_SLICE_MS = 1000 };
 
@@ -119,14 +123,22 @@ static bool say(struct pagelog_turn *turn, const char *word, const char *more) {
     return turn->line.socket >= 0;
 }
 
-/* Waits for the answer to a question that is answered at once, if only by `soon`. */
+/* Whether the keeper may wait for who wrote last: it has answered the greeting in a place that is new. */
+static bool is_young(const struct pagelog_turn *turn, uint64_t now) {
+    return turn->line.version > 0 && now - turn->led < YOUNG_MS;
+}
+
+/* Waits for the answer to a question that is answered at once, if only by `soon`. One that a keeper which
+ * lives still owes is waited for longer, and nobody is patient for longer than with any other. */
 static enum pagelog_outcome answer(struct pagelog_turn *turn) {
-    uint64_t until = pagelog_after(ANSWER_MS);
+    uint64_t began = pagelog_now(), until = pagelog_after(ANSWER_MS);
     for (;;) {
         struct pollfd fd = {.fd = turn->line.socket, .events = POLLIN};
         uint64_t now = pagelog_now();
         enum pagelog_outcome outcome = pagelog_turn_look(turn);
         if (outcome != PAGELOG_CONFLICT || !turn->is_asked || turn->is_soon) return outcome;
+        if (now >= until && is_young(turn, now)) until = turn->led + YOUNG_MS;
+        if (now >= until && turn->patient == 0) turn->patient = began + ANSWER_MS + PATIENT_MS;
         if (now >= until) return lose(turn);
         poll(&fd, 1, (int)(until - now));
     }
@@ -146,6 +158,7 @@ static bool lead_to(struct pagelog_turn *turn, const struct pagelog_place *place
     strcpy(turn->proof.of, of);
     turn->line.proof = turn->proof.is_there ? &turn->proof : NULL;
     turn->generation = place->generation;
+    turn->led = pagelog_now();
     turn->shunned = turn->patient = 0;
     return true;
 }

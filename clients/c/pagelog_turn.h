@@ -34,6 +34,7 @@ struct pagelog_turn {
     uint64_t slice;     /* until when the one that is held is used without a word; 0: it is no slice */
     uint64_t given;     /* when it was given back last, or would have been; 0: it was asked for since */
     unsigned gaps;      /* how often in a row it was asked for right after that */
+    uint64_t led;       /* when this place was asked for first */
     uint64_t shunned;   /* until when a keeper that has not answered is left alone */
     uint64_t patient;   /* until when another keeper may have it, since it was lost here; 0: it was not */
 };

@@ -52,8 +52,10 @@
  *   name=NAME        what they call it. A writer needs `op`, and has to be allowed to read as a secondary
  *   move=MS          how long a call waits for a generation that it can go on in; 30000
  *   durable=1        a secondary that sees nothing that could still be lost
- *   page_servers=W   older: a secondary goes to one for what is from before the base of the generation, as
- *                    `at` or the transaction that it reads; only: and for all, so that all is durable; never
+ *   page_servers=W   prefer: a secondary asks one for pages where it has them and answers soon, else the
+ *                    service, which says what is newest; older: for what is from before the base of the
+ *                    generation alone, as `at` or the transaction that it reads; only: for all, so that all
+ * is durable; never
  *
  * There `at` is a position, and synchronous=full and extra say that a COMMIT waits until the archive has it;
  * normal, until the service has, and a close waits for the archive. What was acknowledged and is not durable

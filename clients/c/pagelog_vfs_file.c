@@ -110,6 +110,34 @@ static int as_io_error(int code) {
     return is_known ? code : SQLITE_IOERR;
 }
 
+/* Of a page of a B-tree: where its head is, its kind, how many cells it has, its last child, and where the
+ * places of the cells begin. Each cell of an inner one begins with a child. */
+enum { FIRST_HEAD = 100, CELLS_AT = 3, LAST_CHILD_AT = 8, PLACES_AT = 12, PLACE_BYTES = 2, CHILD_BYTES = 4 };
+enum {
+    INNER_OF_INDEX = 2,
+    INNER_OF_TABLE = 5,
+    MOST_CELLS = PAGELOG_PAGE_BYTES / (PLACE_BYTES + CHILD_BYTES)
+};
+
+/* Where a page that was read is an inner one of a B-tree, its children will probably be read. Any other that
+ * looks like one does no harm. */
+static void expect_children(struct pagelog_file *file, const unsigned char *bytes, uint32_t page) {
+    const unsigned char *head = bytes + (page == 1 ? FIRST_HEAD : 0);
+    uint32_t children[MOST_CELLS + 1];
+    uint32_t last = (uint32_t)(pagelog_file_size(file) / PAGELOG_PAGE_BYTES);
+    if ((*head != INNER_OF_INDEX && *head != INNER_OF_TABLE) || pagelog_file_expects(file, page)) return;
+    size_t count = (size_t)pagelog_read_number(head + CELLS_AT, 2);
+    if (count > MOST_CELLS - FIRST_HEAD) return;
+    for (size_t i = 0; i <= count; i++) {
+        size_t at = (size_t)pagelog_read_number(head + PLACES_AT + i * PLACE_BYTES, PLACE_BYTES);
+        const unsigned char *child = i == count ? head + LAST_CHILD_AT : bytes + at;
+        if (i < count && at > PAGELOG_PAGE_BYTES - CHILD_BYTES) return;
+        children[i] = (uint32_t)pagelog_read_number(child, CHILD_BYTES);
+        if (children[i] == 0 || children[i] > last) return;
+    }
+    pagelog_file_expect(file, page, children, count + 1);
+}
+
 static int file_read(sqlite3_file *file, void *bytes, int length, sqlite3_int64 offset) {
     struct database *database = enter(file);
     size_t count = 0;
@@ -124,6 +152,8 @@ static int file_read(sqlite3_file *file, void *bytes, int length, sqlite3_int64 
     int code = pagelog_result(
         database, pagelog_file_read(database->file, (uint64_t)offset, bytes, (size_t)length, &count));
     if (code == SQLITE_OK && count < (size_t)length) code = SQLITE_IOERR_SHORT_READ;
+    if (code == SQLITE_OK && length == PAGELOG_PAGE_BYTES && offset % PAGELOG_PAGE_BYTES == 0)
+        expect_children(database->file, bytes, (uint32_t)(offset / PAGELOG_PAGE_BYTES) + 1);
     if (code == SQLITE_OK) read_as_with_journal(bytes, length, offset);
     return leave(database, as_io_error(code));
 }

@@ -154,6 +154,7 @@ void pagelog_poll_holder(struct database *database) {
     bool is_left = is_another(&poll->told, pagelog_file_place(database->file)) || poll->told.is_doubtful;
     bool is_told = is_left && database->polled != poll->rounds;
     if (is_told) database->polled = poll->rounds;
+    if (poll->told.generation > 0) pagelog_file_hear_of_page_servers(database->file, poll->told.pages);
     sqlite3_mutex_leave(poll->mutex);
     if (is_told) pagelog_file_suspect(database->file);
 }

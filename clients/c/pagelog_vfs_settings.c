@@ -163,8 +163,10 @@ static bool is_shown_or_hidden(sqlite3_filename uri) {
 
 /* Whether a reader goes to page servers; false where it says something else. */
 static bool read_pages(sqlite3_filename uri, enum pagelog_pages *pages) {
-    static const char *const words[] = {
-        [PAGELOG_PAGES_FOR_OLDER] = "older", [PAGELOG_PAGES_NEVER] = "never", [PAGELOG_PAGES_ONLY] = "only"};
+    static const char *const words[] = {[PAGELOG_PAGES_PREFERRED] = "prefer",
+                                        [PAGELOG_PAGES_FOR_OLDER] = "older",
+                                        [PAGELOG_PAGES_NEVER] = "never",
+                                        [PAGELOG_PAGES_ONLY] = "only"};
     char text[VALUE_BYTES];
     bool is_known = !find_setting(uri, "page_servers", text);
     for (unsigned i = 0; i < sizeof words / sizeof *words && !is_known; i++)

@@ -2,7 +2,21 @@
 
 import ctypes
 import os
-from ctypes import POINTER, Structure, byref, c_bool, c_char_p, c_int, c_size_t, c_ssize_t, c_uint, c_uint8, c_uint16, c_uint32, c_uint64
+from ctypes import (
+    POINTER,
+    Structure,
+    byref,
+    c_bool,
+    c_char_p,
+    c_int,
+    c_size_t,
+    c_ssize_t,
+    c_uint,
+    c_uint8,
+    c_uint16,
+    c_uint32,
+    c_uint64,
+)
 from ctypes import c_void_p
 
 from service import CLIENT
@@ -10,7 +24,17 @@ from service import CLIENT
 LIBRARY = os.environ.get("PAGELOG_LIBRARY") or str(CLIENT / "out" / "checked" / "pagelog_vfs.so")
 lib = ctypes.CDLL(LIBRARY)
 
-OUTCOMES = ["done", "lost", "fenced", "in doubt", "conflict", "denied", "no memory", "audit list full", "malformed"]
+OUTCOMES = [
+    "done",
+    "lost",
+    "fenced",
+    "in doubt",
+    "conflict",
+    "denied",
+    "no memory",
+    "audit list full",
+    "malformed",
+]
 DONE, LOST, FENCED, IN_DOUBT, CONFLICT, DENIED, NO_MEMORY, AUDIT_FULL, MALFORMED = OUTCOMES
 PRIMARY, SECONDARY, PAGE_SERVER, OPERATOR = 1, 2, 3, 4
 NO_SPIN = 2**32 - 1
@@ -22,26 +46,65 @@ def token(principal):
 
 
 class Request(Structure):
-    _fields_ = [("principal", c_uint32), ("token", Token), ("role", c_uint8), ("database", c_uint32),
-                ("epoch", c_uint32), ("operation", c_uint8), ("copy", c_uint8), ("exact", c_uint8), ("lo", c_uint16),
-                ("hi", c_uint16), ("max", c_uint16), ("partition", c_uint16), ("steps", c_uint16), ("page", c_uint32),
-                ("to", c_uint32), ("lsn", c_uint64), ("bytes", c_void_p), ("length", c_size_t)]
+    _fields_ = [
+        ("principal", c_uint32),
+        ("token", Token),
+        ("role", c_uint8),
+        ("database", c_uint32),
+        ("epoch", c_uint32),
+        ("operation", c_uint8),
+        ("copy", c_uint8),
+        ("exact", c_uint8),
+        ("lo", c_uint16),
+        ("hi", c_uint16),
+        ("max", c_uint16),
+        ("partition", c_uint16),
+        ("steps", c_uint16),
+        ("page", c_uint32),
+        ("to", c_uint32),
+        ("lsn", c_uint64),
+        ("bytes", c_void_p),
+        ("length", c_size_t),
+    ]
 
 
 class Reply(Structure):
-    _fields_ = [("kind", c_uint8), ("section", c_uint8), ("row", c_uint16), ("value", c_uint64), ("code", c_uint8),
-                ("count", c_uint16), ("next", c_uint64), ("at", c_uint64), ("epoch", c_uint32), ("primary", c_uint32),
-                ("hard", c_uint64), ("pending", c_uint64), ("landing", c_uint64), ("bytes", c_void_p),
-                ("length", c_size_t)]
+    _fields_ = [
+        ("kind", c_uint8),
+        ("section", c_uint8),
+        ("row", c_uint16),
+        ("value", c_uint64),
+        ("code", c_uint8),
+        ("count", c_uint16),
+        ("next", c_uint64),
+        ("at", c_uint64),
+        ("epoch", c_uint32),
+        ("primary", c_uint32),
+        ("hard", c_uint64),
+        ("pending", c_uint64),
+        ("landing", c_uint64),
+        ("bytes", c_void_p),
+        ("length", c_size_t),
+    ]
 
     def data(self):
         return ctypes.string_at(self.bytes, self.length) if self.bytes else b""
 
 
 class AuditLine(Structure):
-    _fields_ = [("number", c_uint64), ("pass_", c_uint64), ("principal", c_uint32), ("role", c_uint8),
-                ("epoch", c_uint32), ("operation", c_uint8), ("a", c_uint64), ("b", c_uint64), ("section", c_uint8),
-                ("row", c_uint16), ("value", c_uint64)]
+    _fields_ = [
+        ("number", c_uint64),
+        ("pass_", c_uint64),
+        ("principal", c_uint32),
+        ("role", c_uint8),
+        ("epoch", c_uint32),
+        ("operation", c_uint8),
+        ("a", c_uint64),
+        ("b", c_uint64),
+        ("section", c_uint8),
+        ("row", c_uint16),
+        ("value", c_uint64),
+    ]
 
 
 class Record(Structure):
@@ -53,9 +116,19 @@ class Records(Structure):
 
 
 class Options(Structure):
-    _fields_ = [("address", c_char_p), ("principal", c_uint32), ("token", Token), ("database", c_uint32),
-                ("connect_ms", c_uint), ("reply_ms", c_uint), ("patience_ms", c_uint), ("spin_us", c_uint),
-                ("copies", c_uint), ("quorum", c_uint), ("tls", c_void_p)]
+    _fields_ = [
+        ("address", c_char_p),
+        ("principal", c_uint32),
+        ("token", Token),
+        ("database", c_uint32),
+        ("connect_ms", c_uint),
+        ("reply_ms", c_uint),
+        ("patience_ms", c_uint),
+        ("spin_us", c_uint),
+        ("copies", c_uint),
+        ("quorum", c_uint),
+        ("tls", c_void_p),
+    ]
 
 
 class Zone(Structure):
@@ -63,8 +136,17 @@ class Zone(Structure):
 
 
 class Counts(Structure):
-    _fields_ = [(name, c_uint64) for name in
-                ("requests", "replies", "bytes_sent", "bytes_received", "round_trips", "connects")]
+    _fields_ = [
+        (name, c_uint64)
+        for name in (
+            "requests",
+            "replies",
+            "bytes_sent",
+            "bytes_received",
+            "round_trips",
+            "connects",
+        )
+    ]
 
 
 def declare(name, result, *arguments):
@@ -152,7 +234,10 @@ def decode(body):
     """Fault and reply."""
     reply = Reply()
     reply.kept = exact_buffer(body)
-    return lib.pagelog_decode_reply(ctypes.cast(reply.kept, c_char_p), len(body), byref(reply)), reply
+    return (
+        lib.pagelog_decode_reply(ctypes.cast(reply.kept, c_char_p), len(body), byref(reply)),
+        reply,
+    )
 
 
 def outcome_of(reply):
@@ -165,7 +250,9 @@ def records_of(block):
     records, record, found = Records(), Record(), []
     lib.pagelog_records_begin(byref(records), ctypes.cast(kept, c_char_p))
     while lib.pagelog_records_next(byref(records), byref(record)):
-        put = (record.offset, ctypes.string_at(record.bytes, record.length)) if record.length else ()
+        put = (
+            (record.offset, ctypes.string_at(record.bytes, record.length)) if record.length else ()
+        )
         found.append((record.page, *put))
     return records.lsn, found
 
@@ -241,7 +328,9 @@ class Tls:
 
     def __init__(self, sslrootcert=None, sslcert=None, sslkey=None):
         why, files = ctypes.create_string_buffer(256), (sslrootcert, sslcert, sslkey)
-        self.made = lib.pagelog_tls_new(byref(TlsFiles(*(path and path.encode() for path in files))), why, 256)
+        self.made = lib.pagelog_tls_new(
+            byref(TlsFiles(*(path and path.encode() for path in files))), why, 256
+        )
         self.why = why.value.decode()
 
     def __del__(self):
@@ -251,10 +340,33 @@ class Tls:
 class Log:
     """An object of the wire."""
 
-    def __init__(self, address, principal, database=0, key=None, connect_ms=0, reply_ms=300000, patience_ms=0, copies=0,
-                 quorum=0, spin_us=0, tls=None):
-        options = Options(address.encode(), principal, key or token(principal), database, connect_ms, reply_ms,
-                          patience_ms, spin_us, copies, quorum, tls and tls.made)
+    def __init__(
+        self,
+        address,
+        principal,
+        database=0,
+        key=None,
+        connect_ms=0,
+        reply_ms=300000,
+        patience_ms=0,
+        copies=0,
+        quorum=0,
+        spin_us=0,
+        tls=None,
+    ):
+        options = Options(
+            address.encode(),
+            principal,
+            key or token(principal),
+            database,
+            connect_ms,
+            reply_ms,
+            patience_ms,
+            spin_us,
+            copies,
+            quorum,
+            tls and tls.made,
+        )
         self.tls = tls
         self.made = lib.pagelog_new(byref(options))
 
@@ -286,7 +398,9 @@ class Log:
 
     def get(self, role, lsn, pages):
         out = ctypes.create_string_buffer(max(8192 * len(pages), 1))
-        outcome = name(lib.pagelog_get(self.made, role, lsn, (c_uint32 * len(pages))(*pages), len(pages), out))
+        outcome = name(
+            lib.pagelog_get(self.made, role, lsn, (c_uint32 * len(pages))(*pages), len(pages), out)
+        )
         return outcome, [out.raw[8192 * i : 8192 * (i + 1)] for i in range(len(pages))]
 
     def pull(self, lsn, most=16):
@@ -353,9 +467,22 @@ DATABASE = "00000000-0000-4000-8000-000000000001"  # of a stub, by default
 
 
 class Place(Structure):
-    _fields_ = [("generation", c_uint64), ("database", ctypes.c_char * 40), ("ancestor", ctypes.c_char * 256), ("run", ctypes.c_char * 80), ("after", ctypes.c_char * 80), ("address", ctypes.c_char * 256), ("lines", ctypes.c_char * 256),
-                ("archived", c_uint64), ("base", c_uint64), ("shift", ctypes.c_int64), ("kept", c_uint64), ("copied", c_uint64),
-                ("pages", c_uint), ("is_page_server", c_bool)]
+    _fields_ = [
+        ("generation", c_uint64),
+        ("database", ctypes.c_char * 40),
+        ("ancestor", ctypes.c_char * 256),
+        ("run", ctypes.c_char * 80),
+        ("after", ctypes.c_char * 80),
+        ("address", ctypes.c_char * 256),
+        ("lines", ctypes.c_char * 256),
+        ("archived", c_uint64),
+        ("base", c_uint64),
+        ("shift", ctypes.c_int64),
+        ("kept", c_uint64),
+        ("copied", c_uint64),
+        ("pages", c_uint),
+        ("is_page_server", c_bool),
+    ]
 
 
 class Fate(Structure):
@@ -375,7 +502,13 @@ declare("pagelog_write_proof", c_size_t, c_void_p, c_char_p, c_char_p)
 class Proof(Structure):
     """What is proved to a keeper, and the line that does."""
 
-    _fields_ = [("is_there", c_bool), ("principal", c_uint32), ("token", Token), ("name", ctypes.c_char * 256), ("of", ctypes.c_char * 120)]
+    _fields_ = [
+        ("is_there", c_bool),
+        ("principal", c_uint32),
+        ("token", Token),
+        ("name", ctypes.c_char * 256),
+        ("of", ctypes.c_char * 120),
+    ]
 
     def line(self, nonce):
         text = ctypes.create_string_buffer(1024)
@@ -409,8 +542,19 @@ class Keepers:
 
     def fate(self, generation, position, lines=None, database=DATABASE, run=None):
         """Of the run of a stub's generation, by default."""
-        fate, place = Fate(), Place(generation=generation, database=database.encode(), run=(run or f"run{generation}").encode())
-        return name(lib.pagelog_fate_of(self.made, lines and lines.encode(), byref(place), position, byref(fate))), fate
+        fate, place = Fate(), Place(
+            generation=generation,
+            database=database.encode(),
+            run=(run or f"run{generation}").encode(),
+        )
+        return (
+            name(
+                lib.pagelog_fate_of(
+                    self.made, lines and lines.encode(), byref(place), position, byref(fate)
+                )
+            ),
+            fate,
+        )
 
     def prove(self, principal, key):
         lib.pagelog_keepers_prove(self.made, principal, Token(*key))
@@ -422,21 +566,66 @@ class Keepers:
 
 
 class FileOptions(Structure):
-    _fields_ = [("service", Options), ("reads_only", c_bool), ("has_operator", c_bool), ("operator", c_uint32),
-                ("operator_token", Token), ("written", c_uint), ("unwaited", c_uint), ("check_ms", c_uint), ("cache_pages", c_size_t),
-                ("at", c_uint64), ("may_be_stale", c_bool), ("name", c_char_p), ("keepers", c_char_p), ("database_name", c_char_p),
-                ("move_ms", c_uint), ("durable_only", c_bool), ("pages", c_uint)]
+    _fields_ = [
+        ("service", Options),
+        ("reads_only", c_bool),
+        ("has_operator", c_bool),
+        ("operator", c_uint32),
+        ("operator_token", Token),
+        ("written", c_uint),
+        ("unwaited", c_uint),
+        ("check_ms", c_uint),
+        ("cache_pages", c_size_t),
+        ("at", c_uint64),
+        ("may_be_stale", c_bool),
+        ("name", c_char_p),
+        ("keepers", c_char_p),
+        ("database_name", c_char_p),
+        ("move_ms", c_uint),
+        ("durable_only", c_bool),
+        ("pages", c_uint),
+    ]
 
 
 class State(Structure):
-    _fields_ = [("is_writer", c_bool), ("is_fenced", c_bool), ("is_broken", c_bool), ("is_stale", c_bool),
-                ("is_restarted", c_bool), ("is_foreign", c_bool), ("is_misnamed", c_bool), ("is_over", c_bool),
-                ("is_named", c_bool), ("is_gone", c_bool), ("is_dropped", c_bool), ("generation", c_uint64), ("position", c_uint64), ("durable", c_uint64),
-                ("committed", c_uint64), ("moves", c_uint64), ("resent", c_uint64), ("lsn", c_uint64), ("end", c_uint64), ("size", c_uint64), ("transaction", c_uint64),
-                ("epoch", c_uint32), ("writing_epoch", c_uint32), ("zone", Zone), ("cached_pages", c_size_t),
-                ("check_ms", c_uint), ("spin_us", c_uint), ("unwaited", c_uint), ("on_their_way", c_uint64),
-                ("losses", c_uint64), ("commits", c_uint64),
-                ("repairs", c_uint64), ("pages_fetched", c_uint64), ("blocks_written", c_uint64), ("wire", Counts)]
+    _fields_ = [
+        ("is_writer", c_bool),
+        ("is_fenced", c_bool),
+        ("is_broken", c_bool),
+        ("is_stale", c_bool),
+        ("is_restarted", c_bool),
+        ("is_foreign", c_bool),
+        ("is_misnamed", c_bool),
+        ("is_over", c_bool),
+        ("is_named", c_bool),
+        ("is_gone", c_bool),
+        ("is_dropped", c_bool),
+        ("generation", c_uint64),
+        ("position", c_uint64),
+        ("durable", c_uint64),
+        ("committed", c_uint64),
+        ("moves", c_uint64),
+        ("resent", c_uint64),
+        ("lsn", c_uint64),
+        ("end", c_uint64),
+        ("size", c_uint64),
+        ("transaction", c_uint64),
+        ("epoch", c_uint32),
+        ("writing_epoch", c_uint32),
+        ("zone", Zone),
+        ("cached_pages", c_size_t),
+        ("check_ms", c_uint),
+        ("spin_us", c_uint),
+        ("unwaited", c_uint),
+        ("on_their_way", c_uint64),
+        ("losses", c_uint64),
+        ("commits", c_uint64),
+        ("repairs", c_uint64),
+        ("pages_fetched", c_uint64),
+        ("blocks_written", c_uint64),
+        ("pages_copied", c_uint64),
+        ("wire", Counts),
+    ]
 
 
 declare("pagelog_file_new", c_void_p, POINTER(FileOptions))
@@ -457,12 +646,51 @@ declare("pagelog_file_explain", None, c_void_p, c_char_p, c_size_t)
 class File:
     """A file with transactions."""
 
-    def __init__(self, address, principal, reads_only=False, operator=None, written=0, check_ms=0, cache_pages=0, at=0,
-                 may_be_stale=False, database=0, reply_ms=300000, patience_ms=0, copies=0, quorum=0, unwaited=0, name=None):
-        service = Options(address.encode(), principal, token(principal), database, 0, reply_ms, patience_ms, 0, copies,
-                          quorum)
-        options = FileOptions(service, reads_only, operator is not None, operator or 0, token(operator or 0), written,
-                              unwaited, check_ms, cache_pages, at, may_be_stale, name and name.encode())
+    def __init__(
+        self,
+        address,
+        principal,
+        reads_only=False,
+        operator=None,
+        written=0,
+        check_ms=0,
+        cache_pages=0,
+        at=0,
+        may_be_stale=False,
+        database=0,
+        reply_ms=300000,
+        patience_ms=0,
+        copies=0,
+        quorum=0,
+        unwaited=0,
+        name=None,
+    ):
+        service = Options(
+            address.encode(),
+            principal,
+            token(principal),
+            database,
+            0,
+            reply_ms,
+            patience_ms,
+            0,
+            copies,
+            quorum,
+        )
+        options = FileOptions(
+            service,
+            reads_only,
+            operator is not None,
+            operator or 0,
+            token(operator or 0),
+            written,
+            unwaited,
+            check_ms,
+            cache_pages,
+            at,
+            may_be_stale,
+            name and name.encode(),
+        )
         self.made = lib.pagelog_file_new(byref(options))
 
     def __enter__(self):

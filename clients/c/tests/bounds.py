@@ -6,7 +6,19 @@ import socket
 import threading
 import time
 
-from binding import DENIED, DONE, FENCED, IN_DOUBT, LOST, MALFORMED, SECONDARY, File, Log, blocks_of, numbered
+from binding import (
+    DENIED,
+    DONE,
+    FENCED,
+    IN_DOUBT,
+    LOST,
+    MALFORMED,
+    SECONDARY,
+    File,
+    Log,
+    blocks_of,
+    numbered,
+)
 from check import run, same, true
 from service import Answer, Proxy, Service, exactly, framed, wire
 from wire_replies import denial
@@ -30,8 +42,12 @@ def page(lsn, start=b""):
 
 
 def blocks(first, count, records):
-    return (b"\1" + wire.number(first + count, 8) + wire.number(count, 2)
-            + b"".join(wire.frame(wire.block(lsn, records(lsn))) for lsn in range(first, first + count)))
+    return (
+        b"\1"
+        + wire.number(first + count, 8)
+        + wire.number(count, 2)
+        + b"".join(wire.frame(wire.block(lsn, records(lsn))) for lsn in range(first, first + count))
+    )
 
 
 class Liar:
@@ -76,8 +92,13 @@ class Rising:
         return Answer(denial("A2", 100 + self.seen) if self.seen <= MANY else b"\x09")
 
 
-EACH_CALL = [("status", lambda log: log.status(SECONDARY)[0]), ("get", lambda log: log.get(SECONDARY, 1, [1])[0]),
-             ("pull", lambda log: log.pull(1)[0]), ("take over", lambda log: log.take_over()), ("join", lambda log: log.join())]
+EACH_CALL = [
+    ("status", lambda log: log.status(SECONDARY)[0]),
+    ("get", lambda log: log.get(SECONDARY, 1, [1])[0]),
+    ("pull", lambda log: log.pull(1)[0]),
+    ("take over", lambda log: log.take_over()),
+    ("join", lambda log: log.join()),
+]
 
 
 def test_epochs_that_rise_for_ever():
@@ -85,10 +106,14 @@ def test_epochs_that_rise_for_ever():
     with Service() as service:
         for what, call in EACH_CALL:
             rule = Rising()
-            with Proxy(service.address, between=rule) as proxy, Log(proxy.address, 2, patience_ms=600000) as log:
+            with Proxy(service.address, between=rule) as proxy, Log(
+                proxy.address, 2, patience_ms=600000
+            ) as log:
                 same(what, (FENCED, 65), (call(log), rule.seen))
             rule = Rising(pause=0.05)
-            with Proxy(service.address, between=rule) as proxy, Log(proxy.address, 2, patience_ms=1) as log:
+            with Proxy(service.address, between=rule) as proxy, Log(
+                proxy.address, 2, patience_ms=1
+            ) as log:
                 same(f"{what}, without patience", (FENCED, 3), (call(log), rule.seen))
 
 
@@ -97,8 +122,9 @@ def test_epochs_that_rise_while_the_history_is_compared():
     for pause, reply_ms, least, most in ((0, 600000, 2, 64), (0.25, 1000, 1, 10)):
         rule = Rising(pause)
         rule.is_on = False
-        with Service() as service, Proxy(service.address, between=rule) as proxy, \
-                Log(proxy.address, 2, reply_ms=reply_ms, patience_ms=1) as log:
+        with Service() as service, Proxy(service.address, between=rule) as proxy, Log(
+            proxy.address, 2, reply_ms=reply_ms, patience_ms=1
+        ) as log:
             same("take over", DONE, log.take_over())
             same("append", DONE, log.append(numbered(1, 1)))
             log.disconnect()
@@ -139,20 +165,26 @@ class Drip:
 
 def test_a_reply_that_comes_by_a_byte():
     """8,205 bytes in seven minutes are no reply where 500 milliseconds are given; five come in time."""
-    for what, body, reply_ms, outcome in (("a page", lambda frame: page(1), 500, LOST), ("a refusal", lambda frame: b"\7", 300000, "audit list full")):
+    for what, body, reply_ms, outcome in (
+        ("a page", lambda frame: page(1), 500, LOST),
+        ("a refusal", lambda frame: b"\7", 300000, "audit list full"),
+    ):
         with Drip(body) as peer, Log(peer.address, 3, reply_ms=reply_ms, patience_ms=1) as log:
             same(what, outcome, log.status(SECONDARY)[0])
 
 
 def test_replies_that_nobody_asked_for_fill_no_memory():
     """A peer sends without end, and the first reply is a refusal: who looks for replies again and again keeps 16 MiB or so."""
-    with socket.create_server(("127.0.0.1", 0)) as listener, \
-            Log("%s:%d" % listener.getsockname(), 2, patience_ms=1) as log:
+    with socket.create_server(("127.0.0.1", 0)) as listener, Log(
+        "%s:%d" % listener.getsockname(), 2, patience_ms=1
+    ) as log:
 
         def serve():
             client, _ = listener.accept()
             with client:
-                frame = lambda: b"\0\0\0\0" + exactly(client, int.from_bytes(exactly(client, 4), "big"))
+                frame = lambda: b"\0\0\0\0" + exactly(
+                    client, int.from_bytes(exactly(client, 4), "big")
+                )
                 frame()
                 client.sendall(framed(b"\0"))
                 client.sendall(framed(status(frame(), 0)))
@@ -184,7 +216,9 @@ def test_a_follower_behind_a_log_without_end():
     """It takes the mark at the end that a Status has, and pulls nothing more, or what was there before it was asked."""
     for end, most in ((FAR, 1), (500, 33)):
         rule = Liar(1)
-        with Service() as service, Proxy(service.address, between=rule) as proxy, File(proxy.address, 3, reads_only=True) as file:
+        with Service() as service, Proxy(service.address, between=rule) as proxy, File(
+            proxy.address, 3, reads_only=True
+        ) as file:
             same("open", DONE, file.open())
             rule.end = end
             same("begin", DONE, file.begin())
@@ -200,10 +234,15 @@ def test_a_pull_that_covers_many_lsns_without_a_block():
             return rule(frame)
         seen.append(frame)
         first = int.from_bytes(frame[38:46], "big")
-        return Answer(b"\1" + wire.number(first + (1 << 26), 8) + b"\0\0") if len(seen) < MANY else None
+        return (
+            Answer(b"\1" + wire.number(first + (1 << 26), 8) + b"\0\0")
+            if len(seen) < MANY
+            else None
+        )
 
-    with Service() as service, Proxy(service.address, between=between) as proxy, \
-            File(proxy.address, 3, reads_only=True, patience_ms=1) as file, Log(proxy.address, 3, patience_ms=1) as log:
+    with Service() as service, Proxy(service.address, between=between) as proxy, File(
+        proxy.address, 3, reads_only=True, patience_ms=1
+    ) as file, Log(proxy.address, 3, patience_ms=1) as log:
         same("open", DONE, file.open())
         rule.end = FAR
         same("begin", (DONE, 1), (file.begin(), len(seen)))
@@ -215,16 +254,22 @@ def test_a_mark_of_a_huge_size():
     """It is refused where a log up to it cannot have so many pages, by a reader and by a writer; nothing is read or written."""
     for reads_only in (True, False):
         rule = Liar(1, size=8192 * ((1 << 32) - 1))
-        with Service() as service, Proxy(service.address, between=rule) as proxy, \
-                File(proxy.address, 3, reads_only=reads_only, operator=None if reads_only else 1, patience_ms=1) as file:
+        with Service() as service, Proxy(service.address, between=rule) as proxy, File(
+            proxy.address,
+            3,
+            reads_only=reads_only,
+            operator=None if reads_only else 1,
+            patience_ms=1,
+        ) as file:
             same("open", MALFORMED, file.open())
             same("nothing more", (1, 0), (rule.seen[wire.GET], rule.seen.get(wire.WRITE, 0)))
 
 
 def opened(rule, outcome=DONE):
     """A writer opens over a rule, and repairs what is behind the mark."""
-    with Service() as service, Proxy(service.address, between=rule) as proxy, \
-            File(proxy.address, 2, operator=1, patience_ms=1) as file:
+    with Service() as service, Proxy(service.address, between=rule) as proxy, File(
+        proxy.address, 2, operator=1, patience_ms=1
+    ) as file:
         same("open", outcome, file.open())
         return file.state.repairs
 
@@ -258,9 +303,13 @@ class Torn(Liar):
 
     def __call__(self, frame):
         if frame[33] == wire.WRITE and MAGIC in frame:
-            self.session, self.is_cut = frame[frame.index(MAGIC) + 24:][:8], True
-            self.lsn = int.from_bytes(frame[frame.index(MAGIC) + 8:][:8], "big")
-        return None if self.is_cut and frame[33] in (wire.WRITE, wire.REPORT) else super().__call__(frame)
+            self.session, self.is_cut = frame[frame.index(MAGIC) + 24 :][:8], True
+            self.lsn = int.from_bytes(frame[frame.index(MAGIC) + 8 :][:8], "big")
+        return (
+            None
+            if self.is_cut and frame[33] in (wire.WRITE, wire.REPORT)
+            else super().__call__(frame)
+        )
 
     def mark(self, lsn):
         if lsn == 0:
@@ -271,8 +320,9 @@ class Torn(Liar):
 def test_marks_of_a_torn_commit_without_end():
     """A writer looks for the last whole transaction, and gives up after 1,024 marks of its own."""
     rule = Torn()
-    with Service() as service, Proxy(service.address, between=rule) as proxy, \
-            File(proxy.address, 2, operator=1, patience_ms=200) as file:
+    with Service() as service, Proxy(service.address, between=rule) as proxy, File(
+        proxy.address, 2, operator=1, patience_ms=200
+    ) as file:
         same("open", DONE, file.open())
         same("begin", DONE, file.begin())
         same("write", DONE, file.write(0, bytes(range(1, 251)) * 400))

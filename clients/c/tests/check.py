@@ -27,8 +27,11 @@ def run(part, names, not_with_the_model=()):
     unknown = set(not_with_the_model) - set(names)
     if unknown:
         sys.exit(f"{part}: there is no {', '.join(sorted(unknown))}")
-    tests = [(name, test) for name, test in names.items()
-             if name.startswith("test_") and not (MODEL and name in not_with_the_model)]
+    tests = [
+        (name, test)
+        for name, test in names.items()
+        if name.startswith("test_") and not (MODEL and name in not_with_the_model)
+    ]
     only = [word for word in sys.argv[1:] if not word.startswith("-")]
     passed, failed, start, said = 0, 0, time.monotonic(), []
     for name, test in tests:
@@ -47,6 +50,9 @@ def run(part, names, not_with_the_model=()):
         if "-v" in sys.argv:
             print(f"  {name} {time.monotonic() - start:.1f} s", flush=True)
     seconds = time.monotonic() - start
-    print(f"{part}: {passed} passed, {failed} failed, {seconds:.1f} s" + "".join(f"; {text}" for text in said))
+    print(
+        f"{part}: {passed} passed, {failed} failed, {seconds:.1f} s"
+        + "".join(f"; {text}" for text in said)
+    )
     sys.stdout.flush()
     sys.exit(1 if failed else 0)

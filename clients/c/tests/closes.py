@@ -56,7 +56,7 @@ def ended_in_time(connection):
 def test_a_close_waits_for_the_archive():
     with StubKeeper() as keeper:
         connection = writer(keeper)
-        position, = numbers(connection, "position")
+        (position,) = numbers(connection, "position")
         with closing(keeper, connection):
             same("not yet", True, len(keeper.archive) < position)
             keeper.is_archiving = True
@@ -70,14 +70,18 @@ def test_a_close_sends_again_what_a_service_has_lost():
     for how in ({"lost": 1}, {"lost": 1, "others": lambda new: None}):
         with StubKeeper() as keeper:
             connection = writer(keeper)
-            position, = numbers(connection, "position")
+            (position,) = numbers(connection, "position")
             with closing(keeper, connection):
                 keeper.die(**how)
                 same("it was lost", position - 1, len(keeper.archive))
                 keeper.is_archiving = True
             same("it is durable", position, len(keeper.archive))
             reading = named(keeper, 3, mode="ro")
-            same("it is there", ([0, 1], "ok"), (rows(reading), one(reading, "pragma integrity_check")))
+            same(
+                "it is there",
+                ([0, 1], "ok"),
+                (rows(reading), one(reading, "pragma integrity_check")),
+            )
 
 
 def test_a_close_goes_on_in_the_next_generation():
@@ -130,7 +134,11 @@ def test_who_has_nothing_to_wait_for_asks_nobody():
     """It has committed nothing, or nothing that is not durable; or it does not care."""
     with StubKeeper() as keeper:
         connection = writer(keeper, "off", move=300)
-        asked, reading, rolls_back = questions(keeper), named(keeper, 3, mode="ro"), named(keeper, move=300)
+        asked, reading, rolls_back = (
+            questions(keeper),
+            named(keeper, 3, mode="ro"),
+            named(keeper, move=300),
+        )
         rolls_back.execute("pragma synchronous = normal")
         rolls_back.execute("pragma cache_size = 2")
         rolls_back.execute("begin immediate")

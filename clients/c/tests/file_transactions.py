@@ -4,11 +4,37 @@ import random
 import subprocess
 import time
 
-from binding import (AUDIT_FULL, CONFLICT, DENIED, DONE, FENCED, IN_DOUBT, LOST, MALFORMED, File, Log, PRIMARY, SECONDARY,
-                     Blocks, numbered, records_of)
+from binding import (
+    AUDIT_FULL,
+    CONFLICT,
+    DENIED,
+    DONE,
+    FENCED,
+    IN_DOUBT,
+    LOST,
+    MALFORMED,
+    File,
+    Log,
+    PRIMARY,
+    SECONDARY,
+    Blocks,
+    numbered,
+    records_of,
+)
 from check import LONG, MODEL, run, same, true
-from service import (CLIENT, Answer, Asker, Proxy, Service, START_TABLE, TABLE, failing_over, plain_environment, random_plan,
-                     wire)
+from service import (
+    CLIENT,
+    Answer,
+    Asker,
+    Proxy,
+    Service,
+    START_TABLE,
+    TABLE,
+    failing_over,
+    plain_environment,
+    random_plan,
+    wire,
+)
 
 
 def opened(address, principal=2, **more):
@@ -42,8 +68,9 @@ def test_transactions_beside_a_plain_file():
     rounds, most = (2000, 2200000) if LONG else (50, 120000)
     for seed, cache, written in ((1, 0, 0), (2, 16, 3)):
         numbers = random.Random(seed)
-        with Service() as service, opened(service.address, cache_pages=cache, written=written) as file, \
-                opened(service.address, 3, reads_only=True, cache_pages=cache) as reader:
+        with Service() as service, opened(
+            service.address, cache_pages=cache, written=written
+        ) as file, opened(service.address, 3, reads_only=True, cache_pages=cache) as reader:
             model, committed, lsns = bytearray(), bytearray(), {}
             for _ in range(rounds):
                 same("begin", DONE, file.begin())
@@ -71,12 +98,17 @@ def test_transactions_beside_a_plain_file():
 
 
 def test_a_reader_keeps_its_snapshot():
-    with Service() as service, opened(service.address) as file, \
-            opened(service.address, 3, reads_only=True) as reader:
-        same("write", (DONE, DONE, DONE), (file.begin(), file.write(0, b"one" * 9000), file.commit()))
+    with Service() as service, opened(service.address) as file, opened(
+        service.address, 3, reads_only=True
+    ) as reader:
+        same(
+            "write", (DONE, DONE, DONE), (file.begin(), file.write(0, b"one" * 9000), file.commit())
+        )
         same("begin", DONE, reader.begin())
         same("first", (DONE, b"one"), reader.read(0, 3))
-        same("write", (DONE, DONE, DONE), (file.begin(), file.write(0, b"two" * 9000), file.commit()))
+        same(
+            "write", (DONE, DONE, DONE), (file.begin(), file.write(0, b"two" * 9000), file.commit())
+        )
         same("the rest is fetched as of then", b"one" * 9000, reader.whole())
         same("begin", DONE, reader.begin())
         same("now", b"two" * 9000, reader.whole())
@@ -85,22 +117,33 @@ def test_a_reader_keeps_its_snapshot():
 
 def test_a_reader_that_is_far_behind():
     """It leaps over many transactions, and over one that is too long to be kept aside."""
-    with Service() as service, opened(service.address, check_ms=60000) as file, \
-            opened(service.address, 3, reads_only=True) as reader:
+    with Service() as service, opened(service.address, check_ms=60000) as file, opened(
+        service.address, 3, reads_only=True
+    ) as reader:
         model = bytearray(b"a" * 100000)
-        same("first", (DONE, DONE, DONE), (file.begin(), file.write(0, bytes(model)), file.commit()))
+        same(
+            "first", (DONE, DONE, DONE), (file.begin(), file.write(0, bytes(model)), file.commit())
+        )
         same("begin", DONE, reader.begin())
         same("first", model, reader.whole())
         for i in range(600):
             model[100 * i : 100 * i + 4] = b"%04d" % i
-            same("commit", (DONE, DONE, DONE), (file.begin(), file.write(100 * i, b"%04d" % i), file.commit()))
+            same(
+                "commit",
+                (DONE, DONE, DONE),
+                (file.begin(), file.write(100 * i, b"%04d" % i), file.commit()),
+            )
         before = reader.state.wire.requests
         same("begin", DONE, reader.begin())
         true("in few requests", reader.state.wire.requests - before < 6)
         same("leapt", (model, 601), (reader.whole(), reader.state.transaction))
         if LONG:
             model[:] = random.Random(1).randbytes(12 << 20)
-            same("long", (DONE, DONE, DONE), (file.begin(), file.write(0, bytes(model)), file.commit()))
+            same(
+                "long",
+                (DONE, DONE, DONE),
+                (file.begin(), file.write(0, bytes(model)), file.commit()),
+            )
             same("begin", DONE, reader.begin())
             same("long", model, reader.whole())
 
@@ -110,12 +153,20 @@ def test_what_an_update_costs():
         file.begin(), file.write(0, bytes(range(256)) * 320), file.commit()
         before = file.state.wire
         for i in range(10):
-            same("update", (DONE, DONE, DONE), (file.begin(), file.write(5000, b"%08d" % i), file.commit()))
+            same(
+                "update",
+                (DONE, DONE, DONE),
+                (file.begin(), file.write(5000, b"%08d" % i), file.commit()),
+            )
         after = file.state.wire
         same("round trips", 10, after.round_trips - before.round_trips)
         same("requests", 30, after.requests - before.requests)
         true("bytes", after.bytes_sent - before.bytes_sent <= 303 * 10)
-        same("nothing", (DONE, DONE, DONE), (file.begin(), file.write(5000, b"%08d" % 9), file.commit()))
+        same(
+            "nothing",
+            (DONE, DONE, DONE),
+            (file.begin(), file.write(5000, b"%08d" % 9), file.commit()),
+        )
         same("no request", after.requests, file.state.wire.requests)
         return f"{(after.bytes_sent - before.bytes_sent) // 10} bytes an update"
 
@@ -124,14 +175,24 @@ class Tidying:
     """A proxy's rule: it counts what is asked between two commits, and meets the report or the tidy there by `meets`."""
 
     def __init__(self, operation=None, meets=None):
-        self.operation, self.meets, self.reports, self.tidies, self.is_after_report = operation, meets, 0, 0, False
+        self.operation, self.meets, self.reports, self.tidies, self.is_after_report = (
+            operation,
+            meets,
+            0,
+            0,
+            False,
+        )
 
     def __call__(self, frame):
         is_second_report = frame[33] == wire.REPORT and self.is_after_report
         self.reports += is_second_report
         self.tidies += frame[33] == wire.TIDY
         self.is_after_report = frame[33] in (wire.REPORT, wire.TIDY)
-        if self.meets and frame[33] == self.operation and (is_second_report or frame[33] == wire.TIDY):
+        if (
+            self.meets
+            and frame[33] == self.operation
+            and (is_second_report or frame[33] == wire.TIDY)
+        ):
             meets, self.meets = self.meets, None
             return meets(frame)
         return frame
@@ -156,7 +217,11 @@ def test_no_page_has_a_long_replay():
     with Service() as service:
         wanted = bytearray(numbers.randbytes(3 * 8192))
         with opened(service.address) as file:
-            same("commit", (DONE, DONE, DONE), (file.begin(), file.write(0, bytes(wanted)), file.commit()))
+            same(
+                "commit",
+                (DONE, DONE, DONE),
+                (file.begin(), file.write(0, bytes(wanted)), file.commit()),
+            )
             for number in range(commits):
                 same("begin", DONE, file.begin())
                 for at in (10, 8192 + number % 8000) if number % 2 else (10,):
@@ -166,7 +231,10 @@ def test_no_page_has_a_long_replay():
         with Asker(service.address, 3, wire.SECONDARY) as asker:
             most = longest_replays(asker.blocks())
         same("pages", [0, 1, 2, 3], sorted(most))
-        true(f"at most 256 blocks, and not one: {most}", all(64 < most[page] <= 256 for page in (0, 1, 2)) and most[3] == 1)
+        true(
+            f"at most 256 blocks, and not one: {most}",
+            all(64 < most[page] <= 256 for page in (0, 1, 2)) and most[3] == 1,
+        )
         with opened(service.address, 3, reads_only=True) as reader:
             same("reader", (DONE, bytes(wanted)), (reader.begin(), reader.whole()))
 
@@ -175,43 +243,80 @@ def test_the_page_of_the_end_mark_is_never_without_it():
     """Where it is written as a whole, zeros first, both are in one block, however few bytes that block has left."""
     with Service() as service:
         with opened(service.address) as file:
-            same("commit", (DONE, DONE, DONE), (file.begin(), file.write(0, bytes(4 * 8192)), file.commit()))
+            same(
+                "commit",
+                (DONE, DONE, DONE),
+                (file.begin(), file.write(0, bytes(4 * 8192)), file.commit()),
+            )
             for left in range(46, 58):
                 while file.state.transaction % 256 != 255:
                     data = bytes([file.state.transaction % 251])
-                    same("commit", (DONE, DONE, DONE), (file.begin(), file.write(5 * 8192, data), file.commit()))
+                    same(
+                        "commit",
+                        (DONE, DONE, DONE),
+                        (file.begin(), file.write(5 * 8192, data), file.commit()),
+                    )
                 # Three pages and the most of a fourth, which end the block's records so many bytes before its end.
                 data = bytes([1 + left]) * (4 * 8192 - 83 - left)
-                same("commit", (DONE, DONE, DONE), (file.begin(), file.write(0, data), file.commit()))
+                same(
+                    "commit", (DONE, DONE, DONE), (file.begin(), file.write(0, data), file.commit())
+                )
         with Asker(service.address, 3, wire.SECONDARY) as asker:
-            cleared = [records for records in (records_of(block)[1] for block in asker.blocks()) if (0,) in records]
+            cleared = [
+                records
+                for records in (records_of(block)[1] for block in asker.blocks())
+                if (0,) in records
+            ]
         same("times", 12, len(cleared))
-        true("and the mark last", all(records[-2] == (0,) and records[-1][:2] == (0, 0) for records in cleared))
-        lengths = {sum(5 if len(record) == 1 else 9 + len(record[2]) for record in records) for records in cleared}
-        true(f"some began a block of their own: {sorted(lengths)}", 54 in lengths and max(lengths) > 32000)
+        true(
+            "and the mark last",
+            all(records[-2] == (0,) and records[-1][:2] == (0, 0) for records in cleared),
+        )
+        lengths = {
+            sum(5 if len(record) == 1 else 9 + len(record[2]) for record in records)
+            for records in cleared
+        }
+        true(
+            f"some began a block of their own: {sorted(lengths)}",
+            54 in lengths and max(lengths) > 32000,
+        )
 
 
 def test_the_service_tidies_up_after_much_was_sent():
     """Once for each 256 KiB at most, after a commit that was waited for, in the name of the operator if there is one."""
     small, middle, large = 5000, 60000, 400000
-    cases = [("small", 1, 0, [small] * 20, 0, 0), ("middle", 1, 0, [middle] * 10, 3, 3), ("large", 1, 0, [large] * 4, 4, 4),
-             ("longer than a window", 1, 0, [2500000], 1, 1), ("no operator", None, 0, [large] * 4, 4, 0),
-             ("nobody waits", 1, 64, [middle] * 10, 0, 0)]
+    cases = [
+        ("small", 1, 0, [small] * 20, 0, 0),
+        ("middle", 1, 0, [middle] * 10, 3, 3),
+        ("large", 1, 0, [large] * 4, 4, 4),
+        ("longer than a window", 1, 0, [2500000], 1, 1),
+        ("no operator", None, 0, [large] * 4, 4, 0),
+        ("nobody waits", 1, 64, [middle] * 10, 0, 0),
+    ]
     for what, operator, unwaited, sizes, reports, tidies in cases:
         rule, numbers = Tidying(), random.Random(12)
-        with Service() as service, Proxy(service.address, between=rule) as proxy, \
-                opened(proxy.address, 2, operator=operator, unwaited=unwaited, check_ms=3600000) as file:
+        with Service() as service, Proxy(service.address, between=rule) as proxy, opened(
+            proxy.address, 2, operator=operator, unwaited=unwaited, check_ms=3600000
+        ) as file:
             trips = file.state.wire.round_trips
             for size in sizes:
                 wanted = numbers.randbytes(size)
-                same("commit", (DONE, DONE, DONE), (file.begin(), file.write(0, wanted), file.commit()))
+                same(
+                    "commit",
+                    (DONE, DONE, DONE),
+                    (file.begin(), file.write(0, wanted), file.commit()),
+                )
                 if unwaited == 0:
                     blocks = -(-size // 31000)
                     true("no wait for it", file.state.wire.round_trips - trips <= -(-blocks // 64))
                 trips = file.state.wire.round_trips
             same("settled", DONE, file.settle())
             wanted = bytes([wanted[0] ^ 1]) + wanted[1:]
-            same("one more", (DONE, DONE, DONE, DONE), (file.begin(), file.write(0, wanted[:1]), file.commit(), file.settle()))
+            same(
+                "one more",
+                (DONE, DONE, DONE, DONE),
+                (file.begin(), file.write(0, wanted[:1]), file.commit(), file.settle()),
+            )
             if unwaited == 0:
                 same(what, (reports, tidies), (rule.reports, rule.tidies))
             same(f"{what}: tidies", tidies, rule.tidies)
@@ -227,7 +332,9 @@ def test_faults_while_the_service_tidies_up():
     for operation in (wire.REPORT, wire.TIDY):
         with Service(dbs=7) as service:
             ways = [("cut", lambda frame: None)]
-            ways += [(f"answered {body!r}", lambda frame, body=body: Answer(body)) for body in bodies]
+            ways += [
+                (f"answered {body!r}", lambda frame, body=body: Answer(body)) for body in bodies
+            ]
 
             def fail_over(frame):
                 with service.operator(6) as operator:
@@ -238,23 +345,46 @@ def test_faults_while_the_service_tidies_up():
                 rule = Tidying(operation, meets)
                 what = f"{what} at operation {operation}"
                 database = 6 if meets == fail_over else database
-                with Proxy(service.address, between=rule) as proxy, \
-                        opened(proxy.address, 2, check_ms=3600000, database=database) as file, \
-                        opened(service.address, 3, reads_only=True, database=database) as reader:
-                    same(what, (DONE, DONE, DONE), (file.begin(), file.write(0, first), file.commit()))
+                with Proxy(service.address, between=rule) as proxy, opened(
+                    proxy.address, 2, check_ms=3600000, database=database
+                ) as file, opened(service.address, 3, reads_only=True, database=database) as reader:
+                    same(
+                        what,
+                        (DONE, DONE, DONE),
+                        (file.begin(), file.write(0, first), file.commit()),
+                    )
                     same(f"{what}: as it was", (DONE, first), (reader.begin(), reader.whole()))
                     same(f"{what}: what it reads", (DONE, first), (file.begin(), file.whole()))
                     same("write", DONE, file.write(0, second))
                     wanted = FENCED if meets == fail_over else DONE
                     same(f"{what}: the next one", (wanted, None), (file.commit(), rule.meets))
-                    same(f"{what}: a reader", (DONE, True),
-                         (reader.begin(), reader.whole() == (first if wanted == FENCED else second + first[300000:])))
+                    same(
+                        f"{what}: a reader",
+                        (DONE, True),
+                        (
+                            reader.begin(),
+                            reader.whole()
+                            == (first if wanted == FENCED else second + first[300000:]),
+                        ),
+                    )
                     tidies = rule.tidies
                     if wanted == DONE:
-                        same("large", (DONE, DONE, DONE), (file.begin(), file.write(0, first), file.commit()))
-                        same("small", (DONE, DONE, DONE), (file.begin(), file.write(0, b"x"), file.commit()))
+                        same(
+                            "large",
+                            (DONE, DONE, DONE),
+                            (file.begin(), file.write(0, first), file.commit()),
+                        )
+                        same(
+                            "small",
+                            (DONE, DONE, DONE),
+                            (file.begin(), file.write(0, b"x"), file.commit()),
+                        )
                         same(f"{what}: tidies again", what.startswith("cut"), rule.tidies > tidies)
-                        same(f"{what}: at last", (DONE, b"x" + first[1:]), (reader.begin(), reader.whole()))
+                        same(
+                            f"{what}: at last",
+                            (DONE, b"x" + first[1:]),
+                            (reader.begin(), reader.whole()),
+                        )
 
 
 class CutsOff:
@@ -278,7 +408,9 @@ class CutsOff:
 def cut_off(service, principal=2):
     """Leaves the first blocks of a transaction in the log, as a writer does that is killed in the midst of it."""
     rule = CutsOff()
-    with Proxy(service.address, between=rule) as proxy, opened(proxy.address, principal, patience_ms=200) as file:
+    with Proxy(service.address, between=rule) as proxy, opened(
+        proxy.address, principal, patience_ms=200
+    ) as file:
         same("begin", DONE, file.begin())
         same("write", DONE, file.write(0, random.Random(5).randbytes(150000)))
         rule.is_armed = True
@@ -287,7 +419,9 @@ def cut_off(service, principal=2):
 
 def test_a_transaction_that_was_cut_off_is_undone():
     for table in (TABLE, START_TABLE):
-        with Service(table=table) as service, opened(service.address, 5 if table == TABLE else 2) as old:
+        with Service(table=table) as service, opened(
+            service.address, 5 if table == TABLE else 2
+        ) as old:
             wanted = random.Random(6).randbytes(200000)
             old.begin(), old.write(0, wanted)
             same("commit", DONE, old.commit())
@@ -300,7 +434,11 @@ def test_a_transaction_that_was_cut_off_is_undone():
             true("blocks without an end", hard > old.state.lsn)
             if table == TABLE:
                 with early:
-                    same("who was there before does not see them", (DONE, wanted), (early.begin(), early.whole()))
+                    same(
+                        "who was there before does not see them",
+                        (DONE, wanted),
+                        (early.begin(), early.whole()),
+                    )
                 with opened(service.address, 3, reads_only=True) as reader:
                     same("begin", DONE, reader.begin())
                     same("a reader does not see them", wanted, reader.whole())
@@ -308,8 +446,11 @@ def test_a_transaction_that_was_cut_off_is_undone():
                         same("repaired", 1, file.state.repairs)
                         same("begin", DONE, reader.begin())
                         same("nor once they are undone", wanted, reader.whole())
-                        same("a small change", (DONE, DONE, DONE),
-                             (file.begin(), file.write(7, b"small"), file.commit()))
+                        same(
+                            "a small change",
+                            (DONE, DONE, DONE),
+                            (file.begin(), file.write(7, b"small"), file.commit()),
+                        )
                     same("begin", DONE, reader.begin())
                     same("nor after it", wanted[:7] + b"small" + wanted[12:], reader.whole())
                 with opened(service.address, 4, reads_only=True) as new:
@@ -354,32 +495,48 @@ def test_a_fenced_writer_fetches_on():
 
 def test_a_commit_whose_report_meets_a_failover_is_done():
     """An operator ends the epoch just before the last report of a commit of one block, and of more than a window. Each block is
-    in two copies, so the failover has put it into the log, and the commit is done; the next one is not."""
+    in two copies, so the failover has put it into the log, and the commit is done; the next one is not.
+    """
     large = random.Random(9).randbytes(2200000)
     for unwaited, changed, reports in ((0, b"b" * 10, 1), (64, b"b" * 10, 1), (0, large, 2)):
         for to in (2, 5):
-            with Service() as service, opened(service.address, 3, reads_only=True) as reader, \
-                    Proxy(service.address, between=failing_over(service, wire.REPORT, 1 + reports, to)) as proxy, \
-                    opened(proxy.address, 2, unwaited=unwaited, check_ms=3600000) as file:
+            with Service() as service, opened(service.address, 3, reads_only=True) as reader, Proxy(
+                service.address, between=failing_over(service, wire.REPORT, 1 + reports, to)
+            ) as proxy, opened(proxy.address, 2, unwaited=unwaited, check_ms=3600000) as file:
                 wanted = changed + (b"a" * 20)[len(changed) :]
-                same("before", (DONE, DONE, DONE, DONE), (file.begin(), file.write(0, b"a" * 20), file.commit(), file.settle()))
+                same(
+                    "before",
+                    (DONE, DONE, DONE, DONE),
+                    (file.begin(), file.write(0, b"a" * 20), file.commit(), file.settle()),
+                )
                 same("at the failover", (DONE, DONE), (file.begin(), file.write(0, changed)))
                 same("done", (DONE, DONE, 0), (file.commit(), file.settle(), file.state.losses))
-                same("in an epoch that is over", (2, 3), (file.state.writing_epoch, file.state.epoch))
-                same("a reader", (DONE, True, 2), (reader.begin(), reader.whole() == wanted, reader.state.transaction))
+                same(
+                    "in an epoch that is over", (2, 3), (file.state.writing_epoch, file.state.epoch)
+                )
+                same(
+                    "a reader",
+                    (DONE, True, 2),
+                    (reader.begin(), reader.whole() == wanted, reader.state.transaction),
+                )
                 with opened(service.address, 4, reads_only=True) as new:
                     same("a new reader", (DONE, True), (new.begin(), new.whole() == wanted))
                 same("the next one", (DONE, DONE), (file.begin(), file.write(0, b"c")))
                 outcome = file.commit()
-                same("is refused", (FENCED, True), (file.settle() if unwaited else outcome, file.state.is_fenced))
+                same(
+                    "is refused",
+                    (FENCED, True),
+                    (file.settle() if unwaited else outcome, file.state.is_fenced),
+                )
                 same("and not there", (DONE, True), (reader.begin(), reader.whole() == wanted))
                 same("it follows", (DONE, True), (file.begin(), file.whole() == wanted))
 
 
 def test_half_a_transaction_that_a_failover_puts_into_the_log_is_not_committed():
     """An operator ends the epoch before the report of the first 64 blocks: they are in the log, without an end mark."""
-    with Service() as service, opened(service.address, 3, reads_only=True) as reader, \
-            Proxy(service.address, between=failing_over(service, wire.REPORT, 2)) as proxy, opened(proxy.address, 2) as file:
+    with Service() as service, opened(service.address, 3, reads_only=True) as reader, Proxy(
+        service.address, between=failing_over(service, wire.REPORT, 2)
+    ) as proxy, opened(proxy.address, 2) as file:
         numbers = random.Random(10)
         wanted = numbers.randbytes(50000)
         same("before", (DONE, DONE, DONE), (file.begin(), file.write(0, wanted), file.commit()))
@@ -391,7 +548,11 @@ def test_half_a_transaction_that_a_failover_puts_into_the_log_is_not_committed()
         same("a reader", (DONE, True), (reader.begin(), reader.whole() == wanted))
         same("it follows", (DONE, True), (file.begin(), file.whole() == wanted))
         with opened(service.address, 5) as new:
-            same("the next writer", (1, DONE, True), (new.state.repairs, new.begin(), new.whole() == wanted))
+            same(
+                "the next writer",
+                (1, DONE, True),
+                (new.state.repairs, new.begin(), new.whole() == wanted),
+            )
 
 
 def test_a_commit_in_doubt_is_settled():
@@ -412,10 +573,19 @@ def test_a_commit_in_doubt_is_settled():
                 cuts[0] -= 1
                 return None
 
-            with Proxy(service.address, between=between) as proxy, \
-                    opened(proxy.address, 2, patience_ms=600000) as file:
-                same("commit", (DONE, DONE, DONE), (file.begin(), file.write(0, b"x" * 100), file.commit()))
-                same("once more", (DONE, DONE, DONE), (file.begin(), file.write(0, b"y" * 50), file.commit()))
+            with Proxy(service.address, between=between) as proxy, opened(
+                proxy.address, 2, patience_ms=600000
+            ) as file:
+                same(
+                    "commit",
+                    (DONE, DONE, DONE),
+                    (file.begin(), file.write(0, b"x" * 100), file.commit()),
+                )
+                same(
+                    "once more",
+                    (DONE, DONE, DONE),
+                    (file.begin(), file.write(0, b"y" * 50), file.commit()),
+                )
                 with opened(service.address, 3, reads_only=True) as reader:
                     same("begin", DONE, reader.begin())
                     same("reader", b"y" * 50 + b"x" * 50, reader.whole())
@@ -430,13 +600,23 @@ def test_a_commit_in_doubt_is_looked_for_later():
             def between(frame):
                 if frame[33] == wire.WRITE:
                     seen[0] += 1
-                if frame[33] == wire.WRITE and seen[0] > 2 + carried or frame[33] == wire.REPORT and seen[0] > 2:
+                if (
+                    frame[33] == wire.WRITE
+                    and seen[0] > 2 + carried
+                    or frame[33] == wire.REPORT
+                    and seen[0] > 2
+                ):
                     away[0] = True
                 return None if away[0] else frame
 
-            with Proxy(service.address, between=between) as proxy, \
-                    opened(proxy.address, 2, patience_ms=1) as file:
-                same("first", (DONE, DONE, DONE), (file.begin(), file.write(0, b"a" * 100), file.commit()))
+            with Proxy(service.address, between=between) as proxy, opened(
+                proxy.address, 2, patience_ms=1
+            ) as file:
+                same(
+                    "first",
+                    (DONE, DONE, DONE),
+                    (file.begin(), file.write(0, b"a" * 100), file.commit()),
+                )
                 same("begin", DONE, file.begin())
                 file.write(0, b"b" * 50)
                 outcome = file.commit()
@@ -459,7 +639,9 @@ def test_a_broken_file_takes_no_commit_before_it_begins_again():
     """The first half of a transaction is in the log, the rest is not: nothing may be built upon it."""
     with Service() as service:
         rule, wanted = CutsOff(), b"a" * 150000
-        with Proxy(service.address, between=rule) as proxy, opened(proxy.address, 2, patience_ms=200) as file:
+        with Proxy(service.address, between=rule) as proxy, opened(
+            proxy.address, 2, patience_ms=200
+        ) as file:
             same("commit", (DONE, DONE, DONE), (file.begin(), file.write(0, wanted), file.commit()))
             same("begin", DONE, file.begin())
             same("write", DONE, file.write(0, random.Random(5).randbytes(150000)))
@@ -492,10 +674,15 @@ def test_no_commit_is_built_on_what_a_begin_could_not_read():
     """Another session of the epoch has committed. The begin that learns so finds no end mark, and its writer goes on all the same."""
     with Service() as service:
         rule = Ungot()
-        with Proxy(service.address, between=rule) as proxy, opened(proxy.address, 2, patience_ms=200) as file, \
-                opened(service.address, 2, operator=None) as other:
+        with Proxy(service.address, between=rule) as proxy, opened(
+            proxy.address, 2, patience_ms=200
+        ) as file, opened(service.address, 2, operator=None) as other:
             same("commit", (DONE, DONE, DONE), (file.begin(), file.write(0, b"aaa"), file.commit()))
-            same("the other", (DONE, DONE, DONE), (other.begin(), other.write(0, b"bbb"), other.commit()))
+            same(
+                "the other",
+                (DONE, DONE, DONE),
+                (other.begin(), other.write(0, b"bbb"), other.commit()),
+            )
             rule.is_armed = True
             same("begin", LOST, file.begin())
             rule.is_armed = False
@@ -524,14 +711,20 @@ def test_no_commit_is_built_on_what_came_while_its_replies_were_lost():
     """The commit is found in the log, and another session has gone on from there. The next begin is not due to ask."""
     with Service() as service:
         rule = GoesOnMeanwhile()
-        with Proxy(service.address, between=rule) as proxy, opened(proxy.address, 2, check_ms=3600000) as file, \
-                opened(service.address, 2, operator=None) as other, \
-                Asker(service.address, 2, wire.PRIMARY, epoch=file.state.writing_epoch) as by_hand:
+        with Proxy(service.address, between=rule) as proxy, opened(
+            proxy.address, 2, check_ms=3600000
+        ) as file, opened(service.address, 2, operator=None) as other, Asker(
+            service.address, 2, wire.PRIMARY, epoch=file.state.writing_epoch
+        ) as by_hand:
             same("commit", (DONE, DONE, DONE), (file.begin(), file.write(0, b"aaa"), file.commit()))
 
             def go_on():
                 same("report", b"\0", by_hand.once(wire.REPORT, wire.report(2)))
-                same("the other", (DONE, DONE, DONE), (other.begin(), other.write(0, b"ccc"), other.commit()))
+                same(
+                    "the other",
+                    (DONE, DONE, DONE),
+                    (other.begin(), other.write(0, b"ccc"), other.commit()),
+                )
 
             rule.then = go_on
             same("found", (DONE, DONE, DONE), (file.begin(), file.write(0, b"bbb"), file.commit()))
@@ -554,13 +747,21 @@ def test_a_commit_in_doubt_that_came_in_part_is_undone_by_the_next_begin():
     """Another session of the epoch has the LSN of its first block, and the failover that would settle it gets no answer."""
     with Service() as service:
         rule = NoFailover()
-        with Proxy(service.address, between=rule) as proxy, \
-                opened(proxy.address, 2, check_ms=3600000, patience_ms=200) as file, \
-                opened(service.address, 2, operator=None) as other:
+        with Proxy(service.address, between=rule) as proxy, opened(
+            proxy.address, 2, check_ms=3600000, patience_ms=200
+        ) as file, opened(service.address, 2, operator=None) as other:
             wanted = random.Random(7).randbytes(150000)
             same("commit", (DONE, DONE, DONE), (file.begin(), file.write(0, wanted), file.commit()))
-            same("the other", (DONE, DONE, DONE), (other.begin(), other.write(0, b"ccc"), other.commit()))
-            same("write", (DONE, DONE), (file.begin(), file.write(0, random.Random(8).randbytes(150000))))
+            same(
+                "the other",
+                (DONE, DONE, DONE),
+                (other.begin(), other.write(0, b"ccc"), other.commit()),
+            )
+            same(
+                "write",
+                (DONE, DONE),
+                (file.begin(), file.write(0, random.Random(8).randbytes(150000))),
+            )
             rule.is_armed = True
             same("commit", IN_DOUBT, file.commit())
             rule.is_armed = False
@@ -574,7 +775,9 @@ def test_a_commit_in_doubt_that_came_in_part_is_undone_by_the_next_begin():
 def test_nothing_is_built_upon_half_a_transaction():
     """The first half is in the log, and the table denies the rest: nothing is in the window, and still no commit may follow
     before the file has begun again."""
-    denied = TABLE.read_text().replace('[[row]]', '[[row]]\nverdict = "deny"\nwho = 2\nop = ["write"]\n\n[[row]]', 1)
+    denied = TABLE.read_text().replace(
+        "[[row]]", '[[row]]\nverdict = "deny"\nwho = 2\nop = ["write"]\n\n[[row]]', 1
+    )
     with Service() as service, service.operator() as operator:
         step, writes, wanted = ["rest"], [0], b"a" * 150000
 
@@ -635,7 +838,11 @@ def test_a_peer_that_never_comes_to_the_end_of_the_log():
             return Answer(b"\1" + frame[38:46] + b"\0\0") if pulls[0] < 100 else None
 
         with Log(service.address, 2) as log:
-            same("a block without an end", (DONE, DONE), (log.take_over(), log.append(numbered(1, 1, page=1))))
+            same(
+                "a block without an end",
+                (DONE, DONE),
+                (log.take_over(), log.append(numbered(1, 1, page=1))),
+            )
         with Proxy(service.address, between=between) as proxy:
             file = File(proxy.address, 2, operator=1, patience_ms=100)
             with file:
@@ -659,8 +866,9 @@ def test_stale_readers():
     with Service() as service, opened(service.address, 2) as file:
         file.begin(), file.write(0, b"a" * 20000)
         same("commit", DONE, file.commit())
-        with opened(service.address, 3, reads_only=True, patience_ms=1) as strict, \
-                opened(service.address, 3, reads_only=True, patience_ms=1, may_be_stale=True) as lenient:
+        with opened(service.address, 3, reads_only=True, patience_ms=1) as strict, opened(
+            service.address, 3, reads_only=True, patience_ms=1, may_be_stale=True
+        ) as lenient:
             for reader in (strict, lenient):
                 same("begin", DONE, reader.begin())
                 same("read", b"a" * 20000, reader.whole())
@@ -672,7 +880,9 @@ def test_stale_readers():
 
 
 def test_a_service_that_was_restarted():
-    with Service() as service, opened(service.address, 2) as file, opened(service.address, 3, reads_only=True) as reader:
+    with Service() as service, opened(service.address, 2) as file, opened(
+        service.address, 3, reads_only=True
+    ) as reader:
         file.begin(), file.write(0, b"a" * 20000)
         same("commit", DONE, file.commit())
         same("begin", DONE, reader.begin())
@@ -704,7 +914,15 @@ def test_cut_connections():
 class Fault:
     """A proxy's rule: at a request that the seed picks, the connection is cut, or the epoch ends, or both."""
 
-    KINDS = ("cut", "carried and cut", "failover", "failover and cut", "carried, failover and cut", "away", "carried and away")
+    KINDS = (
+        "cut",
+        "carried and cut",
+        "failover",
+        "failover and cut",
+        "carried, failover and cut",
+        "away",
+        "carried and away",
+    )
 
     def __init__(self, operator, numbers):
         self.operator, self.kind = operator, numbers.choice(self.KINDS)
@@ -732,7 +950,9 @@ def write_until_refused(file, model, numbers):
             return LOST, model
         for _ in range(numbers.randrange(1, 4)):
             offset = numbers.randrange(60000)
-            data = numbers.randbytes(numbers.choice([1, 30, 3000, 60000 if numbers.random() < 0.3 else 100]))
+            data = numbers.randbytes(
+                numbers.choice([1, 30, 3000, 60000 if numbers.random() < 0.3 else 100])
+            )
             if file.write(offset, data) != DONE:
                 return LOST, model
             changed.extend(bytes(max(offset - len(changed), 0)))
@@ -751,14 +971,22 @@ def test_faults_from_seeds():
     with Service(workers=64) as service, service.operator() as operator:
         for seed in range(4000 if LONG else 20 if MODEL else 300):
             numbers = random.Random(seed)
-            of_proxy = service.operator()  # which may go on with what the file has sent when it is gone
+            of_proxy = (
+                service.operator()
+            )  # which may go on with what the file has sent when it is gone
             rule, principal = Fault(of_proxy, numbers), numbers.choice([2, 5])
-            with of_proxy, Proxy(service.address, between=rule) as proxy, File(proxy.address, principal, operator=1,
-                                                                               patience_ms=1) as file:
+            with of_proxy, Proxy(service.address, between=rule) as proxy, File(
+                proxy.address, principal, operator=1, patience_ms=1
+            ) as file:
                 outcome = file.open()
-                outcome, changed = write_until_refused(file, model, numbers) if outcome == DONE else (LOST, model)
+                outcome, changed = (
+                    write_until_refused(file, model, numbers) if outcome == DONE else (LOST, model)
+                )
                 is_undone = file.state.is_restarted
-            true(f"seed {seed}: {outcome}", outcome in (DONE, LOST, FENCED, IN_DOUBT) and not is_undone)
+            true(
+                f"seed {seed}: {outcome}",
+                outcome in (DONE, LOST, FENCED, IN_DOUBT) and not is_undone,
+            )
             outcomes[outcome] = outcomes.get(outcome, 0) + 1
             if outcome == IN_DOUBT:
                 operator.failover(5)
@@ -782,7 +1010,9 @@ def write_unwaited(file, states, numbers):
         changed = bytearray(states[-1])
         for _ in range(numbers.randrange(1, 4)):
             offset = numbers.randrange(60000)
-            data = numbers.randbytes(numbers.choice([1, 30, 3000, 60000 if numbers.random() < 0.1 else 100]))
+            data = numbers.randbytes(
+                numbers.choice([1, 30, 3000, 60000 if numbers.random() < 0.1 else 100])
+            )
             outcome = file.write(offset, data)
             if outcome != DONE:
                 return outcome, known
@@ -799,16 +1029,22 @@ def write_unwaited(file, states, numbers):
 
 def test_unwaited_commits_and_faults_from_seeds():
     """Hundreds of writers that wait for no commit, and meet a fault at some request. What is in the log afterwards is what the
-    file was after some commit, and none that is known to be in it is lacking. A file that lost commits goes on from there."""
+    file was after some commit, and none that is known to be in it is lacking. A file that lost commits goes on from there.
+    """
     model, told, kept = bytearray(), {}, [0, 0]
     with Service(workers=64) as service, service.operator() as operator:
         for seed in range(4000 if LONG else 20 if MODEL else 300):
             numbers = random.Random(seed)
             of_proxy = service.operator()
             rule, principal = Fault(of_proxy, numbers), numbers.choice([2, 5])
-            with of_proxy, Proxy(service.address, between=rule) as proxy, \
-                    File(proxy.address, principal, operator=1, patience_ms=1, unwaited=numbers.choice([1, 3, 64]),
-                         check_ms=numbers.choice([0, 3600000])) as file:
+            with of_proxy, Proxy(service.address, between=rule) as proxy, File(
+                proxy.address,
+                principal,
+                operator=1,
+                patience_ms=1,
+                unwaited=numbers.choice([1, 3, 64]),
+                check_ms=numbers.choice([0, 3600000]),
+            ) as file:
                 states, known, outcome = [model], 0, file.open()
                 if outcome == DONE:
                     outcome, known = write_unwaited(file, states, numbers)
@@ -816,8 +1052,17 @@ def test_unwaited_commits_and_faults_from_seeds():
                         known = len(states) - 1
                 is_over, lost = file.state.is_over, file.state.losses > 0
                 if is_over:
-                    same("over", (CONFLICT, CONFLICT, CONFLICT, CONFLICT, CONFLICT),
-                         (file.read(0, 1)[0], file.write(0, b"x"), file.resize(1), file.commit(), file.settle()))
+                    same(
+                        "over",
+                        (CONFLICT, CONFLICT, CONFLICT, CONFLICT, CONFLICT),
+                        (
+                            file.read(0, 1)[0],
+                            file.write(0, b"x"),
+                            file.resize(1),
+                            file.commit(),
+                            file.settle(),
+                        ),
+                    )
                 rule.is_away, rule.left = False, -1
                 again = file.begin() if lost else None
                 own = bytes(file.whole()) if again == DONE else None
@@ -828,7 +1073,10 @@ def test_unwaited_commits_and_faults_from_seeds():
                 found = reader.whole()
             places = [place for place, state in enumerate(states) if state == found]
             true(f"seed {seed}, {rule.kind}, {outcome}: a state that was", places)
-            true(f"seed {seed}, {rule.kind}, {outcome}: known {known}, found {places}", places[-1] >= known)
+            true(
+                f"seed {seed}, {rule.kind}, {outcome}: known {known}, found {places}",
+                places[-1] >= known,
+            )
             if again == DONE:
                 same(f"seed {seed}: as the file itself has it", found, own)
             kept = [kept[0] + places[-1], kept[1] + len(states) - 1]
@@ -838,59 +1086,97 @@ def test_unwaited_commits_and_faults_from_seeds():
 
 def test_unwaited_commits():
     """They need no round trip, are seen by readers soon, and a wait for all of them is one call."""
-    with Service() as service, opened(service.address, 2, unwaited=40, check_ms=3600000) as file, \
-            opened(service.address, 3, reads_only=True) as reader:
+    with Service() as service, opened(
+        service.address, 2, unwaited=40, check_ms=3600000
+    ) as file, opened(service.address, 3, reads_only=True) as reader:
         before = file.state.wire.round_trips
         for number in range(100):
-            same("commit", (DONE, DONE, DONE), (file.begin(), file.write(0, b"%08d" % number), file.commit()))
+            same(
+                "commit",
+                (DONE, DONE, DONE),
+                (file.begin(), file.write(0, b"%08d" % number), file.commit()),
+            )
         true("not each one waits", file.state.wire.round_trips - before <= 3)
         while reader.state.transaction < 100:
             same("begin", DONE, reader.begin())
         same("seen", (DONE, b"00000099"), reader.read(0, 8))
         same("settled", (DONE, 0, 100), (file.settle(), file.state.on_their_way, file.state.end))
-        same("large", (DONE, DONE, DONE), (file.begin(), file.write(0, b"x" * 5000000), file.commit()))
+        same(
+            "large",
+            (DONE, DONE, DONE),
+            (file.begin(), file.write(0, b"x" * 5000000), file.commit()),
+        )
         same("then small", (DONE, DONE, DONE), (file.begin(), file.write(0, b"y"), file.commit()))
         same("settled", (DONE, 0), (file.settle(), file.state.on_their_way))
         same("reader", (DONE, b"y" + b"x" * 4999999), (reader.begin(), reader.whole()))
         before, blocks = file.state.wire.round_trips, file.state.blocks_written
         for number in range(20):
-            same("some blocks", (DONE, DONE, DONE), (file.begin(), file.write(0, b"%02d" % number * 100000), file.commit()))
+            same(
+                "some blocks",
+                (DONE, DONE, DONE),
+                (file.begin(), file.write(0, b"%02d" % number * 100000), file.commit()),
+            )
             while file.state.wire.replies < file.state.wire.requests:
                 same("its replies", DONE, file.begin())
-        same("more than a window, and no wait", (True, before),
-             (file.state.blocks_written - blocks > 64, file.state.wire.round_trips))
+        same(
+            "more than a window, and no wait",
+            (True, before),
+            (file.state.blocks_written - blocks > 64, file.state.wire.round_trips),
+        )
     with Service() as service:
         wanted = random.Random(3).randbytes(800000)
         with opened(service.address) as file:
-            same("more than is in memory", (DONE, DONE, DONE), (file.begin(), file.write(0, wanted), file.commit()))
+            same(
+                "more than is in memory",
+                (DONE, DONE, DONE),
+                (file.begin(), file.write(0, wanted), file.commit()),
+            )
         with opened(service.address, unwaited=64, check_ms=3600000, cache_pages=16) as file:
             for number in range(40):
-                at, data = number * (20000 if number % 3 else 2 * 8192), b"%d" % number * (300 if number % 2 else 8192)
+                at, data = number * (20000 if number % 3 else 2 * 8192), b"%d" % number * (
+                    300 if number % 2 else 8192
+                )
                 same("begin", DONE, file.begin())
                 same("write", DONE, file.write(at, data[:8192]))
                 same("commit", DONE, file.commit())
                 wanted = wanted[:at] + data[:8192] + wanted[at + len(data[:8192]) :]
                 time.sleep(0.002 if number % 5 == 0 else 0)
-            same("what is fetched", (DONE, wanted, 0), (file.begin(), file.whole(), file.state.losses))
+            same(
+                "what is fetched",
+                (DONE, wanted, 0),
+                (file.begin(), file.whole(), file.state.losses),
+            )
 
 
 def test_lost_commits_are_told_by_the_next_begin():
     """It asks whether the epoch goes on, or looks whether a refusal has come."""
     lost = random.Random(4).randbytes(100000)
     for check in (0, 3600000):
-        with Service() as service, opened(service.address, 2, unwaited=64, check_ms=check) as old, \
-                opened(service.address, 2, reads_only=True) as reader:
-            same("commit", (DONE, DONE, DONE, DONE), (old.begin(), old.write(0, b"a" * 10), old.commit(), old.settle()))
+        with Service() as service, opened(
+            service.address, 2, unwaited=64, check_ms=check
+        ) as old, opened(service.address, 2, reads_only=True) as reader:
+            same(
+                "commit",
+                (DONE, DONE, DONE, DONE),
+                (old.begin(), old.write(0, b"a" * 10), old.commit(), old.settle()),
+            )
             same("begin", DONE, old.begin())
             with opened(service.address, 5) as new:
                 same("new", (DONE, DONE, DONE), (new.begin(), new.write(0, b"n"), new.commit()))
-                same("of an epoch that is over", (DONE, DONE), (old.write(0, b"bb"), old.write(50, lost)))
+                same(
+                    "of an epoch that is over",
+                    (DONE, DONE),
+                    (old.write(0, b"bb"), old.write(50, lost)),
+                )
                 same("nobody waits", DONE, old.commit())
                 outcome = old.begin()
                 while check > 0 and outcome == DONE:
                     outcome = old.begin()
-                same("reported", (FENCED, True, True, 1),
-                     (outcome, old.state.is_over, old.state.is_fenced, old.state.losses))
+                same(
+                    "reported",
+                    (FENCED, True, True, 1),
+                    (outcome, old.state.is_over, old.state.is_fenced, old.state.losses),
+                )
                 true("in words", "nobody waited for" in old.words)
                 same("until a begin", (CONFLICT, CONFLICT), (old.read(0, 1)[0], old.commit()))
                 same("it follows", (DONE, b"n" + b"a" * 9), (old.begin(), old.whole()))
@@ -901,8 +1187,12 @@ def test_lost_commits_are_told_by_the_next_begin():
 def test_refused_allocations():
     """Of commits that nobody waits for: what was answered before one is refused is not taken for what comes after."""
     with Service() as service:
-        ran = subprocess.run([CLIENT / "out" / "checked" / "refused", service.address], capture_output=True, text=True,
-                             env=plain_environment())
+        ran = subprocess.run(
+            [CLIENT / "out" / "checked" / "refused", service.address],
+            capture_output=True,
+            text=True,
+            env=plain_environment(),
+        )
         same("refused", (0, ""), (ran.returncode, ran.stderr[-2000:]))
         return ran.stdout.strip()
 

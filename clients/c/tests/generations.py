@@ -72,7 +72,9 @@ def look_at_work(keeper, connection):
     same("whole", "ok", one(connection, "pragma integrity_check"))
     keeper.rule = None
     same("rows", list(range(63)), rows(connection))
-    same("moves and losses", (int(keeper.now.number > 1), 0), numbers(connection, "moves", "losses"))
+    same(
+        "moves and losses", (int(keeper.now.number > 1), 0), numbers(connection, "moves", "losses")
+    )
     other = named(keeper, 3, mode="ro")
     same("a reader", (list(range(63)), "ok"), (rows(other), one(other, "pragma integrity_check")))
 
@@ -107,7 +109,9 @@ def test_an_event_before_each_request_of_a_writer():
                         work(connection)
                         look_at_work(keeper, connection)
                     except Exception as error:
-                        raise AssertionError(f"{level}, {name}, before request {number}: {error!r}") from error
+                        raise AssertionError(
+                            f"{level}, {name}, before request {number}: {error!r}"
+                        ) from error
                     connection.close()
                 ran += 1
     return f"{ran} events at requests of a writer"
@@ -127,7 +131,11 @@ def test_tokens_of_a_run_are_those_of_the_keepers():
     with Keepers("127.0.0.1:1", "shop") as keepers:
         for length in range(0, 75):
             run, key = "f" * length, bytes(range(length, length + 16))
-            same(f"{length} digits", hmac.new(key, f"shop/{run}".encode(), hashlib.sha256).digest()[:16], keepers.token(key, run))
+            same(
+                f"{length} digits",
+                hmac.new(key, f"shop/{run}".encode(), hashlib.sha256).digest()[:16],
+                keepers.token(key, run),
+            )
 
 
 def test_a_proof_is_that_of_the_page():
@@ -136,7 +144,12 @@ def test_a_proof_is_that_of_the_page():
     [nonce] = re.findall(r"hello 2 nonce=([0-9a-f]{32})", page)
     [(token, proof)] = re.findall(r"token ([0-9a-f]{32})[^`]*`(prove [^`]*)`", page)
     _, name, principal, _, of = proof.split()
-    made = Proof(principal=int(principal), token=Token(*bytes.fromhex(token)), name=name.encode(), of=of.removeprefix("of=").encode())
+    made = Proof(
+        principal=int(principal),
+        token=Token(*bytes.fromhex(token)),
+        name=name.encode(),
+        of=of.removeprefix("of=").encode(),
+    )
     same("the line", proof.encode() + b"\n", made.line(nonce.encode()))
     for length in (0, 1, 39, 40, 90, 119):  # what is hashed goes over the borders of chunks
         made.of = ("d" * min(length, 36) + "/" * (length > 36) + "r" * max(0, length - 37)).encode()
@@ -147,9 +160,17 @@ def test_a_proof_is_that_of_the_page():
 
 def test_a_nonce_is_32_digits_and_nothing_else():
     digits = b"0123456789abcdef" * 2
-    for told, found in ((b"hello 2 nonce=" + digits, digits), (b"hello 2 color=red nonce=" + digits + b" later=", digits), (b"hello 2", b""),
-                        (b"hello 2 nonce=", b""), (b"hello 2 nonce=" + digits[:31], b""), (b"hello 2 nonce=" + digits + b"0", b""),
-                        (b"hello 2 nonce=" + digits[:31] + b"/", b""), (b"hello 2 once=" + digits, b""), (b"what hello", b"")):  # fmt: skip
+    for told, found in (
+        (b"hello 2 nonce=" + digits, digits),
+        (b"hello 2 color=red nonce=" + digits + b" later=", digits),
+        (b"hello 2", b""),
+        (b"hello 2 nonce=", b""),
+        (b"hello 2 nonce=" + digits[:31], b""),
+        (b"hello 2 nonce=" + digits + b"0", b""),
+        (b"hello 2 nonce=" + digits[:31] + b"/", b""),
+        (b"hello 2 once=" + digits, b""),
+        (b"what hello", b""),
+    ):
         same(told, found, nonce_of(told))
 
 
@@ -192,7 +213,11 @@ def test_where_a_database_is():
     with StubKeeper() as keeper, silent() as quiet:
         with Keepers(f"127.0.0.1:1,{quiet},{keeper.address}") as keepers:
             outcome, place = answered(keepers.where)
-            same("place", (DONE, 1, b"run1", keeper.now.address.encode()), (outcome, place.generation, place.run, place.address))
+            same(
+                "place",
+                (DONE, 1, b"run1", keeper.now.address.encode()),
+                (outcome, place.generation, place.run, place.address),
+            )
             same("none above", LOST, keepers.where(2)[0])
             keeper.is_published = False
             same("nobody serves it", LOST, keepers.where()[0])
@@ -208,7 +233,13 @@ def test_where_a_database_is():
         keeper.is_published = False
         with Keepers(f"{quiet},{keeper.address}") as keepers:
             until(lambda: is_soon_nowhere(keepers), "one that is silent is not waited for")
-    for addresses, name in (("", "a"), ("127.0.0.1", "a"), ("127.0.0.1:1,", "a b"), ("127.0.0.1:1", ""), ("a:1," * 17, "a")):
+    for addresses, name in (
+        ("", "a"),
+        ("127.0.0.1", "a"),
+        ("127.0.0.1:1,", "a b"),
+        ("127.0.0.1:1", ""),
+        ("a:1," * 17, "a"),
+    ):
         with Keepers(addresses, name) as keepers:
             same(f"{addresses} {name}", None, keepers.made)
 
@@ -257,10 +288,20 @@ def test_two_keepers_of_one_generation_who_knows_most_of_the_archive_counts():
     """One that has not looked for a while may say where a service was that was ended since."""
     told = f"at shop 2 run2 127.0.0.1:%d %d 127.0.0.1:2 0 0 0 of={DATABASE}/run2"
     for order in ((11, 5), (12, 9), (13, 7)), ((12, 9), (11, 5), (13, 7)):
-        with one_after_the_other(*(told % of for of in order), f"at shop 1 run1 127.0.0.1:14 99 127.0.0.1:2 0 0 0 of={DATABASE}/run1") as addresses:
+        with one_after_the_other(
+            *(told % of for of in order),
+            f"at shop 1 run1 127.0.0.1:14 99 127.0.0.1:2 0 0 0 of={DATABASE}/run1",
+        ) as addresses:
             with Keepers(addresses) as keepers:
-                places = (keepers.where()[1] for _ in range(100))  # who answers late is not waited for
-                true(order, any((place.archived, place.address) == (9, b"127.0.0.1:12") for place in places))
+                places = (
+                    keepers.where()[1] for _ in range(100)
+                )  # who answers late is not waited for
+                true(
+                    order,
+                    any(
+                        (place.archived, place.address) == (9, b"127.0.0.1:12") for place in places
+                    ),
+                )
 
 
 @contextlib.contextmanager
@@ -273,12 +314,17 @@ def saying(answers):
                 for text in asked:
                     words = text.decode().split()
                     told = answers.get(words[0])
-                    line.sendall(((told(words) if callable(told) else told) or f"what {words[0]}").encode() + b"\n")
+                    line.sendall(
+                        ((told(words) if callable(told) else told) or f"what {words[0]}").encode()
+                        + b"\n"
+                    )
 
         def accept():
             with contextlib.suppress(OSError):
                 while True:
-                    threading.Thread(target=serve, args=(listener.accept()[0],), daemon=True).start()
+                    threading.Thread(
+                        target=serve, args=(listener.accept()[0],), daemon=True
+                    ).start()
 
         thread = threading.Thread(target=accept, daemon=True)
         thread.start()
@@ -291,8 +337,17 @@ def saying(answers):
 def test_keepers_of_version_1():
     """They name no database: where there are no others they are refused. What one says of a number is of the run that it has."""
     at = "at shop 1 {} 127.0.0.1:11 5 127.0.0.1:2 0 0 0"
-    for run, told, expected in (("run1", "durable shop 1 7", DONE), ("another", "durable shop 1 7", LOST), ("run1", "over shop 1 7", LOST)):
-        with saying({"where": at.format(run), "durable": lambda words, told=told: told if len(words) == 4 else None}) as address:
+    for run, told, expected in (
+        ("run1", "durable shop 1 7", DONE),
+        ("another", "durable shop 1 7", LOST),
+        ("run1", "over shop 1 7", LOST),
+    ):
+        with saying(
+            {
+                "where": at.format(run),
+                "durable": lambda words, told=told: told if len(words) == 4 else None,
+            }
+        ) as address:
             with Keepers(address) as keepers:
                 same("where", DENIED, keepers.where()[0])
                 same(f"{run}: {told}", expected, keepers.fate(1, 6)[0])
@@ -302,10 +357,16 @@ def test_keepers_of_version_1():
 
 def test_an_answer_is_of_the_run_that_was_asked_for():
     own, other = f"of={DATABASE}/run1", f"of={DATABASE}/run2"
-    for told, expected in ((f"durable shop 1 7 {own}", (DONE, 0)), (f"durable shop 1 7 {other}", (LOST, 0)), ("durable shop 1 7", (LOST, 0)),
-                           (f"over shop 1 7 {other}", (LOST, 0)), (f"lost shop 1 dropped {own} color=red", (DONE, 1)),
-                           (f"lost shop 1 another by=0 {own}", (DONE, 2)), (f"lost shop 1 superseded by=4 {own}", (DONE, 3)),
-                           (f"lost shop 1 dropped {other}", (LOST, 0))):  # fmt: skip
+    for told, expected in (
+        (f"durable shop 1 7 {own}", (DONE, 0)),
+        (f"durable shop 1 7 {other}", (LOST, 0)),
+        ("durable shop 1 7", (LOST, 0)),
+        (f"over shop 1 7 {other}", (LOST, 0)),
+        (f"lost shop 1 dropped {own} color=red", (DONE, 1)),
+        (f"lost shop 1 another by=0 {own}", (DONE, 2)),
+        (f"lost shop 1 superseded by=4 {own}", (DONE, 3)),
+        (f"lost shop 1 dropped {other}", (LOST, 0)),
+    ):
         with saying({"hello": "hello 3", "durable": told}) as address, Keepers(address) as keepers:
             outcome, fate = keepers.fate(1, 6)
             same(told, expected, (outcome, fate.loss if outcome == DONE else 0))
@@ -313,10 +374,18 @@ def test_an_answer_is_of_the_run_that_was_asked_for():
 
 def test_keys_that_it_does_not_know_are_passed_over():
     at, known = "at shop 7 run7 127.0.0.1:11 5 127.0.0.1:2 3 4 2", f"of={DATABASE}/run7"
-    for told in (f"{at} {known}", f"{at} color=red {known} taste=a=b ancestor=older later=", f"{at} after=run6 {known}"):
+    for told in (
+        f"{at} {known}",
+        f"{at} color=red {known} taste=a=b ancestor=older later=",
+        f"{at} after=run6 {known}",
+    ):
         with saying({"hello": "hello 3", "where": told}) as address, Keepers(address) as keepers:
             outcome, place = keepers.where()
-            same(told, (DONE, DATABASE.encode(), 7, b"run7"), (outcome, place.database, place.generation, place.run))
+            same(
+                told,
+                (DONE, DATABASE.encode(), 7, b"run7"),
+                (outcome, place.database, place.generation, place.run),
+            )
             same(told, (5, 3, 4), (place.archived, place.base, place.shift))
 
 
@@ -379,8 +448,17 @@ def test_a_host_with_an_address_that_is_silent():
             waiting = stack.enter_context(socket.socket())
             waiting.setblocking(False)
             waiting.connect_ex(full.getsockname())
-        ran = subprocess.run([CLIENT / "out" / "checked" / "addresses", str(full.getsockname()[1]), service.address, keeper.address],
-                             capture_output=True, text=True, env=plain_environment())
+        ran = subprocess.run(
+            [
+                CLIENT / "out" / "checked" / "addresses",
+                str(full.getsockname()[1]),
+                service.address,
+                keeper.address,
+            ],
+            capture_output=True,
+            text=True,
+            env=plain_environment(),
+        )
         same("reached", (0, ""), (ran.returncode, ran.stderr[-2000:]))
 
 
@@ -388,12 +466,24 @@ def test_what_has_become_of_a_position():
     with StubKeeper() as keeper, Keepers(keeper.address) as keepers:
         connection = named(keeper)
         connection.execute("create table t(a, b)")
-        same("durable", (DONE, 1, False), ((found := answered(keepers.fate, 1, 1))[0], found[1].end, found[1].is_over))
+        same(
+            "durable",
+            (DONE, 1, False),
+            ((found := answered(keepers.fate, 1, 1))[0], found[1].end, found[1].is_over),
+        )
         connection.execute("pragma synchronous = normal")
         fill(connection, 3)
         keeper.die(lost=2)
-        same("over", (DONE, 2, True), ((found := answered(keepers.fate, 1, 4))[0], found[1].end, found[1].is_over))
-        same("the rest was sent again", (4, 2), (len(rows(connection)) + 1, numbers(connection, "resent")[0]))
+        same(
+            "over",
+            (DONE, 2, True),
+            ((found := answered(keepers.fate, 1, 4))[0], found[1].end, found[1].is_over),
+        )
+        same(
+            "the rest was sent again",
+            (4, 2),
+            (len(rows(connection)) + 1, numbers(connection, "resent")[0]),
+        )
 
 
 # ---- Settings and pragmas ----
@@ -401,14 +491,32 @@ def test_what_has_become_of_a_position():
 
 def test_settings_of_a_named_database():
     with StubKeeper() as keeper:
-        for more, wanted in (({"to": "127.0.0.1:1"}, "SQLITE_MISUSE"), ({"op": "x"}, "SQLITE_MISUSE"), ({"move": -1}, "SQLITE_MISUSE"),
-                             ({"durable": 2}, "SQLITE_MISUSE"), ({"name": "other"}, "SQLITE_PERM"), ({"name": ""}, "SQLITE_MISUSE"),
-                             ({"errors": "loud"}, "SQLITE_MISUSE"), ({"token": "00" * 16}, "SQLITE_PERM")):
+        for more, wanted in (
+            ({"to": "127.0.0.1:1"}, "SQLITE_MISUSE"),
+            ({"op": "x"}, "SQLITE_MISUSE"),
+            ({"move": -1}, "SQLITE_MISUSE"),
+            ({"durable": 2}, "SQLITE_MISUSE"),
+            ({"name": "other"}, "SQLITE_PERM"),
+            ({"name": ""}, "SQLITE_MISUSE"),
+            ({"errors": "loud"}, "SQLITE_MISUSE"),
+            ({"token": "00" * 16}, "SQLITE_PERM"),
+        ):
             same(more, wanted, code_of(lambda: rows(named(keeper, **more))))
         connection = named(keeper)
         connection.execute("create table t(a, b)")
-        same("numbers", (1, 1, 1, 0), numbers(connection, "position", "durable", "generation", "moves"))
-        same("roles", ("writer", "reader"), (one(connection, "pragma pagelog_role"), one(named(keeper, 3, mode="ro"), "pragma pagelog_role")))
+        same(
+            "numbers",
+            (1, 1, 1, 0),
+            numbers(connection, "position", "durable", "generation", "moves"),
+        )
+        same(
+            "roles",
+            ("writer", "reader"),
+            (
+                one(connection, "pragma pagelog_role"),
+                one(named(keeper, 3, mode="ro"), "pragma pagelog_role"),
+            ),
+        )
 
 
 def refusal(action):
@@ -432,14 +540,30 @@ def test_an_open_that_is_refused_says_why():
     """And at once: a call would wait for five minutes here."""
     with StubKeeper() as keeper, nobody() as one_port, nobody() as other_port:
         for id, more in (2, {}), (3, {"mode": "ro"}):
-            told = "SQLITE_PERM", f"pagelog: denied: the table does not list principal {id} with this token"
-            same(f"a wrong token of {id}", told, refusal(lambda: named(keeper, id, token="00" * 16, **more)))
-        same("another name", ("SQLITE_PERM", "pagelog: denied: the keepers know of no database blog"),
-             refusal(lambda: named(keeper, name="blog")))
-        same("no keeper", ("SQLITE_CANTOPEN", "pagelog: lost: no keeper answers: all connections are refused"),
-             refusal(lambda: sqlite_of(f"{one_port},{other_port}", "shop", 2)))
-        same("a setting", ("SQLITE_MISUSE", "pagelog: the setting colour is missing, unknown, or cannot be read"),
-             refusal(lambda: named(keeper, colour=1)))
+            told = (
+                "SQLITE_PERM",
+                f"pagelog: denied: the table does not list principal {id} with this token",
+            )
+            same(
+                f"a wrong token of {id}",
+                told,
+                refusal(lambda: named(keeper, id, token="00" * 16, **more)),
+            )
+        same(
+            "another name",
+            ("SQLITE_PERM", "pagelog: denied: the keepers know of no database blog"),
+            refusal(lambda: named(keeper, name="blog")),
+        )
+        same(
+            "no keeper",
+            ("SQLITE_CANTOPEN", "pagelog: lost: no keeper answers: all connections are refused"),
+            refusal(lambda: sqlite_of(f"{one_port},{other_port}", "shop", 2)),
+        )
+        same(
+            "a setting",
+            ("SQLITE_MISUSE", "pagelog: the setting colour is missing, unknown, or cannot be read"),
+            refusal(lambda: named(keeper, colour=1)),
+        )
         named(keeper).execute("create table t(a)")
         same("what may be opened still is", [], rows(named(keeper)))
         same("an open of something else", 1, one(sqlite3.connect(":memory:"), "select 1"))
@@ -447,8 +571,13 @@ def test_an_open_that_is_refused_says_why():
 
 def test_a_statement_that_is_barred_says_why():
     """Its operator has another token; and its table lets the principal only read."""
-    for more, told in (({"optoken": "00" * 16}, "denied: the table does not list operator 1 with this token"),
-                       ({}, "denied: denied B2, value 0: this row of the table is the first that matches, and it denies")):
+    for more, told in (
+        ({"optoken": "00" * 16}, "denied: the table does not list operator 1 with this token"),
+        (
+            {},
+            "denied: denied B2, value 0: this row of the table is the first that matches, and it denies",
+        ),
+    ):
         with barred() as keeper:
             connection = named(keeper, 5, **more)
             same(told, "SQLITE_PERM", code_of(lambda: connection.execute("create table t(a)")))
@@ -461,8 +590,10 @@ def barred():
     denied = '[[row]]\nverdict = "deny"\nwho = 5\nrole = "primary"\n[[row]]\nverdict = "allow"\nrole = "secondary"\n'
     with StubKeeper() as keeper:
         with keeper.now.asker(wire.OPERATOR) as operator:
-            principals, _, rest = table_of(keeper.name, keeper.now.run).partition("[[row]]\nverdict = \"deny\"")
-            operator.set_table(principals + denied + f"[[row]]\nverdict = \"deny\"{rest}")
+            principals, _, rest = table_of(keeper.name, keeper.now.run).partition(
+                '[[row]]\nverdict = "deny"'
+            )
+            operator.set_table(principals + denied + f'[[row]]\nverdict = "deny"{rest}')
         yield keeper
 
 
@@ -484,17 +615,31 @@ c.sqlite3_close(db)
 
 def test_the_message_of_a_statement_that_fails():
     """With the preload it says why, in Python, in C and in the shell; an extension has no way to say it."""
-    subprocess.run(["make", "-s", "-C", CLIENT, "out/pagelog_preload.so"], check=True, env=plain_environment())
+    subprocess.run(
+        ["make", "-s", "-C", CLIENT, "out/pagelog_preload.so"], check=True, env=plain_environment()
+    )
     with barred() as keeper:
         uri = uri_of(keeper.address, "shop", 5) + "&errors=log"
         why = "access permission denied: pagelog: denied: denied B2, value 0: this row of the table is the first that matches, and it denies"
         preloaded = plain_environment(LD_PRELOAD=str(CLIENT / "out" / "pagelog_preload.so"))
-        ran = subprocess.run([sys.executable, "-c", MESSAGES, uri], capture_output=True, text=True, env=preloaded)
+        ran = subprocess.run(
+            [sys.executable, "-c", MESSAGES, uri], capture_output=True, text=True, env=preloaded
+        )
         own = "object name reserved for internal use: sqlite_t"
-        same("Python, C, and what is none of the VFS", ([why, why, own], ""), (ran.stdout.splitlines(), ran.stderr))
-        ran = subprocess.run(["sqlite3", uri, "create table t(a)"], capture_output=True, text=True, env=preloaded)
+        same(
+            "Python, C, and what is none of the VFS",
+            ([why, why, own], ""),
+            (ran.stdout.splitlines(), ran.stderr),
+        )
+        ran = subprocess.run(
+            ["sqlite3", uri, "create table t(a)"], capture_output=True, text=True, env=preloaded
+        )
         true(f"the shell: {ran.stderr}", why in ran.stderr)
-        same("an extension", ("SQLITE_PERM", "access permission denied"), refusal(lambda: named(keeper, 5).execute("create table t(a)")))
+        same(
+            "an extension",
+            ("SQLITE_PERM", "access permission denied"),
+            refusal(lambda: named(keeper, 5).execute("create table t(a)")),
+        )
 
 
 def test_a_token_is_wrong_only_where_its_run_says_so():
@@ -509,7 +654,11 @@ def test_a_token_is_wrong_only_where_its_run_says_so():
             keeper.switch(new)
 
         keeper.rule = Before(1, succeed)
-        same("it is looked for in the next generation", ([], (2,)), (rows(reader := named(keeper, 3, mode="ro")), numbers(reader, "generation")))
+        same(
+            "it is looked for in the next generation",
+            ([], (2,)),
+            (rows(reader := named(keeper, 3, mode="ro")), numbers(reader, "generation")),
+        )
 
 
 def test_who_was_let_in_is_not_refused_by_another_service_at_the_address():
@@ -522,22 +671,37 @@ def test_who_was_let_in_is_not_refused_by_another_service_at_the_address():
         with Service(listen=keeper.now.service.address):
             later(1.0, lambda: keeper.switch(new))
             connection.execute("insert into t values (1)")
-            same("in the next generation", ([1], (2,)), (rows(connection), numbers(connection, "generation")))
+            same(
+                "in the next generation",
+                ([1], (2,)),
+                (rows(connection), numbers(connection, "generation")),
+            )
 
 
 def test_synchronous_says_what_a_commit_waits_for():
     with StubKeeper() as keeper:
         connection = named(keeper)
         connection.execute("create table t(a, b)")
-        for value, waits in (("full", True), ("extra", True), ("2", True), ("3", True), ("normal", False), ("1", False), ("on", False),
-                             ("off", False), ("0", False)):
+        for value, waits in (
+            ("full", True),
+            ("extra", True),
+            ("2", True),
+            ("3", True),
+            ("normal", False),
+            ("1", False),
+            ("on", False),
+            ("off", False),
+            ("0", False),
+        ):
             connection.execute(f"pragma synchronous = {value}")
             connection.execute("insert into t values (1, 1)")
             position, durable = numbers(connection, "position", "durable")
             same(f"{value}: is durable", waits, durable == position)
         connection.execute("pragma synchronous = full")
         connection.execute("begin immediate")
-        code_of(lambda: connection.execute("pragma synchronous = off"))  # SQLite refuses it within a transaction
+        code_of(
+            lambda: connection.execute("pragma synchronous = off")
+        )  # SQLite refuses it within a transaction
         connection.execute("insert into t values (1, 1)")
         connection.execute("commit")
         same("as before", 0, int.__sub__(*numbers(connection, "position", "durable")))
@@ -550,7 +714,9 @@ def test_a_commit_that_waits_lets_others_read():
         connection.execute("create table t(a, b)")
         keeper.is_archiving = False
         done = []
-        thread = threading.Thread(target=lambda: done.append(connection.execute("insert into t values (1, 1)")))
+        thread = threading.Thread(
+            target=lambda: done.append(connection.execute("insert into t values (1, 1)"))
+        )
         thread.start()
         while not rows(follower):
             pass
@@ -570,7 +736,11 @@ def test_readers_of_what_is_durable():
     """They see nothing that could still be lost, and never go back."""
     level = "pragma synchronous = off"  # of which a close leaves it so
     with StubKeeper() as keeper:
-        connection, careful, other = named(keeper), named(keeper, 3, mode="ro", durable=1), named(keeper, 3, mode="ro")
+        connection, careful, other = (
+            named(keeper),
+            named(keeper, 3, mode="ro", durable=1),
+            named(keeper, 3, mode="ro"),
+        )
         connection.execute("create table t(a, b)")
         connection.execute(level)
         keeper.is_archiving = False
@@ -589,7 +759,11 @@ def test_readers_of_what_is_durable():
         fill(again, 1, first=9)
         for event in (keeper.succeed, keeper.archive_now):
             event()
-            same("then", ([0, 1, 2, 3, 9], "ok"), (rows(careful), one(careful, "pragma integrity_check")))
+            same(
+                "then",
+                ([0, 1, 2, 3, 9], "ok"),
+                (rows(careful), one(careful, "pragma integrity_check")),
+            )
 
 
 # ---- Readers ----
@@ -607,7 +781,11 @@ def test_a_transaction_that_reads_goes_on():
                 reading.execute("begin")
                 same("before", 0, one(reading, "select min(a) from t"))
                 event(keeper)
-                same(f"{name}: all of it", (list(range(40)), "ok"), (rows(reading), one(reading, "pragma integrity_check")))
+                same(
+                    f"{name}: all of it",
+                    (list(range(40)), "ok"),
+                    (rows(reading), one(reading, "pragma integrity_check")),
+                )
                 reading.execute("commit")
                 reading.close()
 
@@ -623,10 +801,14 @@ def test_a_transaction_that_reads_what_was_lost():
         reading.execute("begin")
         same("before", 0, one(reading, "select min(a) from t"))
         connection.close()
-        keeper.die(lost=20, others=lambda new: overtaking(new, 25))  # whose transactions stand at these positions
+        keeper.die(
+            lost=20, others=lambda new: overtaking(new, 25)
+        )  # whose transactions stand at these positions
         same("told", "SQLITE_IOERR", code_of(lambda: rows(reading)))
         same("it is over", False, reading.in_transaction)
-        same("and goes on", (45, "ok"), (len(rows(reading)), one(reading, "pragma integrity_check")))
+        same(
+            "and goes on", (45, "ok"), (len(rows(reading)), one(reading, "pragma integrity_check"))
+        )
 
 
 def test_the_past_at_a_position():
@@ -640,10 +822,24 @@ def test_the_past_at_a_position():
         same("block for block", [0, 1, 2], rows(past))
         keeper.succeed()
         fill(connection, 5, first=9)
-        same("it is before the base", "SQLITE_PROTOCOL", code_of(lambda: rows(named(keeper, 3, at=4))))
-        same("its cache is no database", True, code_of(lambda: one(past, "pragma integrity_check")) in (None, "SQLITE_IOERR"))
-        same("at the base, and after it", [(9, "ok"), (11, "ok")],
-             [(len(rows(then)), one(then, "pragma integrity_check")) for then in (named(keeper, 3, at=10), named(keeper, 3, at=12))])
+        same(
+            "it is before the base",
+            "SQLITE_PROTOCOL",
+            code_of(lambda: rows(named(keeper, 3, at=4))),
+        )
+        same(
+            "its cache is no database",
+            True,
+            code_of(lambda: one(past, "pragma integrity_check")) in (None, "SQLITE_IOERR"),
+        )
+        same(
+            "at the base, and after it",
+            [(9, "ok"), (11, "ok")],
+            [
+                (len(rows(then)), one(then, "pragma integrity_check"))
+                for then in (named(keeper, 3, at=10), named(keeper, 3, at=12))
+            ],
+        )
 
 
 def test_an_event_before_each_request_of_a_reader():
@@ -654,7 +850,9 @@ def test_an_event_before_each_request_of_a_reader():
                 connection, other = named(keeper), named(keeper, 5)
                 connection.execute("create table t(a, b)")
                 fill(connection, 10, size=4000)
-                reading, asked = named(keeper, 3, mode="ro", pages=4), Before(number, lambda: EVENTS[name](keeper))
+                reading, asked = named(keeper, 3, mode="ro", pages=4), Before(
+                    number, lambda: EVENTS[name](keeper)
+                )
                 for turn, each in enumerate((other, connection, other)):
                     fill(each, 1, first=10 + turn)
                     keeper.rule = asked
@@ -707,7 +905,10 @@ def test_a_service_that_stands_still():
 
 def opened_in(new):
     """Another writer, in a generation that no keeper has told of yet."""
-    keys = {what: token_of(bytes.fromhex(TOKENS[number]), new.keeper.name, new.run).hex() for what, number in (("token", 2), ("optoken", 1))}
+    keys = {
+        what: token_of(bytes.fromhex(TOKENS[number]), new.keeper.name, new.run).hex()
+        for what, number in (("token", 2), ("optoken", 1))
+    }
     return connect(new.service.address, **keys)
 
 
@@ -732,7 +933,11 @@ def test_another_writer_has_gone_on():
         same("then", (wanted, wanted), (rows(connection), rows(beside)))
         same("once", 1, numbers(connection, "losses")[0])
         fill(connection, 1, first=200)
-        same("and goes on", ("ok", [*wanted, 200]), (one(connection, "pragma integrity_check"), rows(named(keeper, 3, mode="ro"))))
+        same(
+            "and goes on",
+            ("ok", [*wanted, 200]),
+            (one(connection, "pragma integrity_check"), rows(named(keeper, 3, mode="ro"))),
+        )
 
 
 def test_a_reader_of_what_was_lost_where_a_position_comes_again():
@@ -748,7 +953,11 @@ def test_a_reader_of_what_was_lost_where_a_position_comes_again():
             same("before", [0, 1, 2, 10], rows(reading))
             connection.close()
             keeper.die(lost=1, others=overtaking)
-            same("then", ([0, 1, 2, 100], "ok"), (rows(reading), one(reading, "pragma integrity_check")))
+            same(
+                "then",
+                ([0, 1, 2, 100], "ok"),
+                (rows(reading), one(reading, "pragma integrity_check")),
+            )
 
 
 def test_a_reader_of_what_has_failed_and_came_otherwise():
@@ -793,7 +1002,11 @@ def test_what_another_has_left_is_sent_again():
         fill(connection, 1, first=20)
         gone.close()
         keeper.die(lost=21)
-        same("all of it", (list(range(21)), "ok"), (rows(connection), one(connection, "pragma integrity_check")))
+        same(
+            "all of it",
+            (list(range(21)), "ok"),
+            (rows(connection), one(connection, "pragma integrity_check")),
+        )
         same("sent again, and nothing lost", (21, 0), numbers(connection, "resent", "losses"))
 
 
@@ -810,7 +1023,11 @@ def test_a_move_that_is_cut_off():
         keeper.rule = lambda frame: frame if frame[33] == wire.STATUS else None
         same("told", "SQLITE_IOERR", code_of(lambda: rows(reading)))
         keeper.rule = None
-        same("then", ([0, 1, 2, 100, 101], "ok"), (rows(reading), one(reading, "pragma integrity_check")))
+        same(
+            "then",
+            ([0, 1, 2, 100, 101], "ok"),
+            (rows(reading), one(reading, "pragma integrity_check")),
+        )
 
 
 def at_the_takeover(keeper, event):
@@ -833,10 +1050,18 @@ def test_another_writes_before_blocks_are_sent_again():
             connection.execute("create table t(a, b)")
             connection.execute("pragma synchronous = normal")
             fill(connection, 4)
-            keeper.die(lost=2, others=lambda new: None if is_later else others.append(opened_in(new)))
-            keeper.rule = at_the_takeover(keeper, lambda: fill(others[0] if others else opened_in(keeper.now), 1, first=100))
+            keeper.die(
+                lost=2, others=lambda new: None if is_later else others.append(opened_in(new))
+            )
+            keeper.rule = at_the_takeover(
+                keeper, lambda: fill(others[0] if others else opened_in(keeper.now), 1, first=100)
+            )
             same("told", "SQLITE_IOERR_FSYNC", code_of(lambda: rows(connection)))
-            same("then", ([0, 1, 100], "ok"), (rows(connection), one(connection, "pragma integrity_check")))
+            same(
+                "then",
+                ([0, 1, 100], "ok"),
+                (rows(connection), one(connection, "pragma integrity_check")),
+            )
 
 
 def epoch_of(keeper):
@@ -854,18 +1079,32 @@ def test_a_writer_that_is_behind():
         same("before", [0], rows(behind))
         fill(connection, 1, first=1)
         epoch = epoch_of(keeper)
-        true("it is behind", code_of(lambda: fill(behind, 1, first=2)) in ("SQLITE_BUSY", "SQLITE_BUSY_SNAPSHOT"))
+        true(
+            "it is behind",
+            code_of(lambda: fill(behind, 1, first=2)) in ("SQLITE_BUSY", "SQLITE_BUSY_SNAPSHOT"),
+        )
         behind.execute("rollback")
         same("it has fenced nobody", epoch, epoch_of(keeper))
         fill(connection, 1, first=2)
         same("nor has the writer to begin another epoch", epoch, epoch_of(keeper))
-        behind = named(keeper, 5)  # who was refused the turn has it before it reads, and is not behind
+        behind = named(
+            keeper, 5
+        )  # who was refused the turn has it before it reads, and is not behind
         behind.execute("begin")
         same("before", [0, 1, 2], rows(behind))
-        keeper.rule = at_the_takeover(keeper, lambda: fill(opened_in(keeper.now), 1, first=3))  # who asks for no turn
-        true("it is behind", code_of(lambda: fill(behind, 1, first=4)) in ("SQLITE_BUSY", "SQLITE_BUSY_SNAPSHOT"))
+        keeper.rule = at_the_takeover(
+            keeper, lambda: fill(opened_in(keeper.now), 1, first=3)
+        )  # who asks for no turn
+        true(
+            "it is behind",
+            code_of(lambda: fill(behind, 1, first=4)) in ("SQLITE_BUSY", "SQLITE_BUSY_SNAPSHOT"),
+        )
         behind.execute("rollback")
-        same("all of it", ([0, 1, 2, 3], "ok"), (rows(named(keeper, 3, mode="ro")), one(behind, "pragma integrity_check")))
+        same(
+            "all of it",
+            ([0, 1, 2, 3], "ok"),
+            (rows(named(keeper, 3, mode="ro")), one(behind, "pragma integrity_check")),
+        )
 
 
 def test_a_commit_that_is_overtaken():
@@ -880,7 +1119,11 @@ def test_a_commit_that_is_overtaken():
         keeper.rule = Before(1, lambda: keeper.die(others=overtaking))
         same("told", "SQLITE_BUSY_SNAPSHOT", code_of(lambda: connection.execute("commit")))
         same("it is over", False, connection.in_transaction)
-        same("nothing of it is there", ([0, 1, 2, 100], "ok"), (rows(connection), one(connection, "pragma integrity_check")))
+        same(
+            "nothing of it is there",
+            ([0, 1, 2, 100], "ok"),
+            (rows(connection), one(connection, "pragma integrity_check")),
+        )
         fill(connection, 1, first=200)
         same("and goes on", [0, 1, 2, 100, 200], rows(named(keeper, 3, mode="ro")))
 
@@ -895,7 +1138,11 @@ def test_a_commit_that_asks_for_pages_and_is_overtaken():
         connection.execute("update t set b = b || 'x'")
         happens_at(keeper, wire.GET, 1, lambda keeper: keeper.die(others=overtaking))
         same("told", "SQLITE_BUSY_SNAPSHOT", code_of(lambda: connection.execute("commit")))
-        same("nothing of it is there", ([*range(60), 100], 0), (rows(connection), one(connection, "select count(*) from t where b like '%x'")))
+        same(
+            "nothing of it is there",
+            ([*range(60), 100], 0),
+            (rows(connection), one(connection, "select count(*) from t where b like '%x'")),
+        )
         same("whole", "ok", one(connection, "pragma integrity_check"))
 
 
@@ -928,7 +1175,11 @@ def test_a_commit_that_was_sent_again_and_is_in_doubt():
         keeper.rule = is_sent
         same("told", "SQLITE_IOERR_FSYNC", code_of(lambda: fill(connection, 1, first=10)))
         keeper.is_published, keeper.rule = True, None
-        same("it is there", ([0, 1, 2, 10], "ok"), (rows(connection), one(connection, "pragma integrity_check")))
+        same(
+            "it is there",
+            ([0, 1, 2, 10], "ok"),
+            (rows(connection), one(connection, "pragma integrity_check")),
+        )
 
 
 def test_full_is_told_what_was_lost():
@@ -947,7 +1198,11 @@ def test_full_is_told_what_was_lost():
         keeper.is_archiving = True
         thread.join()
         same("told", ["SQLITE_IOERR_FSYNC"], told)
-        same("not there", ([100], "ok"), (rows(connection), one(connection, "pragma integrity_check")))
+        same(
+            "not there",
+            ([100], "ok"),
+            (rows(connection), one(connection, "pragma integrity_check")),
+        )
 
 
 def test_a_wait_for_the_archive_goes_on_from_a_move_that_was_cut_off():
@@ -957,7 +1212,12 @@ def test_a_wait_for_the_archive_goes_on_from_a_move_that_was_cut_off():
         connection.execute("create table t(a, b)")
         fill(connection, 40, size=4000)
         beside.execute("pragma cache_size = 2")
-        durable, told, has_come, may_answer = keeper.durable, [], threading.Event(), threading.Event()
+        durable, told, has_come, may_answer = (
+            keeper.durable,
+            [],
+            threading.Event(),
+            threading.Event(),
+        )
 
         def held(*words):
             keeper.durable = durable  # of all questions the first
@@ -966,10 +1226,14 @@ def test_a_wait_for_the_archive_goes_on_from_a_move_that_was_cut_off():
                 keeper.changed.wait(0.02)
             return durable(*words)
 
-        new = keeper.next(images=False)  # before, as no answer is waited for longer than three seconds
+        new = keeper.next(
+            images=False
+        )  # before, as no answer is waited for longer than three seconds
         overtaking(new)
         keeper.durable = held
-        thread = threading.Thread(target=lambda: told.append(code_of(lambda: fill(connection, 1, first=40))), daemon=True)
+        thread = threading.Thread(
+            target=lambda: told.append(code_of(lambda: fill(connection, 1, first=40))), daemon=True
+        )
         thread.start()
         true("it is in the log", has_come.wait(60))
         keeper.now.end()
@@ -981,7 +1245,11 @@ def test_a_wait_for_the_archive_goes_on_from_a_move_that_was_cut_off():
         may_answer.set()
         thread.join(60)
         same("told", ["SQLITE_IOERR_FSYNC"], told)
-        same("then", ([*range(40), 100], "ok"), (rows(connection), one(connection, "pragma integrity_check")))
+        same(
+            "then",
+            ([*range(40), 100], "ok"),
+            (rows(connection), one(connection, "pragma integrity_check")),
+        )
 
 
 def test_a_wait_for_the_archive_asks_more_and_more_seldom():
@@ -1023,7 +1291,11 @@ def test_a_generation_that_is_closed_for_a_while():
             thread.start()
             fill(each, 1, first=number)
             thread.join()
-        same("all of it", ([0, 1, 2], "ok"), (rows(connection), one(connection, "pragma integrity_check")))
+        same(
+            "all of it",
+            ([0, 1, 2], "ok"),
+            (rows(connection), one(connection, "pragma integrity_check")),
+        )
 
 
 def happens_at(keeper, operation, number, event):
@@ -1053,7 +1325,11 @@ def test_commits_on_their_way():
                 happens_at(keeper, wire.REPORT, number, event)
                 fill(connection, 20, first=5)
                 connection.execute("pragma pagelog_async_commits = 0")
-                same(f"{name}, report {number}", (list(range(25)), "ok"), (rows(connection), one(connection, "pragma integrity_check")))
+                same(
+                    f"{name}, report {number}",
+                    (list(range(25)), "ok"),
+                    (rows(connection), one(connection, "pragma integrity_check")),
+                )
                 same("losses", 0, numbers(connection, "losses")[0])
                 same("others see it", list(range(25)), rows(named(keeper, 3, mode="ro")))
 
@@ -1068,9 +1344,15 @@ def test_commits_on_their_way_when_a_keeper_says_that_their_generation_is_over()
         connection.execute("pragma synchronous = off")
         fill(connection, 3, first=1)
         same("on their way", (3,), numbers(connection, "on_their_way"))
-        until(lambda: len(keeper.now.blocks(0)) == numbers(connection, "position")[0], "they are in the log")
+        until(
+            lambda: len(keeper.now.blocks(0)) == numbers(connection, "position")[0],
+            "they are in the log",
+        )
         keeper.succeed()
-        until(lambda: rows(connection) and numbers(connection, "generation") == (2,), "a keeper is asked once a second")
+        until(
+            lambda: rows(connection) and numbers(connection, "generation") == (2,),
+            "a keeper is asked once a second",
+        )
         fill(connection, 1, first=4)
         connection.execute("pragma pagelog_async_commits = 0")
         same("all of it", (list(range(5)), (0,)), (rows(connection), numbers(connection, "losses")))
@@ -1086,13 +1368,25 @@ def test_a_repair_of_many_blocks():
             before = gone.execute("select sum(a), group_concat(b) from t").fetchone()
             gone.execute("begin immediate")
             gone.execute("update t set b = hex(randomblob(65536))")
-            happens_at(keeper, wire.WRITE, 300, lambda keeper: setattr(keeper, "rule", lambda frame: None))
+            happens_at(
+                keeper, wire.WRITE, 300, lambda keeper: setattr(keeper, "rule", lambda frame: None)
+            )
             code_of(lambda: gone.execute("commit"))
             keeper.rule = None
             happens_at(keeper, wire.WRITE, 100, event)
             fill(connection, 1, first=1000)
-            same(f"{name}: a repair", (1, 1 + (keeper.now.number > 1)), (*numbers(connection, "repairs"), keeper.now.number))
-            same("nothing of it is there", before, connection.execute("select sum(a), group_concat(b) from t where a < 1000").fetchone())
+            same(
+                f"{name}: a repair",
+                (1, 1 + (keeper.now.number > 1)),
+                (*numbers(connection, "repairs"), keeper.now.number),
+            )
+            same(
+                "nothing of it is there",
+                before,
+                connection.execute(
+                    "select sum(a), group_concat(b) from t where a < 1000"
+                ).fetchone(),
+            )
             same("whole", "ok", one(connection, "pragma integrity_check"))
 
 
@@ -1107,7 +1401,11 @@ def test_a_transaction_of_many_blocks():
             happens_at(keeper, wire.WRITE, 150, event)  # amid the second 64 blocks, of two copies
             connection.execute("commit")
             true("there was an event", keeper.now.number > 1)
-            same(name, (list(range(90)), "ok"), (rows(connection), one(connection, "pragma integrity_check")))
+            same(
+                name,
+                (list(range(90)), "ok"),
+                (rows(connection), one(connection, "pragma integrity_check")),
+            )
 
 
 def test_a_reader_leaves_a_generation_that_is_over():
@@ -1164,11 +1462,26 @@ def test_a_commit_to_two_named_databases():
                         for each in happens_to if number == 1 else ():
                             event(keepers[each])
                         connection.execute("commit")
-                counts = [one(connection, f"select count(*) from {table}") for table in ("t", "stock.u")]
+                counts = [
+                    one(connection, f"select count(*) from {table}") for table in ("t", "stock.u")
+                ]
                 same(f"{name} to {happens_to}", [6, 6], counts)
-                same("whole", ["ok", "ok"], [one(connection, f"pragma {which}.integrity_check") for which in ("main", "stock")])
-                same("others see it", [6, 6], [len(rows(named(one_keeper, 3, mode="ro"))),
-                                               one(named(other, 3, mode="ro"), "select count(*) from u")])
+                same(
+                    "whole",
+                    ["ok", "ok"],
+                    [
+                        one(connection, f"pragma {which}.integrity_check")
+                        for which in ("main", "stock")
+                    ],
+                )
+                same(
+                    "others see it",
+                    [6, 6],
+                    [
+                        len(rows(named(one_keeper, 3, mode="ro"))),
+                        one(named(other, 3, mode="ro"), "select count(*) from u"),
+                    ],
+                )
                 connection.close()
 
 
@@ -1183,7 +1496,11 @@ def test_a_writer_that_keeps_the_lock():
             fill(connection, 3)
             event(keeper)
             fill(connection, 3, first=3)
-            same(name, (list(range(6)), "ok"), (rows(connection), one(connection, "pragma integrity_check")))
+            same(
+                name,
+                (list(range(6)), "ok"),
+                (rows(connection), one(connection, "pragma integrity_check")),
+            )
             same("others see it", list(range(6)), rows(named(keeper, 3, mode="ro")))
     with StubKeeper() as keeper:
         connection = named(keeper)
@@ -1195,7 +1512,11 @@ def test_a_writer_that_keeps_the_lock():
         same("told", "SQLITE_IOERR_FSYNC", code_of(lambda: fill(connection, 1, first=9)))
         connection.execute("pragma locking_mode = normal")
         code_of(lambda: rows(connection))
-        same("then", ([0, 1, 100], "ok"), (rows(connection), one(connection, "pragma integrity_check")))
+        same(
+            "then",
+            ([0, 1, 100], "ok"),
+            (rows(connection), one(connection, "pragma integrity_check")),
+        )
         fill(connection, 1, first=9)
         same("others see it", [0, 1, 9, 100], rows(named(keeper, 3, mode="ro")))
 
@@ -1211,7 +1532,11 @@ def test_a_writer_holds_so_much_and_no_more():
         fill(connection, 20, size=1 << 20, first=1)
         true("sixteen MiB", numbers(connection, "durable")[0] > 1)
         keeper.die(lost=20)
-        same("the rest was sent again", (list(range(21)), 0), (rows(connection), numbers(connection, "losses")[0]))
+        same(
+            "the rest was sent again",
+            (list(range(21)), 0),
+            (rows(connection), numbers(connection, "losses")[0]),
+        )
 
 
 def test_what_is_durable_is_not_lost():
@@ -1237,14 +1562,20 @@ def test_a_commit_that_finds_no_room_is_not_done():
         keeper.is_archiving = False
         fill(connection, 62, size=1 << 18)
         number = 62
-        while (code := code_of(lambda: fill(connection, 1, size=6000, first=number))) is None and number < 300:
+        while (
+            code := code_of(lambda: fill(connection, 1, size=6000, first=number))
+        ) is None and number < 300:
             number += 1
             same("all of it", number, one(connection, "select count(*) from t"))
         same("told", "SQLITE_IOERR", code)
         same("it is not there", number, one(connection, "select count(*) from t"))
         keeper.is_archiving = True
         fill(connection, 1, size=6000, first=number)
-        same("all of it", ([*range(number + 1)], "ok"), (rows(named(keeper, 3, mode="ro")), one(connection, "pragma integrity_check")))
+        same(
+            "all of it",
+            ([*range(number + 1)], "ok"),
+            (rows(named(keeper, 3, mode="ro")), one(connection, "pragma integrity_check")),
+        )
 
 
 def test_a_writer_waits_for_a_part_of_what_it_holds():
@@ -1300,9 +1631,19 @@ def asks_after_a_takeover(keeper):
 
     handler = ctypes.CFUNCTYPE(ctypes.c_int, ctypes.c_void_p, ctypes.c_int)(sleep)
     done = lambda text: same(text, 0, library.sqlite3_exec(handle, text.encode(), None, None, None))
-    same("open", 0, library.sqlite3_open_v2(uri_of(keeper.address, "shop", 2).encode(), ctypes.byref(handle), 0x46, None))
+    same(
+        "open",
+        0,
+        library.sqlite3_open_v2(
+            uri_of(keeper.address, "shop", 2).encode(), ctypes.byref(handle), 0x46, None
+        ),
+    )
     library.sqlite3_busy_handler(handle, handler, None)
-    for text in ["create table if not exists t(a, b)", "pragma synchronous = normal", *["insert into t values (1, 1)"] * 640]:
+    for text in [
+        "create table if not exists t(a, b)",
+        "pragma synchronous = normal",
+        *["insert into t values (1, 1)"] * 640,
+    ]:
         done(text)
     thread = threading.Thread(target=done, args=("insert into t values (2, 2)",))
     keeper.die(lost=640, others=publish)
@@ -1328,7 +1669,11 @@ def test_a_wait_for_the_archive_ends():
         connection.execute("create table t(a, b)")
         keeper.is_archiving = False
         same("told", "SQLITE_IOERR_FSYNC", code_of(lambda: fill(connection, 1)))
-        same("it is there", ([0], "ok"), (rows(connection), one(connection, "pragma integrity_check")))
+        same(
+            "it is there",
+            ([0], "ok"),
+            (rows(connection), one(connection, "pragma integrity_check")),
+        )
         keeper.is_archiving = True
         fill(connection, 1, first=1)
         same("and durable", 0, int.__sub__(*numbers(connection, "position", "durable")))
@@ -1350,13 +1695,26 @@ def test_a_fork_leaves_the_keepers_alone():
         connection = named(keeper)
         connection.execute("create table t(a, b)")
         fill(connection, 2)
-        in_child(lambda: (same("refused", "SQLITE_MISUSE", code_of(lambda: rows(connection))), connection.close(),
-                          fill(named(keeper), 2, first=10)))
+        in_child(
+            lambda: (
+                same("refused", "SQLITE_MISUSE", code_of(lambda: rows(connection))),
+                connection.close(),
+                fill(named(keeper), 2, first=10),
+            )
+        )
         same("both", [0, 1, 10, 11], rows(connection))
         fill(connection, 1, first=2)
         same("a writer again", [0, 1, 2, 10, 11], rows(connection))
 
 
 if __name__ == "__main__":
-    run("generations", dict(globals()), ("test_an_event_before_each_request_of_a_writer", "test_an_event_before_each_request_of_an_open",
-                                          "test_a_repair_of_many_blocks", "test_a_busy_handler_is_asked_only_where_nothing_comes"))
+    run(
+        "generations",
+        dict(globals()),
+        (
+            "test_an_event_before_each_request_of_a_writer",
+            "test_an_event_before_each_request_of_an_open",
+            "test_a_repair_of_many_blocks",
+            "test_a_busy_handler_is_asked_only_where_nothing_comes",
+        ),
+    )

@@ -22,7 +22,7 @@
 #include <sys/socket.h>
 #include <unistd.h>
 
-enum { ROOM = 1 << 17, CALLS = 9 };
+enum { ROOM = 1 << 17, CALLS = 10 };
 
 struct server {
     int listener;
@@ -248,12 +248,18 @@ static void use_file(const struct pagelog_options *service, uint64_t *state) {
     free(bytes);
 }
 
+static void take_page(void *argument, uint64_t lsn, uint32_t page, const uint8_t *bytes) {
+    (void)lsn, (void)page;
+    memcpy(argument, bytes, PAGELOG_PAGE_BYTES);
+}
+
 static void make_call(struct pagelog *log, const struct pagelog_options *options, uint64_t *state) {
     struct pagelog_reply reply;
     struct pagelog_audit_line line;
     struct pagelog_request audit = {.role = PAGELOG_OPERATOR, .operation = PAGELOG_AUDIT, .lsn = 1, .max = 3};
     const uint32_t pages[3] = {1, 2, 70000};
-    static uint8_t out[3 * PAGELOG_PAGE_BYTES];
+    static uint8_t out[3 * PAGELOG_PAGE_BYTES], taken[PAGELOG_PAGE_BYTES];
+    pagelog_set_taker(log, take_page, taken);
     if (below(state, 2)) pagelog_tidy_up(log, 1, below(state, 2) ? options->token : NULL);
     switch (below(state, CALLS)) {
     case 0:
@@ -287,6 +293,9 @@ static void make_call(struct pagelog *log, const struct pagelog_options *options
         break;
     case 7:
         use_file(options, state);
+        break;
+    case 8:
+        pagelog_get_ahead(log, PAGELOG_SECONDARY, below(state, 20), pages, 1 + below(state, 3), out);
         break;
     default:
         if (pagelog_send(log, &audit) == PAGELOG_DONE && pagelog_receive(log, &reply) == PAGELOG_DONE)

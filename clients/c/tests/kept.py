@@ -36,13 +36,31 @@ class Client:
         path = keeping.folder / f"{database}.client{number}"
         environment = {**os.environ, "PYTHONDONTWRITEBYTECODE": "1"}
         addresses = ",".join(keeping.addresses)
-        words = [sys.executable, "-B", str(HERE / "kept_client.py"), kind, addresses, database, str(principal), level, *more]
+        words = [
+            sys.executable,
+            "-B",
+            str(HERE / "kept_client.py"),
+            kind,
+            addresses,
+            database,
+            str(principal),
+            level,
+            *more,
+        ]
         if kind == "teller":
-            uri = (f"file:test?where={addresses}&name={database}&id={principal}&token={str(principal) * 32}&op=1&optoken={'1' * 32}"
-                   "&check=50&move=300000")
+            uri = (
+                f"file:test?where={addresses}&name={database}&id={principal}&token={str(principal) * 32}&op=1&optoken={'1' * 32}"
+                "&check=50&move=300000"
+            )
             words = [str(HERE.parent / "out" / "teller"), uri, level]
-        self.process = subprocess.Popen(words, stdin=subprocess.PIPE, stdout=path.open("w"), stderr=subprocess.STDOUT, text=True,
-                                        env=environment)
+        self.process = subprocess.Popen(
+            words,
+            stdin=subprocess.PIPE,
+            stdout=path.open("w"),
+            stderr=subprocess.STDOUT,
+            text=True,
+            env=environment,
+        )
         self.file, self.rest = path.open(), ""
 
     def read_on(self):
@@ -52,7 +70,9 @@ class Client:
             try:
                 self.lines.append(json.loads(line))
             except ValueError:
-                raise AssertionError(f"{self.kind} {self.level}: {line} {self.rest} {self.file.read()[:2000]}") from None
+                raise AssertionError(
+                    f"{self.kind} {self.level}: {line} {self.rest} {self.file.read()[:2000]}"
+                ) from None
         return self.lines
 
     def ask(self):
@@ -70,7 +90,9 @@ class Client:
         except BrokenPipeError:
             pass
         self.process.wait(PATIENCE)
-        assert self.process.returncode == 0, f"{self.kind} {self.level}: {self.process.returncode} {self.read_on()[-3:]} {self.rest}"
+        assert (
+            self.process.returncode == 0
+        ), f"{self.kind} {self.level}: {self.process.returncode} {self.read_on()[-3:]} {self.rest}"
         return self.read_on()
 
     def done(self):
@@ -88,8 +110,14 @@ class Database:
     def begin(self, writers, readers, *more):
         self.keeping.place(self.name)
         Client(self.keeping, self.name, 0, "prepare", 2, self.level).end()
-        self.writers = [Client(self.keeping, self.name, 1 + number, kind, 2, self.level) for number, kind in enumerate(writers)]
-        self.readers = [Client(self.keeping, self.name, 10 + number, "read", 3, what, *more) for number, what in enumerate(readers)]
+        self.writers = [
+            Client(self.keeping, self.name, 1 + number, kind, 2, self.level)
+            for number, kind in enumerate(writers)
+        ]
+        self.readers = [
+            Client(self.keeping, self.name, 10 + number, "read", 3, what, *more)
+            for number, what in enumerate(readers)
+        ]
 
     def done(self):
         return sum(writer.done() for writer in self.writers)
@@ -118,18 +146,24 @@ class Database:
         found = {line["number"]: line["hash"] for line in last.end() if "number" in line}
         lost, excused = [], 0
         for each in ended:
-            losses = [at for at, line in enumerate(each) if line.get("told") in LOSSES and self.level == "normal" and len(ended) > 1]
+            losses = [
+                at
+                for at, line in enumerate(each)
+                if line.get("told") in LOSSES and self.level == "normal" and len(ended) > 1
+            ]
             for at, line in enumerate(each):
                 if "done" in line and found.get(line["done"]) != line["hash"]:
                     excused += bool(losses and at < losses[-1])
                     lost += [] if losses and at < losses[-1] else [line["done"]]
         count = sum("done" in line for line in lines)
         ends = [line for line in lines if "end" in line]
-        print(f"kept: {self.name}, {self.level}: {count} acknowledged, {len(lost)} lost {lost[:5]}, {excused} more of which it was told, told {dict(told)}; the longest "
-              f"statement {max(end['longest'] for end in ends):.2f} s, {sum(end['moves'] for end in ends)} moves, "
-              f"{sum(end['resent'] for end in ends)} blocks sent again; "
-              f"{sum(look['looks'] for look in looks)} looks, {sum(look['wholes'] for look in looks)} of all of it, "
-              f"{sum(look['backwards'] for look in looks)} went back, told {dict(sum((Counter(look['told']) for look in looks), Counter()))}")
+        print(
+            f"kept: {self.name}, {self.level}: {count} acknowledged, {len(lost)} lost {lost[:5]}, {excused} more of which it was told, told {dict(told)}; the longest "
+            f"statement {max(end['longest'] for end in ends):.2f} s, {sum(end['moves'] for end in ends)} moves, "
+            f"{sum(end['resent'] for end in ends)} blocks sent again; "
+            f"{sum(look['looks'] for look in looks)} looks, {sum(look['wholes'] for look in looks)} of all of it, "
+            f"{sum(look['backwards'] for look in looks)} went back, told {dict(sum((Counter(look['told']) for look in looks), Counter()))}"
+        )
         for line in {line["told"]: line for line in reversed(lines) if "told" in line}.values():
             print("kept:   ", line)  # the first of each kind
         return count, len(lost)
@@ -137,7 +171,13 @@ class Database:
 
 class Torture:
     def __init__(self, seconds, level, seed, databases, until):
-        self.seconds, self.chance, self.level, self.count, self.until = seconds, random.Random(seed), level, databases, until
+        self.seconds, self.chance, self.level, self.count, self.until = (
+            seconds,
+            random.Random(seed),
+            level,
+            databases,
+            until,
+        )
         self.keeping = Keeping(ttl=1.5, more="unproved = false\n")
         self.happened = Counter()
 
@@ -189,24 +229,44 @@ class Torture:
         postgres().start()
 
     def happens(self, databases):
-        events = [self.kill_service, self.kill_service, self.switch_over, self.switch_over, self.succeed, self.succeed, self.succeed,
-                  self.stop_service, self.kill_keeper, self.stop_keeper, self.stop_both, self.restart_postgresql]
+        events = [
+            self.kill_service,
+            self.kill_service,
+            self.switch_over,
+            self.switch_over,
+            self.succeed,
+            self.succeed,
+            self.succeed,
+            self.stop_service,
+            self.kill_keeper,
+            self.stop_keeper,
+            self.stop_both,
+            self.restart_postgresql,
+        ]
         began = shown = time.monotonic()
-        while time.monotonic() < began + self.seconds and all(writer.process.poll() is None for each in databases for writer in each.writers):
+        while time.monotonic() < began + self.seconds and all(
+            writer.process.poll() is None for each in databases for writer in each.writers
+        ):
             time.sleep(self.chance.uniform(0.5, 4.0))
             event, database = self.chance.choice(events), self.chance.choice(databases)
             self.happened[event.__name__] += 1
             try:
                 event(database)
             except AssertionError:
-                if event not in (self.switch_over, self.succeed):  # they wait for nobody, and PostgreSQL may be away
+                if event not in (
+                    self.switch_over,
+                    self.succeed,
+                ):  # they wait for nobody, and PostgreSQL may be away
                     raise
                 self.happened[f"{event.__name__} refused"] += 1
             database.ask()
             done = sum(each.done() for each in databases)
             if time.monotonic() > shown + SHOWN_EACH:
                 shown = time.monotonic()
-                print(f"kept: after {shown - began:.0f} s {done} acknowledged, {sum(self.happened.values())} events", flush=True)
+                print(
+                    f"kept: after {shown - began:.0f} s {done} acknowledged, {sum(self.happened.values())} events",
+                    flush=True,
+                )
             if self.until and done >= self.until:
                 break
 
@@ -220,7 +280,11 @@ class Torture:
                 if self.count == 1:
                     database.begin(("write", "teller"), ("plain", "plain", "durable", "plain"))
                 else:
-                    database.begin(("write", "teller") if number == 0 else ("teller",), ("plain", "durable"), "many")
+                    database.begin(
+                        ("write", "teller") if number == 0 else ("teller",),
+                        ("plain", "durable"),
+                        "many",
+                    )
             try:
                 self.happens(databases)
                 ends = [database.compare() for database in databases]
@@ -228,7 +292,9 @@ class Torture:
                 print(keeping.said()[-8000:])
                 raise
             print(f"kept: {dict(self.happened)}")
-            print(f"kept: {self.level}: {sum(done for done, _ in ends)} acknowledged, {sum(lost for _, lost in ends)} lost, load {os.getloadavg()[0]:.0f}")
+            print(
+                f"kept: {self.level}: {sum(done for done, _ in ends)} acknowledged, {sum(lost for _, lost in ends)} lost, load {os.getloadavg()[0]:.0f}"
+            )
             assert not any(lost for _, lost in ends), "acknowledged transactions are lost"
 
 

@@ -53,7 +53,9 @@ def prepare(connection):
     connection.execute("create table if not exists ledger(number integer primary key, text, hash)")
     if one(connection, "select count(*) from account") == 0:
         for number in range(ACCOUNTS):
-            connection.execute("insert into account values (?, ?)", (number, TOTAL // ACCOUNTS // 2))
+            connection.execute(
+                "insert into account values (?, ?)", (number, TOTAL // ACCOUNTS // 2)
+            )
             connection.execute("insert into saving values (?, ?)", (number, TOTAL // ACCOUNTS // 2))
     connection.execute("commit")
 
@@ -63,9 +65,18 @@ def transfer(execute, number, chance):
     execute("begin immediate")
     for _ in range(chance.choice((1, 1, 1, 1, 5, 40))):
         amount, one_side, other = chance.randrange(1, 100), *chance.sample(("account", "saving"), 2)
-        execute(f"update {one_side} set money = money - ? where id = ?", amount, chance.randrange(ACCOUNTS))
-        execute(f"update {other} set money = money + ? where id = ?", amount, chance.randrange(ACCOUNTS))
-    last = execute("select number, hash from ledger order by number desc limit 1").fetchone() or (0, "")
+        execute(
+            f"update {one_side} set money = money - ? where id = ?",
+            amount,
+            chance.randrange(ACCOUNTS),
+        )
+        execute(
+            f"update {other} set money = money + ? where id = ?", amount, chance.randrange(ACCOUNTS)
+        )
+    last = execute("select number, hash from ledger order by number desc limit 1").fetchone() or (
+        0,
+        "",
+    )
     text = f"{number} " + "." * chance.choice((10, 10, 10, 200, 3000))
     execute("insert into ledger values (?, ?, ?)", last[0] + 1, text, hash_of(last[1], text))
     execute("commit")
@@ -86,7 +97,10 @@ def write(connection, seed, level):
             number, text = transfer(execute, count, chance)
             say(done=number, hash=hash_of("", text))
         except sqlite3.Error as error:
-            say(told=getattr(error, "sqlite_errorname", str(error)), why=one(connection, "pragma pagelog_error"))
+            say(
+                told=getattr(error, "sqlite_errorname", str(error)),
+                why=one(connection, "pragma pagelog_error"),
+            )
             if connection.in_transaction:
                 code_of(lambda: connection.execute("rollback"))
             is_last = False
@@ -98,15 +112,24 @@ def look(connection, is_whole):
     """What a transaction sees: how far the ledger goes. The invariants hold."""
     connection.execute("begin")
     try:
-        money = one(connection, "select (select sum(money) from account) + (select sum(money) from saving)")
-        rows = connection.execute("select number, text, hash from ledger order by number desc limit ?", (-1 if is_whole else 30,)).fetchall()
+        money = one(
+            connection, "select (select sum(money) from account) + (select sum(money) from saving)"
+        )
+        rows = connection.execute(
+            "select number, text, hash from ledger order by number desc limit ?",
+            (-1 if is_whole else 30,),
+        ).fetchall()
         rows.reverse()
         if money != TOTAL:
             sys.exit(f"torn: {money} in all")
         for before, row in zip(rows, rows[1:]):
             if row[0] != before[0] + 1 or row[2] != hash_of(before[2], row[1]):
                 sys.exit(f"torn: row {row[0]} of the ledger")
-        if is_whole and (found := one(connection, "pragma integrity_check")) != "ok" and "unable to get the page" not in found:
+        if (
+            is_whole
+            and (found := one(connection, "pragma integrity_check")) != "ok"
+            and "unable to get the page" not in found
+        ):
             sys.exit(f"torn: {found}")
         return rows[-1][0] if rows else 0
     finally:
@@ -139,7 +162,10 @@ def read(connection, is_durable, is_alone):
 def ledger(connection, least):
     """A durable reader may see what was acknowledged a look later. What it does not see in a minute is lost."""
     until = time.monotonic() + 60
-    while one(connection, "select coalesce(max(number), 0) from ledger") < least and time.monotonic() < until:
+    while (
+        one(connection, "select coalesce(max(number), 0) from ledger") < least
+        and time.monotonic() < until
+    ):
         time.sleep(0.05)
     for number, text in connection.execute("select number, text from ledger order by number"):
         say(number=number, hash=hash_of("", text))
@@ -157,11 +183,15 @@ if __name__ == "__main__":
         if kind == "write":
             write(connection, int(principal), level)
     else:
-        connection = sqlite_of(keepers, name, int(principal), mode="ro", durable=1 if level == "durable" else 0, **more)
+        connection = sqlite_of(
+            keepers, name, int(principal), mode="ro", durable=1 if level == "durable" else 0, **more
+        )
         connection.execute("pragma cache_size = 20")
         if kind == "ledger":
             ledger(connection, int(many[0]))
             sys.exit()
-        while not is_over.is_set() and code_of(lambda: one(connection, "select count(*) from ledger")):
+        while not is_over.is_set() and code_of(
+            lambda: one(connection, "select count(*) from ledger")
+        ):
             time.sleep(0.05)
         read(connection, level == "durable", not many)

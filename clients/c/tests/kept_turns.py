@@ -73,8 +73,14 @@ class Faults:
         events = [self.die, self.succeed, self.switch_over, self.take_over]
         while not is_over():
             event = events[self.happened.total() % len(events)]
-            generation, archived = self.keeping.place(NAME).generation, self.keeping.row(NAME).archived
-            while not is_over() and not (self.keeping.row(NAME).archived >= archived + BETWEEN and self.keeping.standbys(NAME)):
+            generation, archived = (
+                self.keeping.place(NAME).generation,
+                self.keeping.row(NAME).archived,
+            )
+            while not is_over() and not (
+                self.keeping.row(NAME).archived >= archived + BETWEEN
+                and self.keeping.standbys(NAME)
+            ):
                 time.sleep(0.01)
             if is_over():
                 return
@@ -107,10 +113,16 @@ def look(keeping, what, said, requests, took):
     addresses, count = ",".join(keeping.addresses), len(said)
     errors = [each for each in said if isinstance(each, str)]
     reader = sqlite_of(addresses, NAME, 3, mode="ro")
-    visits, rows = one(reader, "select visits from counter"), one(reader, "select count(*) from visit")
-    print(f"turns: {what}: {count} processes, {requests} requests each: {count * requests / took:.0f} a second, errors {errors}, "
-          f"{visits} visits, {rows} rows, {one(reader, 'pragma integrity_check')}")
-    assert not errors and (visits, rows) == (count * requests, count * requests), keeping.said()[-3000:]
+    visits, rows = one(reader, "select visits from counter"), one(
+        reader, "select count(*) from visit"
+    )
+    print(
+        f"turns: {what}: {count} processes, {requests} requests each: {count * requests / took:.0f} a second, errors {errors}, "
+        f"{visits} visits, {rows} rows, {one(reader, 'pragma integrity_check')}"
+    )
+    assert not errors and (visits, rows) == (count * requests, count * requests), keeping.said()[
+        -3000:
+    ]
     seen = sorted(number for each in said for number in each)
     assert seen == list(range(1, count * requests + 1)), "an update was lost"
     clean = sqlite_of(addresses, NAME, 2)
@@ -132,7 +144,10 @@ def main(requests, level, with_faults):
         first.close()
         for count in (2, 8) if with_faults else (1, 2, 8):
             since = time.monotonic()
-            ends = [in_child(lambda who=who: worker(addresses, who, requests, level)) for who in range(count)]
+            ends = [
+                in_child(lambda who=who: worker(addresses, who, requests, level))
+                for who in range(count)
+            ]
             said, faults = [], Faults(keeping)
             waits = threading.Thread(target=lambda: said.extend(end() for end in ends))
             waits.start()
@@ -140,7 +155,13 @@ def main(requests, level, with_faults):
                 faults.happen(lambda: not waits.is_alive())
                 print(f"turns: {dict(faults.happened)}")
             waits.join()
-            look(keeping, f"{level}, faults" if with_faults else level, said, requests, time.monotonic() - since)
+            look(
+                keeping,
+                f"{level}, faults" if with_faults else level,
+                said,
+                requests,
+                time.monotonic() - since,
+            )
 
 
 if __name__ == "__main__":

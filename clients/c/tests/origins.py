@@ -41,7 +41,13 @@ def entered(generation, of=None):
     seed, text = os.urandom(16), (of or "").encode()
     session = hmac.new(seed, text, hashlib.sha256).digest()[:8]
     position = (end + 1 + generation.shift).to_bytes(8, "big")
-    mark = page[:8] + position + page[16:24] + session + (int.from_bytes(page[32:40], "big") + 1).to_bytes(8, "big")
+    mark = (
+        page[:8]
+        + position
+        + page[16:24]
+        + session
+        + (int.from_bytes(page[32:40], "big") + 1).to_bytes(8, "big")
+    )
     says = [(0, PLACE, seed + bytes([len(text)]) + text)] if of else []
     generation.fill([wire.block(1, [*says, (0, 0, mark)])[8:]])
     return end + 1 + generation.shift
@@ -72,11 +78,23 @@ def test_a_mark_says_for_which_database_and_run():
         before = page_of(keeper.now)
         fill(other, 1, first=3)
         fill(connection, 1, first=4)
-        same("of this run, after another session", (f"{DATABASE}/run1", 5), (origin(connection), len(rows(reader))))
+        same(
+            "of this run, after another session",
+            (f"{DATABASE}/run1", 5),
+            (origin(connection), len(rows(reader))),
+        )
         keeper.succeed()
-        same("of the run before", ([0, 1, 2, 3, 4], f"{DATABASE}/run1"), (rows(reader), origin(reader)))
+        same(
+            "of the run before",
+            ([0, 1, 2, 3, 4], f"{DATABASE}/run1"),
+            (rows(reader), origin(reader)),
+        )
         fill(connection, 1, first=5)
-        same("of the next run", ([0, 1, 2, 3, 4, 5], f"{DATABASE}/run2"), (rows(reader), origin(reader)))
+        same(
+            "of the next run",
+            ([0, 1, 2, 3, 4, 5], f"{DATABASE}/run2"),
+            (rows(reader), origin(reader)),
+        )
         true("no mark is one of another run", before[24:32] != page_of(keeper.now)[24:32])
         connection.execute("pragma synchronous = normal")
         fill(connection, IMAGE, first=6)
@@ -103,7 +121,9 @@ def refused(keeper, action):
 
 def test_a_mark_of_another_database_is_refused():
     """Who opens it, and who is there already, each time."""
-    why = f"malformed: page 0 was written for the database {OTHER}, and not for this one, {DATABASE}"
+    why = (
+        f"malformed: page 0 was written for the database {OTHER}, and not for this one, {DATABASE}"
+    )
     with StubKeeper() as keeper:
         connection, reader = named(keeper), named(keeper, 3, mode="ro")
         connection.execute("create table t(a, b)")
@@ -120,7 +140,11 @@ def test_a_mark_of_another_database_is_refused():
                 named(keeper, principal, **more)
                 raise AssertionError("it was opened")
             except sqlite3.Error as error:
-                same("an open", ("SQLITE_CANTOPEN", f"pagelog: {why}"), (error.sqlite_errorname, str(error)))
+                same(
+                    "an open",
+                    ("SQLITE_CANTOPEN", f"pagelog: {why}"),
+                    (error.sqlite_errorname, str(error)),
+                )
 
 
 def test_a_copy_has_the_marks_of_what_it_was_copied_from():
@@ -134,7 +158,11 @@ def test_a_copy_has_the_marks_of_what_it_was_copied_from():
         refused(keeper, lambda: named(keeper))
         keeper.more = (f"copied={len(keeper.archive)}",)
         copy, reader = named(keeper, file="shop"), named(keeper, 3, mode="ro", file="shop")
-        same("it opens under its own name", ([0, 1], f"{DATABASE}/run1"), (rows(reader), origin(reader)))
+        same(
+            "it opens under its own name",
+            ([0, 1], f"{DATABASE}/run1"),
+            (rows(reader), origin(reader)),
+        )
         fill(copy, 1, first=2)
         same("its own", ([0, 1, 2], f"{OTHER}/run2"), (rows(reader), origin(reader)))
         same("its name", b"\4shop", page_of(keeper.now)[40:45])
@@ -146,12 +174,21 @@ def test_a_mark_of_a_run_that_explains_nothing_is_said_once():
     with StubKeeper() as keeper:
         named(keeper).execute("create table t(a, b)")
         keeper.die()
-        for run_of, more, wanted in (("run2", ("after=run1",), 0), ("run0", (), 0), ("run1", ("after=run1",), 0), ("run0", ("after=run1",), 1)):
+        for run_of, more, wanted in (
+            ("run2", ("after=run1",), 0),
+            ("run0", (), 0),
+            ("run1", ("after=run1",), 0),
+            ("run0", ("after=run1",), 1),
+        ):
             keeper.more = more
             entered(keeper.now, f"{DATABASE}/{run_of}")
             with told() as said:
                 reader = named(keeper, 3, mode="ro", errors="stderr")
-                same("it is read", ([], [], f"{DATABASE}/{run_of}"), (rows(reader), rows(reader), origin(reader)))
+                same(
+                    "it is read",
+                    ([], [], f"{DATABASE}/{run_of}"),
+                    (rows(reader), rows(reader), origin(reader)),
+                )
             same(run_of, wanted, sum("was made for run" in line for line in said))
         keeper.succeed()
         with told() as said:

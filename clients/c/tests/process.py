@@ -34,14 +34,19 @@ def writer(address, principal=2, unwaited=0, **more):
 
 
 def accounts(address, unwaited=0):
-    connection, numbers = writer(address, unwaited=unwaited, check=1000 if unwaited else 0), random.Random(1)
+    connection, numbers = writer(
+        address, unwaited=unwaited, check=1000 if unwaited else 0
+    ), random.Random(1)
     while not is_over.is_set():
         connection.execute("begin immediate")
         for _ in range(numbers.choice([1, 2, 30, 300])):
             amount = numbers.randrange(1, 100)
             from_, to = numbers.randrange(200), numbers.randrange(200)
             connection.execute("update account set money = money - ? where id = ?", (amount, from_))
-            connection.execute("update account set money = money + ?, note = randomblob(300) where id = ?", (amount, to))
+            connection.execute(
+                "update account set money = money + ?, note = randomblob(300) where id = ?",
+                (amount, to),
+            )
         connection.execute("update moment set number = number + 1")
         connection.execute("commit")
         print("moment", one(connection, "select number from moment"))
@@ -51,7 +56,9 @@ def looks(address):
     connection, looked, last = reader(address), 0, 0
     while not is_over.is_set():
         connection.execute("begin")
-        money, moment = one(connection, "select sum(money) from account"), one(connection, "select number from moment")
+        money, moment = one(connection, "select sum(money) from account"), one(
+            connection, "select number from moment"
+        )
         again = one(connection, "select sum(money) from account")
         if looked % 20 == 0 and one(connection, "pragma integrity_check") != "ok":
             sys.exit("torn: integrity_check")
@@ -82,7 +89,12 @@ def rows(address, principal, seed, big, unwaited=0):
                 epoch = int(one(connection, "pragma pagelog_writing_epoch"))
                 print(f"epoch {epoch}")
             count += 1
-            insert_row(connection, name, epoch, numbers.randbytes(big if numbers.random() < 0.1 else numbers.randrange(2000)))
+            insert_row(
+                connection,
+                name,
+                epoch,
+                numbers.randbytes(big if numbers.random() < 0.1 else numbers.randrange(2000)),
+            )
         except sqlite3.Error as error:
             if connection is not None:
                 code = error.sqlite_errorname

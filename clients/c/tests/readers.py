@@ -39,11 +39,17 @@ def superseded_by(**options):
 
 
 def test_a_connection_leaves_a_run_that_was_superseded():
-    for name, options in {"a reader": {"principal": 3, "mode": "ro"}, "one that asks seldom": {"principal": 3, "mode": "ro", "check": 5000},
-                          "a writer that only reads": {"principal": 2}}.items():
+    for name, options in {
+        "a reader": {"principal": 3, "mode": "ro"},
+        "one that asks seldom": {"principal": 3, "mode": "ro", "check": 5000},
+        "a writer that only reads": {"principal": 2},
+    }.items():
         with superseded_by(**options) as (keeper, reader, supersede):
             supersede(9)
-            until(lambda: rows(reader) == [0, 1, 9, 10], f"{name}: what is committed in the next generation")
+            until(
+                lambda: rows(reader) == [0, 1, 9, 10],
+                f"{name}: what is committed in the next generation",
+            )
             same(f"{name}: generation", (2,), numbers(reader, "generation"))
             true(f"{name}: its service lives", keeper.old[0].asker(2).__enter__().status()[2] >= 3)
 
@@ -69,7 +75,9 @@ def test_keepers_are_asked_for_all_connections_of_a_process_together():
         asked, since = keeper.asked, time.monotonic()
         while time.monotonic() - since < 3 * EACH:
             same("all", [[]] * READERS, [rows(reader) for reader in readers])
-        true("asked", 0 < keeper.asked - asked <= (time.monotonic() - since) / EACH + 2)  # one of them a greeting
+        true(
+            "asked", 0 < keeper.asked - asked <= (time.monotonic() - since) / EACH + 2
+        )  # one of them a greeting
 
 
 def test_a_durable_reader_has_what_it_sees_archived():
@@ -151,7 +159,12 @@ def test_of_one_that_has_not_each_read_fetches_what_it_reads():
         trips, pages = numbers(connection, "round_trips", "pages_fetched")
         for key in keys[:500]:
             look(connection, key)
-        trips, pages = (now - before for now, before in zip(numbers(connection, "round_trips", "pages_fetched"), (trips, pages)))
+        trips, pages = (
+            now - before
+            for now, before in zip(
+                numbers(connection, "round_trips", "pages_fetched"), (trips, pages)
+            )
+        )
         true(f"{trips} round trips for {pages} pages", trips > 100 and pages < 1.3 * trips)
 
 
@@ -162,7 +175,12 @@ def test_nor_does_one_fetch_more_that_reads_now_and_then():
             since = time.monotonic()
             look(connection, key)
             time.sleep(2 * (time.monotonic() - since))
-        trips, pages = (now - before for now, before in zip(numbers(connection, "round_trips", "pages_fetched"), (trips, pages)))
+        trips, pages = (
+            now - before
+            for now, before in zip(
+                numbers(connection, "round_trips", "pages_fetched"), (trips, pages)
+            )
+        )
         true(f"{trips} round trips for {pages} pages", trips > 30 and pages < 1.5 * trips)
 
 

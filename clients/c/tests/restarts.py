@@ -16,7 +16,11 @@ def restore(address, blocks):
         for block in blocks:
             for copy in (0, 1):
                 same("write", b"\0", writer.ask(wire.WRITE, wire.write(copy, block)))
-            same("report", b"\0", writer.ask(wire.REPORT, wire.report(int.from_bytes(block[:8], "big"))))
+            same(
+                "report",
+                b"\0",
+                writer.ask(wire.REPORT, wire.report(int.from_bytes(block[:8], "big"))),
+            )
 
 
 def blocks_of(address):
@@ -49,7 +53,8 @@ def rows(connection):
 @contextlib.contextmanager
 def lost_history(after):
     """A writer and a follower that have read all of a log, the last 30 commits of which are in no archive. Another process has
-    written after the restart, `after` commits more than the log had. Both, the proxy, and what a new reader finds."""
+    written after the restart, `after` commits more than the log had. Both, the proxy, and what a new reader finds.
+    """
     with Service() as old, Proxy(old.address) as proxy:
         writer = connect(proxy.address, patience=2000)
         writer.execute("create table t(name, body)")
@@ -59,7 +64,11 @@ def lost_history(after):
         fill(writer, "lost", 30)
         follower = reader(proxy.address, patience=2000)
         for connection in (writer, follower):
-            same("all of it", (50, "ok"), (len(rows(connection)), one(connection, "pragma integrity_check")))
+            same(
+                "all of it",
+                (50, "ok"),
+                (len(rows(connection)), one(connection, "pragma integrity_check")),
+            )
         with restarted(old, proxy, kept) as new:
             in_child(lambda: fill(connect(new.address), "new", 30 + after))
             yield writer, follower, lambda: reader(new.address)
@@ -83,22 +92,38 @@ def test_a_writer_that_was_idle():
             true(f"refused: {code}", code in ("SQLITE_IOERR", "SQLITE_IOERR_FSYNC"))
             same("and reads nothing", "SQLITE_IOERR", code_of(lambda: rows(writer)))
             new = opened()
-            same("a new reader", ("ok", 50 + after), (one(new, "pragma integrity_check"), len(rows(new))))
+            same(
+                "a new reader",
+                ("ok", 50 + after),
+                (one(new, "pragma integrity_check"), len(rows(new))),
+            )
 
 
 def test_pages_of_another_history_are_not_read():
     """Of a transaction that began before the restart, and of the past at an LSN."""
-    with Service() as old, Proxy(old.address) as proxy, File(proxy.address, 2, operator=1, patience_ms=2000) as writer:
+    with Service() as old, Proxy(old.address) as proxy, File(
+        proxy.address, 2, operator=1, patience_ms=2000
+    ) as writer:
         same("open", DONE, writer.open())
         for number in range(30):
-            same("commit", (DONE, DONE, DONE), (writer.begin(), writer.write(8192 * number, b"%d" % number), writer.commit()))
-        with File(proxy.address, 3, reads_only=True) as follower, File(proxy.address, 4, reads_only=True, at=25) as past:
+            same(
+                "commit",
+                (DONE, DONE, DONE),
+                (writer.begin(), writer.write(8192 * number, b"%d" % number), writer.commit()),
+            )
+        with File(proxy.address, 3, reads_only=True) as follower, File(
+            proxy.address, 4, reads_only=True, at=25
+        ) as past:
             same("open", (DONE, DONE), (follower.open(), past.open()))
             same("begin", (DONE, DONE), (follower.begin(), past.begin()))
             with restarted(old, proxy, 20) as new, File(new.address, 2, operator=1) as other:
                 same("open", DONE, other.open())
                 for number in range(20):
-                    same("commit", (DONE, DONE, DONE), (other.begin(), other.write(8192 * number, b"other"), other.commit()))
+                    same(
+                        "commit",
+                        (DONE, DONE, DONE),
+                        (other.begin(), other.write(8192 * number, b"other"), other.commit()),
+                    )
                 for file in (follower, past):
                     same("read", FENCED, file.read(0, 8192 * 20)[0])
                     true("why", "restarted" in file.words)
@@ -107,7 +132,9 @@ def test_pages_of_another_history_are_not_read():
 def test_the_wire_compares_what_it_saw_last():
     """After appends and after pulls; a service that has the same log is gone on with."""
     for is_same in (False, True):
-        with Service() as old, Proxy(old.address) as proxy, Log(proxy.address, 2) as writer, Log(proxy.address, 3) as looker:
+        with Service() as old, Proxy(old.address) as proxy, Log(proxy.address, 2) as writer, Log(
+            proxy.address, 3
+        ) as looker:
             same("take over", DONE, writer.take_over())
             same("append", DONE, writer.append(numbered(1, 10)))
             same("pull", (DONE, 10), ((found := looker.pull(1))[0], found[1].count))
@@ -117,25 +144,45 @@ def test_the_wire_compares_what_it_saw_last():
                     same("another history", DONE, other.append(numbered(6, 5, page=7)))
                 wanted = DONE if is_same else FENCED
                 same("pull", (wanted, not is_same), (looker.pull(10)[0], looker.is_restarted))
-                same("append", (wanted, not is_same), (writer.append(numbered(11, 1)), writer.is_restarted))
+                same(
+                    "append",
+                    (wanted, not is_same),
+                    (writer.append(numbered(11, 1)), writer.is_restarted),
+                )
                 same("the log", 11 if is_same else 10, len(blocks_of(new.address)))
 
 
 def test_who_may_get_no_page_compares_the_block():
     """A table that allows it pulls alone."""
-    table = TABLE.read_text().replace('who = 3\nrole = "secondary"', 'who = 3\nrole = "secondary"\nop = ["pull", "status"]')
+    table = TABLE.read_text().replace(
+        'who = 3\nrole = "secondary"', 'who = 3\nrole = "secondary"\nop = ["pull", "status"]'
+    )
     for is_same in (False, True):
-        with Service(text=table) as old, Proxy(old.address) as proxy, Log(proxy.address, 3) as looker:
+        with Service(text=table) as old, Proxy(old.address) as proxy, Log(
+            proxy.address, 3
+        ) as looker:
             restore(old.address, numbered(1, 10).all())
-            same("pull, and no get", (DONE, DENIED), (looker.pull(1)[0], looker.get(SECONDARY, 1, [0])[0]))
+            same(
+                "pull, and no get",
+                (DONE, DENIED),
+                (looker.pull(1)[0], looker.get(SECONDARY, 1, [0])[0]),
+            )
             old.end()
             with Service(text=table) as new:
-                restore(new.address, numbered(1, 10).all() if is_same else
-                        [wire.block(lsn, [(0, 0, 24 * b"x")]) for lsn in range(1, 11)])
+                restore(
+                    new.address,
+                    numbered(1, 10).all()
+                    if is_same
+                    else [wire.block(lsn, [(0, 0, 24 * b"x")]) for lsn in range(1, 11)],
+                )
                 host, port = new.address.rsplit(":", 1)
                 proxy.target = host, int(port)
                 proxy.cut()
-                same("pull", (DONE if is_same else FENCED, not is_same), (looker.pull(10)[0], looker.is_restarted))
+                same(
+                    "pull",
+                    (DONE if is_same else FENCED, not is_same),
+                    (looker.pull(10)[0], looker.is_restarted),
+                )
 
 
 def test_a_write_that_the_old_service_took_is_no_proof():
@@ -152,8 +199,9 @@ def test_a_write_that_the_old_service_took_is_no_proof():
                     comes.append(None)
                 return None if is_cut[0] and frame[33] == wire.REPORT else frame
 
-            with Service(table=table) as old, Proxy(old.address, between=between) as proxy, \
-                    Log(proxy.address, 2, patience_ms=2000) as writer:
+            with Service(table=table) as old, Proxy(old.address, between=between) as proxy, Log(
+                proxy.address, 2, patience_ms=2000
+            ) as writer:
                 same("take over", DONE, writer.take_over())
                 same("append", DONE, writer.append(numbered(1, 3)))
                 is_cut[0], blocks = True, numbered(4, 1)

@@ -26,7 +26,10 @@ FOLDER = tempfile.TemporaryDirectory()
 AUTHORITY = Authority(FOLDER.name)
 CA, OTHER = AUTHORITY / "ca.pem", AUTHORITY / "other.pem"
 GOOD = AUTHORITY.make("good")
-CLIENT_FILES = {"sslcert": f"{AUTHORITY.make('client', '', usage='clientAuth')}.pem", "sslkey": AUTHORITY / "client.key"}
+CLIENT_FILES = {
+    "sslcert": f"{AUTHORITY.make('client', '', usage='clientAuth')}.pem",
+    "sslkey": AUTHORITY / "client.key",
+}
 AT_ONCE = {"timeout": 20000, "patience": 1}
 """One try, for which there is time."""
 
@@ -38,7 +41,9 @@ def terminated(service, certificate=GOOD, **how):
 def outcome(address, name="test", **more):
     """What an open and a write say: nothing, or why not."""
     try:
-        with contextlib.closing(connect(address, **{**AT_ONCE, "name": name, **more})) as connection:
+        with contextlib.closing(
+            connect(address, **{**AT_ONCE, "name": name, **more})
+        ) as connection:
             connection.execute("create table if not exists t(x)")
         return ""
     except sqlite3.Error as error:
@@ -51,30 +56,56 @@ def refused(what, wanted, told):
 
 # ---- What is refused ----
 
+
 def test_certificates_that_are_refused():
     dates = ("20200101000000Z", "20210101000000Z"), ("20980101000000Z", "20990101000000Z")
     made = {
-        "wrong": (AUTHORITY.make("wrong", "DNS:elsewhere.example,IP:127.0.0.9"), "IP address mismatch"),
+        "wrong": (
+            AUTHORITY.make("wrong", "DNS:elsewhere.example,IP:127.0.0.9"),
+            "IP address mismatch",
+        ),
         "expired": (AUTHORITY.make("expired", dates=dates[0]), "certificate has expired"),
         "early": (AUTHORITY.make("early", dates=dates[1]), "certificate is not yet valid"),
-        "foreign": (AUTHORITY.make("foreign", ca="other"), "unable to get local issuer certificate"),
-        "purpose": (AUTHORITY.make("purpose", usage="clientAuth"), "unsuitable certificate purpose"),
+        "foreign": (
+            AUTHORITY.make("foreign", ca="other"),
+            "unable to get local issuer certificate",
+        ),
+        "purpose": (
+            AUTHORITY.make("purpose", usage="clientAuth"),
+            "unsuitable certificate purpose",
+        ),
     }
     with Service() as service:
         for what, (certificate, why) in made.items():
             with terminated(service, certificate) as front:
-                refused(what, f"lost: TLS with {front.address}: {why}", outcome(front.address, sslrootcert=CA))
+                refused(
+                    what,
+                    f"lost: TLS with {front.address}: {why}",
+                    outcome(front.address, sslrootcert=CA),
+                )
                 same(f"{what}: nothing went inside", 0, front.shaken)
         with terminated(service) as front:
             same("the good one", "", outcome(front.address, sslrootcert=CA))
             same("by name", "", outcome(f"localhost:{front.port}", sslrootcert=CA))
-            refused("another CA", "unable to get local issuer", outcome(front.address, sslrootcert=OTHER))
+            refused(
+                "another CA",
+                "unable to get local issuer",
+                outcome(front.address, sslrootcert=OTHER),
+            )
             refused("a plain client", "", outcome(front.address))
         with terminated(service, AUTHORITY.make("named", "DNS:localhost")) as front:
-            refused("an address beside its name", "IP address mismatch", outcome(front.address, sslrootcert=CA))
+            refused(
+                "an address beside its name",
+                "IP address mismatch",
+                outcome(front.address, sslrootcert=CA),
+            )
             same("its name", "", outcome(f"localhost:{front.port}", sslrootcert=CA))
         with terminated(service, AUTHORITY.make("unnamed", "", common="localhost")) as front:
-            refused("a name that is its subject's alone", "hostname mismatch", outcome(f"localhost:{front.port}", sslrootcert=CA))
+            refused(
+                "a name that is its subject's alone",
+                "hostname mismatch",
+                outcome(f"localhost:{front.port}", sslrootcert=CA),
+            )
         with terminated(service, version="1.2") as front:
             refused("an older version", "protocol version", outcome(front.address, sslrootcert=CA))
         refused("a plain port", "TLS with", outcome(service.address, sslrootcert=CA))
@@ -83,27 +114,67 @@ def test_certificates_that_are_refused():
 def test_clients_certificates():
     """A client learns that its own is refused at its first read, after its handshake."""
     AUTHORITY.make("stranger", "", usage="clientAuth", ca="other")
-    files = {name: {"sslcert": AUTHORITY / f"{name}.pem", "sslkey": AUTHORITY / f"{name}.key"} for name in ("stranger", "good")}
+    files = {
+        name: {"sslcert": AUTHORITY / f"{name}.pem", "sslkey": AUTHORITY / f"{name}.key"}
+        for name in ("stranger", "good")
+    }
     with Service() as service, terminated(service, clients=CA) as front:
         refused("none", "alert certificate required", outcome(front.address, sslrootcert=CA))
-        refused("another CA's", "alert unknown ca", outcome(front.address, sslrootcert=CA, **files["stranger"]))
-        refused("a server's", "alert unsupported certificate", outcome(front.address, sslrootcert=CA, **files["good"]))
-        same("its own", ["", ""], [outcome(front.address, sslrootcert=CA, **CLIENT_FILES) for _ in range(2)])
+        refused(
+            "another CA's",
+            "alert unknown ca",
+            outcome(front.address, sslrootcert=CA, **files["stranger"]),
+        )
+        refused(
+            "a server's",
+            "alert unsupported certificate",
+            outcome(front.address, sslrootcert=CA, **files["good"]),
+        )
+        same(
+            "its own",
+            ["", ""],
+            [outcome(front.address, sslrootcert=CA, **CLIENT_FILES) for _ in range(2)],
+        )
 
 
 def test_settings_that_are_refused():
     """By name, and none of them is passed over."""
-    locked, shared, empty = AUTHORITY / "locked.key", AUTHORITY / "shared.key", AUTHORITY / "empty.pem"
-    subprocess.run(["openssl", "pkey", "-in", CLIENT_FILES["sslkey"], "-aes256", "-passout", "pass:secret", "-out", locked], check=True)
+    locked, shared, empty = (
+        AUTHORITY / "locked.key",
+        AUTHORITY / "shared.key",
+        AUTHORITY / "empty.pem",
+    )
+    subprocess.run(
+        [
+            "openssl",
+            "pkey",
+            "-in",
+            CLIENT_FILES["sslkey"],
+            "-aes256",
+            "-passout",
+            "pass:secret",
+            "-out",
+            locked,
+        ],
+        check=True,
+    )
     for path, mode in ((locked, 0o600), (shared, 0o644), (empty, 0o600)):
         if path != locked:
-            pathlib.Path(path).write_bytes(pathlib.Path(CLIENT_FILES["sslkey"]).read_bytes() if path == shared else b"")
+            pathlib.Path(path).write_bytes(
+                pathlib.Path(CLIENT_FILES["sslkey"]).read_bytes() if path == shared else b""
+            )
         os.chmod(path, mode)
     cert = CLIENT_FILES["sslcert"]
     cases = [
-        ("sslmode is disable or verify-full, and not require", {"sslmode": "require", "sslrootcert": CA}),
+        (
+            "sslmode is disable or verify-full, and not require",
+            {"sslmode": "require", "sslrootcert": CA},
+        ),
         ("sslmode is disable or verify-full, and not prefer", {"sslmode": "prefer"}),
-        ("sslmode is disable or verify-full, and not verify-ca", {"sslmode": "verify-ca", "sslrootcert": CA}),
+        (
+            "sslmode is disable or verify-full, and not verify-ca",
+            {"sslmode": "verify-ca", "sslrootcert": CA},
+        ),
         ("sslmode is disable or verify-full, and not ", {"sslmode": "", "sslrootcert": CA}),
         ("sslrootcert: it is missing", {"sslmode": "verify-full"}),
         ("sslrootcert: it is missing", CLIENT_FILES),
@@ -115,8 +186,14 @@ def test_settings_that_are_refused():
         ("sslrootcert: ", {"sslrootcert": empty}),
         ("sslrootcert: its path is empty, or too long", {"sslrootcert": ""}),
         ("sslrootcert: its path is empty, or too long", {"sslrootcert": "/" + "a" * 300}),
-        ("sslkey: " + AUTHORITY / "good.key: key values mismatch", {"sslrootcert": CA, "sslcert": cert, "sslkey": AUTHORITY / "good.key"}),
-        (f"sslkey: {shared}: others may read it", {"sslrootcert": CA, "sslcert": cert, "sslkey": shared}),
+        (
+            "sslkey: " + AUTHORITY / "good.key: key values mismatch",
+            {"sslrootcert": CA, "sslcert": cert, "sslkey": AUTHORITY / "good.key"},
+        ),
+        (
+            f"sslkey: {shared}: others may read it",
+            {"sslrootcert": CA, "sslcert": cert, "sslkey": shared},
+        ),
         (f"sslkey: {locked}: ", {"sslrootcert": CA, "sslcert": cert, "sslkey": locked}),
     ]
     with Service() as service, terminated(service) as front:
@@ -151,8 +228,15 @@ def test_where_settings_are():
             refused("a URI beside it", "contradicts", outcome(service.address, sslrootcert=CA))
         with environment(sslrootcert="/" + "a" * 300):
             refused("too long", "its path is empty, or too long", outcome(service.address))
-        for text, address, wanted in ((f"sslrootcert {CA}\n", front.address, None), (f"sslrootcert {CA}\nsslmode disable\n", service.address, "contradicts"),
-                                      (f"sslmode verify-full\nsslrootcert {OTHER}\n", front.address, "unable to get local issuer")):
+        for text, address, wanted in (
+            (f"sslrootcert {CA}\n", front.address, None),
+            (f"sslrootcert {CA}\nsslmode disable\n", service.address, "contradicts"),
+            (
+                f"sslmode verify-full\nsslrootcert {OTHER}\n",
+                front.address,
+                "unable to get local issuer",
+            ),
+        ):
             credentials.write_text(text)
             credentials.chmod(0o600)
             told = outcome(address, credentials=credentials)
@@ -172,23 +256,41 @@ def test_a_build_without_tls_refuses_the_words():
             except sqlite3.Error as error:
                 print(error)"""
     with Service() as service:
-        uris = [uri(service.address, **more) for more in ({"sslrootcert": CA}, {"sslmode": "verify-full"}, {"sslmode": "disable"}, {})]
-        said = subprocess.run([sys.executable, "-c", program, *uris], capture_output=True, text=True, env=plain_environment()).stdout
+        uris = [
+            uri(service.address, **more)
+            for more in (
+                {"sslrootcert": CA},
+                {"sslmode": "verify-full"},
+                {"sslmode": "disable"},
+                {},
+            )
+        ]
+        said = subprocess.run(
+            [sys.executable, "-c", program, *uris],
+            capture_output=True,
+            text=True,
+            env=plain_environment(),
+        ).stdout
         no_tls = "pagelog: the setting sslmode: this build has no TLS"
         same("what it says", [no_tls, no_tls, "done", "done"], said.splitlines())
 
 
 # ---- Lines ----
 
+
 @contextlib.contextmanager
 def secured_keeper(service_certificate=GOOD, lines_certificate=GOOD, **how):
     """A stub whose lines and services are told by TLS."""
-    with StubKeeper() as keeper, Terminator(lines_certificate, keeper.address, **how) as lines, contextlib.ExitStack() as fronts:
+    with StubKeeper() as keeper, Terminator(
+        lines_certificate, keeper.address, **how
+    ) as lines, contextlib.ExitStack() as fronts:
         keeper.told_lines = lines.address
         made = []
 
         def publish():
-            made.append(fronts.enter_context(Terminator(service_certificate, keeper.now.address, **how)))
+            made.append(
+                fronts.enter_context(Terminator(service_certificate, keeper.now.address, **how))
+            )
             keeper.now.address = made[-1].address
 
         publish()
@@ -196,8 +298,12 @@ def secured_keeper(service_certificate=GOOD, lines_certificate=GOOD, **how):
 
 
 def named_at(lines, name="shop", **more):
-    return sqlite3.connect(uri_of(lines, name, 2, **{"timeout": 20000, "move": 20000, "sslrootcert": CA, **more}), uri=True, isolation_level=None,
-                           timeout=300.0)  # fmt: skip
+    return sqlite3.connect(
+        uri_of(lines, name, 2, **{"timeout": 20000, "move": 20000, "sslrootcert": CA, **more}),
+        uri=True,
+        isolation_level=None,
+        timeout=300.0,
+    )
 
 
 def test_a_named_database_by_tls():
@@ -207,31 +313,48 @@ def test_a_named_database_by_tls():
             with contextlib.closing(named_at(lines.address)) as connection:
                 connection.execute("pragma synchronous = full")
                 connection.execute("create table t(a, b)")
-                connection.executemany("insert into t values (?, randomblob(3000))", [(number,) for number in range(5)])
+                connection.executemany(
+                    "insert into t values (?, randomblob(3000))", [(number,) for number in range(5)]
+                )
                 position = int(one(connection, "pragma pagelog_position"))
                 same("it is durable", True, position <= len(keeper.archive))
                 with keeper.changed:
                     keeper.succeed(empty=3)
                     publish()
                 connection.execute("insert into t values (5, 0)")
-                same("the generation", ("2", 6), (one(connection, "pragma pagelog_generation"), one(connection, "select count(*) from t")))
+                same(
+                    "the generation",
+                    ("2", 6),
+                    (
+                        one(connection, "pragma pagelog_generation"),
+                        one(connection, "select count(*) from t"),
+                    ),
+                )
             true("lines went by TLS", lines.shaken > 0)
 
 
 def test_lines_that_come_in_one_record():
     """They are longer than what is read at once: the rest is held, and no poll tells of it."""
-    with StubKeeper() as keeper, Gathering(keeper.address) as way, Terminator(GOOD, way.address) as lines:
+    with StubKeeper() as keeper, Gathering(keeper.address) as way, Terminator(
+        GOOD, way.address
+    ) as lines:
         keepers = binding.Keepers(lines.address, tls=binding.Tls(CA))
         with keepers:
             for _ in range(3):
-                same("the place", (binding.DONE, 1), (lambda found: (found[0], found[1].generation))(keepers.where()))
+                same(
+                    "the place",
+                    (binding.DONE, 1),
+                    (lambda found: (found[0], found[1].generation))(keepers.where()),
+                )
 
 
 def test_no_answer_takes_it_away():
     """Keepers that lead to a plain service, or to one that is another host, lead nowhere; so do their lines."""
     wrong = AUTHORITY.make("other_host", "DNS:elsewhere.example")
     with secured_keeper(wrong) as (keeper, lines, _):
-        refused("a service of another host", "IP address mismatch", open_error(lines.address, move=1000))
+        refused(
+            "a service of another host", "IP address mismatch", open_error(lines.address, move=1000)
+        )
         keeper.now.address, frames = keeper.now.proxy.address, []
         keeper.rule = frames.append
         refused("a plain service", "TLS with", open_error(lines.address, move=1000, timeout=1000))
@@ -246,7 +369,11 @@ def test_no_answer_takes_it_away():
     with secured_keeper(GOOD, wrong) as (_, lines, _):
         refused("lines of another host", "no keeper answers: TLS with", open_error(lines.address))
     with secured_keeper(clients=CA) as (_, lines, _):
-        refused("a client without a certificate", "alert certificate required", open_error(lines.address, move=1000))
+        refused(
+            "a client without a certificate",
+            "alert certificate required",
+            open_error(lines.address, move=1000),
+        )
         named_at(lines.address, **CLIENT_FILES).close()
 
 
@@ -259,6 +386,7 @@ def open_error(lines, **more):
 
 
 # ---- Peers that stop, break off, and send what they like ----
+
 
 def connects(address, tls, **how):
     with binding.Log(address, 3, tls=tls, patience_ms=1, **{"connect_ms": 20000, **how}) as log:
@@ -281,6 +409,7 @@ def test_a_handshake_that_breaks_off_at_each_byte():
 def test_a_handshake_that_stands_still():
     """Time-outs hold in it, and say so. Peers that stand still are waited for side by side."""
     with Service() as service, terminated(service) as front:
+
         def stand(left):
             with Halting(front.address, stands=True) as peer:
                 peer.left = left
@@ -288,22 +417,40 @@ def test_a_handshake_that_stands_still():
 
         with concurrent.futures.ThreadPoolExecutor() as threads:
             for left, found, why in threads.map(stand, (0, 1, 5, 90, 200, 700)):
-                same(f"{left} bytes", (binding.LOST, True), (found, "its handshake did not come in time" in why))
+                same(
+                    f"{left} bytes",
+                    (binding.LOST, True),
+                    (found, "its handshake did not come in time" in why),
+                )
 
 
 def test_records_of_any_size():
     """Of some bytes, and of 16 KiB with tickets and key updates between them, amid replies: a transaction, and a scan by a reader."""
     with Service() as service:
-        for number, how in enumerate(({"record": 61}, {"record": 1500, "odd": True}, {"odd": True})):
+        for number, how in enumerate(
+            ({"record": 61}, {"record": 1500, "odd": True}, {"odd": True})
+        ):
             rows = 3 if number == 0 else 30
             with terminated(service, **how) as front:
                 with contextlib.closing(connect(front.address, sslrootcert=CA)) as connection:
                     connection.execute(f"create table t{number}(a, b)")
                     for row in range(rows):
-                        connection.execute(f"insert into t{number} values (?, randomblob(?))", (row, 3000 * (row % 9)))
+                        connection.execute(
+                            f"insert into t{number} values (?, randomblob(?))",
+                            (row, 3000 * (row % 9)),
+                        )
                     wanted = one(connection, f"select sum(length(b)) from t{number}")
-                with contextlib.closing(connect(front.address, 3, None, mode="ro", sslrootcert=CA)) as reader:
-                    same("what is there", (wanted, "ok"), (one(reader, f"select sum(length(b)) from t{number}"), one(reader, "pragma integrity_check")))
+                with contextlib.closing(
+                    connect(front.address, 3, None, mode="ro", sslrootcert=CA)
+                ) as reader:
+                    same(
+                        "what is there",
+                        (wanted, "ok"),
+                        (
+                            one(reader, f"select sum(length(b)) from t{number}"),
+                            one(reader, "pragma integrity_check"),
+                        ),
+                    )
 
 
 def shaken(secure, here, there):
@@ -342,7 +489,11 @@ def test_what_has_come_is_held_until_it_is_received():
         server.write(b"x" * 36)
         there.sendall(out.read())
         same("it has not ended", False, binding.lib.pagelog_secure_has_ended(secure))
-        same("it is held", (True, 20, True, 16, False), (holds(), receive(20), holds(), receive(16), holds()))
+        same(
+            "it is held",
+            (True, 20, True, 16, False),
+            (holds(), receive(20), holds(), receive(16), holds()),
+        )
         for text in (b"y" * 10, b"z" * 10):
             server.write(text)
         records = out.read()
@@ -355,20 +506,32 @@ def test_what_has_come_is_held_until_it_is_received():
 
 def test_pages_in_flight():
     """Replies of more than a read takes are waited for to their end, many, and one that is long."""
-    with Service() as service, terminated(service) as front, binding.Log(service.address, 2) as writer:
+    with Service() as service, terminated(service) as front, binding.Log(
+        service.address, 2
+    ) as writer:
         writer.take_over(1)
         blocks = binding.Blocks(1)
         for page in range(1, 17):
             blocks.put(page, 0, b"x" * 8000)
             blocks.end()
         same("they are there", binding.DONE, writer.append(blocks))
-        with binding.Log(front.address, 3, tls=binding.Tls(CA), reply_ms=20000, patience_ms=1) as reader:
+        with binding.Log(
+            front.address, 3, tls=binding.Tls(CA), reply_ms=20000, patience_ms=1
+        ) as reader:
             found, reply = reader.pull(1, 16)
             same("a long reply", (binding.DONE, 16), (found, reply.count))
             for count in (64, 500, 1000):
-                pages, out = (ctypes.c_uint32 * count)(*[1] * count), ctypes.create_string_buffer(8192 * count)
-                found = binding.lib.pagelog_get(reader.made, binding.SECONDARY, 16, pages, count, out)
-                same(f"{count} pages", (0, True), (found, out.raw == (b"x" * 8000 + bytes(192)) * count))
+                pages, out = (ctypes.c_uint32 * count)(*[1] * count), ctypes.create_string_buffer(
+                    8192 * count
+                )
+                found = binding.lib.pagelog_get(
+                    reader.made, binding.SECONDARY, 16, pages, count, out
+                )
+                same(
+                    f"{count} pages",
+                    (0, True),
+                    (found, out.raw == (b"x" * 8000 + bytes(192)) * count),
+                )
 
 
 def test_replies_of_a_group_that_come_in_parts():
@@ -379,8 +542,12 @@ def test_replies_of_a_group_that_come_in_parts():
         frames.append(frame)
         return frame
 
-    with Service() as service, Proxy(service.address, between=counted, holds=lambda: 0 < len(frames) < group) as gathered:
-        with terminated(gathered) as front, Chopper(front.address, 1) as way, binding.Log(way.address, 2, tls=binding.Tls(CA)) as writer:
+    with Service() as service, Proxy(
+        service.address, between=counted, holds=lambda: 0 < len(frames) < group
+    ) as gathered:
+        with terminated(gathered) as front, Chopper(front.address, 1) as way, binding.Log(
+            way.address, 2, tls=binding.Tls(CA)
+        ) as writer:
             blocks = binding.Blocks(1)
             for page in range(64):
                 blocks.put(page, 0, b"x" * 10)
@@ -399,9 +566,13 @@ def test_bytes_that_are_spoiled_on_the_way():
                 done, connection = 0, None
                 for number in range(60):
                     try:
-                        connection = connection or connect(way.address, sslrootcert=CA, name="s", timeout=20000)
+                        connection = connection or connect(
+                            way.address, sslrootcert=CA, name="s", timeout=20000
+                        )
                         connection.execute("create table if not exists s(seed, number, b)")
-                        connection.execute("insert into s values (?, ?, zeroblob(9000))", (seed, number))
+                        connection.execute(
+                            "insert into s values (?, ?, zeroblob(9000))", (seed, number)
+                        )
                         done += 1
                     except sqlite3.Error:
                         connection.close() if connection else None
@@ -409,23 +580,38 @@ def test_bytes_that_are_spoiled_on_the_way():
                 connection.close() if connection else None
                 with contextlib.closing(connect(service.address, name="s")) as plain:
                     found = one(plain, f"select count(distinct number) from s where seed = {seed}")
-                    true(f"seed {seed}: {done} were acknowledged, {found} are there", found >= done > 0)
+                    true(
+                        f"seed {seed}: {done} were acknowledged, {found} are there",
+                        found >= done > 0,
+                    )
 
 
 def test_a_server_that_means_harm():
     """As the part hostile, inside TLS: each call ends, and the sanitizers see nothing."""
     program = CLIENT / "out" / "checked" / "hostile"
     environment = {**os.environ, "ASAN_OPTIONS": "detect_leaks=1"}
-    with subprocess.Popen([program, "1", "7", "serve"], stdin=subprocess.PIPE, stdout=subprocess.PIPE, text=True, env=plain_environment(ASAN_OPTIONS="detect_leaks=0")) as server:
+    with subprocess.Popen(
+        [program, "1", "7", "serve"],
+        stdin=subprocess.PIPE,
+        stdout=subprocess.PIPE,
+        text=True,
+        env=plain_environment(ASAN_OPTIONS="detect_leaks=0"),
+    ) as server:
         address = server.stdout.readline().strip()
         with Terminator(GOOD, address, record=300, odd=True) as front:
-            done = subprocess.run([program, "30" if LONG else "2", "7", front.address, CA], capture_output=True, text=True, env=environment)
+            done = subprocess.run(
+                [program, "30" if LONG else "2", "7", front.address, CA],
+                capture_output=True,
+                text=True,
+                env=environment,
+            )
             same("its end", (0, ""), (done.returncode, done.stderr))
             true("it spoke by TLS", front.shaken > 0)
         server.stdin.close()
 
 
 # ---- The process ----
+
 
 def test_a_fork_while_connected():
     """A child sends nothing over what it inherits, and what it opens is its own; the parent goes on."""
@@ -436,7 +622,9 @@ def test_a_fork_while_connected():
         def child():
             code = code_of(lambda: connection.execute("insert into t values (0)"))
             connection.close()
-            with contextlib.closing(connect(front.address, 3, None, mode="ro", sslrootcert=CA)) as own:
+            with contextlib.closing(
+                connect(front.address, 3, None, mode="ro", sslrootcert=CA)
+            ) as own:
                 return code, one(own, "select count(*) from t")
 
         shaken = front.shaken
@@ -464,7 +652,12 @@ def test_a_host_program_with_sigpipe_at_its_default():
             except sqlite3.Error as error:
                 print(error.sqlite_errorname, flush=True)"""
     with Service() as service, terminated(service) as front:
-        words = [sys.executable, "-c", program, uri(front.address, sslrootcert=CA, timeout=20000, patience=100)]
+        words = [
+            sys.executable,
+            "-c",
+            program,
+            uri(front.address, sslrootcert=CA, timeout=20000, patience=100),
+        ]
         child = subprocess.Popen(words, stdin=subprocess.PIPE, stdout=subprocess.PIPE, text=True)
 
         def insert():
@@ -485,11 +678,19 @@ def test_connections_of_one_process_with_other_trust():
     with Service() as service, terminated(service) as front:
         with contextlib.closing(connect(front.address, sslrootcert=CA)) as connection:
             connection.execute("create table t(x)")
-            refused("another CA", "unable to get local issuer", outcome(front.address, sslrootcert=OTHER))
+            refused(
+                "another CA",
+                "unable to get local issuer",
+                outcome(front.address, sslrootcert=OTHER),
+            )
             refused("none", "", outcome(front.address))
             shaken = front.shaken
             with contextlib.closing(connect(front.address, sslrootcert=CA)) as beside:
-                same("the same: one connection", (0, shaken), (one(beside, "select count(*) from t"), front.shaken))
+                same(
+                    "the same: one connection",
+                    (0, shaken),
+                    (one(beside, "select count(*) from t"), front.shaken),
+                )
 
 
 def test_errors_of_the_process_are_its_own():
@@ -498,7 +699,10 @@ def test_errors_of_the_process_are_its_own():
     crypto, ssl = ctypes.CDLL("libcrypto.so.3"), ctypes.CDLL("libssl.so.3")
     crypto.ERR_peek_error.restype = ctypes.c_ulong
     ssl.TLS_client_method.restype = ssl.SSL_CTX_new.restype = ctypes.c_void_p
-    ssl.SSL_CTX_new.argtypes, ssl.SSL_CTX_load_verify_file.argtypes = (ctypes.c_void_p,), (ctypes.c_void_p, ctypes.c_char_p)
+    ssl.SSL_CTX_new.argtypes, ssl.SSL_CTX_load_verify_file.argtypes = (ctypes.c_void_p,), (
+        ctypes.c_void_p,
+        ctypes.c_char_p,
+    )
     context = ssl.SSL_CTX_new(ssl.TLS_client_method())
     with Service() as service, terminated(service) as front:
         with contextlib.closing(connect(front.address, sslrootcert=CA)) as connection:
@@ -508,7 +712,9 @@ def test_errors_of_the_process_are_its_own():
                 true("an error of the process", crypto.ERR_peek_error() != 0)
                 connection.execute("insert into t values (?)", (number,))
                 same("nothing is left", 0, crypto.ERR_peek_error())
-        with secured_keeper() as (_, lines, _), contextlib.closing(named_at(lines.address)) as connection:
+        with secured_keeper() as (_, lines, _), contextlib.closing(
+            named_at(lines.address)
+        ) as connection:
             connection.execute("create table t(x)")
             connection.execute("pragma synchronous = full")  # each insert asks
             connection.execute("insert into t values (0)")
@@ -516,14 +722,21 @@ def test_errors_of_the_process_are_its_own():
             for number in range(5):
                 ssl.SSL_CTX_load_verify_file(context, b"/nowhere")
                 connection.execute("insert into t values (?)", (number,))
-            true("no line was taken for lost", lines.shaken - shaken <= 1)  # one is of the poll of the holder
-        for more in ({"sslrootcert": OTHER}, {"sslrootcert": "/nowhere"}, {"sslrootcert": CA, **CLIENT_FILES, "sslkey": AUTHORITY / "good.key"}):
+            true(
+                "no line was taken for lost", lines.shaken - shaken <= 1
+            )  # one is of the poll of the holder
+        for more in (
+            {"sslrootcert": OTHER},
+            {"sslrootcert": "/nowhere"},
+            {"sslrootcert": CA, **CLIENT_FILES, "sslkey": AUTHORITY / "good.key"},
+        ):
             refused(str(more), "", outcome(front.address, **more))
             same("nothing is left", 0, crypto.ERR_peek_error())
         ssl.SSL_CTX_free(ctypes.c_void_p(context))
 
 
 # ---- Files and sessions ----
+
 
 def test_files_that_change():
     """They are read again at a connect; one that cannot be used leaves what was there in force."""
@@ -538,7 +751,13 @@ def test_files_that_change():
     becomes(ca)
     with Service() as service, terminated(service) as front:
         tls = binding.Tls(str(file))
-        for data, wanted in ((ca, binding.DONE), (b"none", binding.DONE), (other, binding.LOST), (b"", binding.LOST), (other + ca, binding.DONE)):
+        for data, wanted in (
+            (ca, binding.DONE),
+            (b"none", binding.DONE),
+            (other, binding.LOST),
+            (b"", binding.LOST),
+            (other + ca, binding.DONE),
+        ):
             becomes(data)
             same(f"{data[:30]} {len(data)}", wanted, connects(front.address, tls)[0])
 
@@ -548,7 +767,9 @@ def test_sessions_are_of_one_host():
     only = AUTHORITY.make("only", "IP:127.0.0.1")
     with Service() as service, terminated(service, only) as front:
         tls = binding.Tls(CA)
-        same("each of them", [binding.DONE] * 3, [connects(front.address, tls)[0] for _ in range(3)])
+        same(
+            "each of them", [binding.DONE] * 3, [connects(front.address, tls)[0] for _ in range(3)]
+        )
         same("taken up again", (3, 2), (front.shaken, front.reused))
         found, why = connects(f"localhost:{front.port}", tls)
         same("another name", (binding.LOST, True), (found, "hostname mismatch" in why))

@@ -31,7 +31,11 @@ import wire  # noqa: E402
 
 def plain_environment(**more):
     """That of this process, but for the sanitizers' library, which is for the client alone."""
-    kept = {name: value for name, value in os.environ.items() if name not in ("LD_PRELOAD", "ASAN_OPTIONS")}
+    kept = {
+        name: value
+        for name, value in os.environ.items()
+        if name not in ("LD_PRELOAD", "ASAN_OPTIONS")
+    }
     return {**kept, **more}
 
 
@@ -44,14 +48,17 @@ def others_sleep():
     own = threading.get_native_id()
     tasks = [task for task in pathlib.Path("/proc/self/task").iterdir() if int(task.name) != own]
     try:
-        return all((task / "stat").read_text().rpartition(")")[2].split()[0] == "S" for task in tasks)
+        return all(
+            (task / "stat").read_text().rpartition(")")[2].split()[0] == "S" for task in tasks
+        )
     except OSError:
         return False  # one has just ended
 
 
 def let_others_sleep():
     """The sanitizers' allocator of gcc 12 knows no fork: where another thread is in it, as one that ends, a child would wait for that thread
-    for ever. So a fork waits until all others sleep, as they do in the end: but for one that looks for its reply awake."""
+    for ever. So a fork waits until all others sleep, as they do in the end: but for one that looks for its reply awake.
+    """
     deadline = time.monotonic() + 5
     while not others_sleep() and time.monotonic() < deadline:
         time.sleep(0.0002)
@@ -64,11 +71,36 @@ if "asan" in os.environ.get("LD_PRELOAD", ""):
 class Service:
     """Ends with the block that it is used in."""
 
-    def __init__(self, table=TABLE, primary=2, dbs=1, workers=16, connections=4294967295, audit=16777216, listen=None,
-                 prefix=(), quiet=False, text=None, idle_polls=None):
+    def __init__(
+        self,
+        table=TABLE,
+        primary=2,
+        dbs=1,
+        workers=16,
+        connections=4294967295,
+        audit=16777216,
+        listen=None,
+        prefix=(),
+        quiet=False,
+        text=None,
+        idle_polls=None,
+    ):
         """`text` is that of the table, in place of a file."""
-        words = ["serve", "--listen", listen or f"{HOST}:0", "--primary", primary, "--dbs", dbs, "--workers", workers,
-                 "--connections", connections, "--audit", audit]
+        words = [
+            "serve",
+            "--listen",
+            listen or f"{HOST}:0",
+            "--primary",
+            primary,
+            "--dbs",
+            dbs,
+            "--workers",
+            workers,
+            "--connections",
+            connections,
+            "--audit",
+            audit,
+        ]
         if idle_polls is not None:
             words += ["--idle-polls", idle_polls]
         # The service has read its table once it listens.
@@ -77,8 +109,13 @@ class Service:
                 file.write(text), file.flush()
                 table = file.name
             words = list(prefix) + [PROGRAM] + [str(word) for word in [*words, "--table", table]]
-            self.process = subprocess.Popen(words, stdout=subprocess.PIPE, text=True, env=plain_environment(**PRELOADED),
-                                            stderr=subprocess.DEVNULL if quiet else None)
+            self.process = subprocess.Popen(
+                words,
+                stdout=subprocess.PIPE,
+                text=True,
+                env=plain_environment(**PRELOADED),
+                stderr=subprocess.DEVNULL if quiet else None,
+            )
             line = self.process.stdout.readline().split()
         if len(line) != 2 or line[0] != "listening":
             raise RuntimeError(f"the service did not start: {line}")
@@ -126,7 +163,12 @@ class Asker:
         self.close()
 
     def once(self, op, rest=b"", epoch=None):
-        body = wire.head(self.principal, self.role, op, self.epoch if epoch is None else epoch, self.database) + rest
+        body = (
+            wire.head(
+                self.principal, self.role, op, self.epoch if epoch is None else epoch, self.database
+            )
+            + rest
+        )
         return self.carry(framed(body))[4:]
 
     def carry(self, frame):
@@ -303,7 +345,9 @@ class Proxy:
                 if carried is None:
                     self.cuts += 1
                     return
-                replies.append(framed(carried) if isinstance(carried, Answer) else exchange(server, carried))
+                replies.append(
+                    framed(carried) if isinstance(carried, Answer) else exchange(server, carried)
+                )
             if not self.holds():
                 client.sendall(b"".join(replies))
                 replies = []

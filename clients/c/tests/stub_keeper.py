@@ -29,13 +29,23 @@ def table_of(name, run, is_open=True, text=None):
     """The table of a run, as the keepers make it of that of the database."""
     table = tomllib.loads(text or TABLE.read_text())
     principals = [(KEEPER, token_of(SECRET, name, run))]
-    principals += [(each["id"], token_of(bytes.fromhex(each["token"]), name, run)) for each in table["principal"]]
+    principals += [
+        (each["id"], token_of(bytes.fromhex(each["token"]), name, run))
+        for each in table["principal"]
+    ]
     rows = [{"verdict": "allow", "who": KEEPER}]
-    rows += [{"verdict": "deny", "op": ["set_table"]}] if is_open else [
-        {"verdict": "deny", "role": role} for role in ("primary", "page_server", "operator")]
-    lines = [f'[[principal]]\nid = {number}\ntoken = "{token.hex()}"\n' for number, token in principals]
+    rows += (
+        [{"verdict": "deny", "op": ["set_table"]}]
+        if is_open
+        else [{"verdict": "deny", "role": role} for role in ("primary", "page_server", "operator")]
+    )
+    lines = [
+        f'[[principal]]\nid = {number}\ntoken = "{token.hex()}"\n' for number, token in principals
+    ]
     for row in rows + table["row"]:
-        lines.append("[[row]]\n" + "".join(f"{key} = {json.dumps(value)}\n" for key, value in row.items()))
+        lines.append(
+            "[[row]]\n" + "".join(f"{key} = {json.dumps(value)}\n" for key, value in row.items())
+        )
     return "\n".join(lines)
 
 
@@ -48,7 +58,9 @@ class Keyed(Asker):
 
     def once(self, op, rest=b"", epoch=None):
         epoch = self.epoch if epoch is None else epoch
-        return self.carry(framed(wire.head(self.principal, self.role, op, epoch, 0, self.key) + rest))[4:]
+        return self.carry(
+            framed(wire.head(self.principal, self.role, op, epoch, 0, self.key) + rest)
+        )[4:]
 
 
 class Generation:
@@ -79,8 +91,13 @@ class Generation:
         """What follows this position: without their LSNs."""
         with self.asker(wire.SECONDARY) as asker:
             hard = asker.status()[2]
-            found = {int.from_bytes(block[:8], "big"): block[8:] for block in asker.blocks(position - self.shift + 1)}
-            return [found.get(lsn, EMPTY_HEAD) for lsn in range(position - self.shift + 1, hard + 1)]
+            found = {
+                int.from_bytes(block[:8], "big"): block[8:]
+                for block in asker.blocks(position - self.shift + 1)
+            }
+            return [
+                found.get(lsn, EMPTY_HEAD) for lsn in range(position - self.shift + 1, hard + 1)
+            ]
 
     def images(self, position):
         """The records of all pages at a position, page 0 last; of one without an end mark none."""
@@ -152,7 +169,10 @@ class StubKeeper:
         self.now = Generation(self, 1)
         self.turns = Turns(name, 1, self.after)
         self.old, self.lines = [], []
-        self.proofs, self.unproved = [], []  # what was proved; and what was asked without, which is refused
+        self.proofs, self.unproved = (
+            [],
+            [],
+        )  # what was proved; and what was asked without, which is refused
         self.says_nonce = True
         keeper = self
 
@@ -173,7 +193,9 @@ class StubKeeper:
             allow_reuse_address = daemon_threads = True
 
         self.server = Server(("127.0.0.1", 0), Lines)
-        self.address = self.told_lines = "127.0.0.1:%d" % self.server.server_address[1]  # and what clients are told
+        self.address = self.told_lines = (
+            "127.0.0.1:%d" % self.server.server_address[1]
+        )  # and what clients are told
         threading.Thread(target=self.server.serve_forever, args=(0.02,), daemon=True).start()
 
     def __enter__(self):
@@ -224,10 +246,17 @@ class StubKeeper:
             line.say(*self.answer(words))
 
     def prove(self, line, name, principal, code, of):
-        tokens = {each["id"]: bytes.fromhex(each["token"]) for each in tomllib.loads(TABLE.read_text())["principal"]}
+        tokens = {
+            each["id"]: bytes.fromhex(each["token"])
+            for each in tomllib.loads(TABLE.read_text())["principal"]
+        }
         text = f"prove {line.nonce} {name} {principal} {of.removeprefix('of=')}"
         wanted = hmac.new(tokens[int(principal)], text.encode(), hashlib.sha256).hexdigest()
-        line.is_proved = (name, code, of.split("/")[0]) == (self.name, wanted, self.of().split("/")[0])
+        line.is_proved = (name, code, of.split("/")[0]) == (
+            self.name,
+            wanted,
+            self.of().split("/")[0],
+        )
         self.proofs.append((int(principal), line.is_proved))
 
     def turn(self, line, words):
@@ -236,9 +265,25 @@ class StubKeeper:
                 case ["turn", _, *_, of] if of.startswith("of=") and of != self.of():
                     line.say("elsewhere", self.name, of)
                 case ["turn", _, *how]:
-                    self.turns.ask(line, now="now" in how, mine="mine" in how, heartbeat="heartbeat" in how, slices="slices" in how)
+                    self.turns.ask(
+                        line,
+                        now="now" in how,
+                        mine="mine" in how,
+                        heartbeat="heartbeat" in how,
+                        slices="slices" in how,
+                    )
                 case ["back", _, *_]:
-                    self.turns.back(line, next((int(word.removeprefix("epoch=")) for word in words if word.startswith("epoch=")), None))
+                    self.turns.back(
+                        line,
+                        next(
+                            (
+                                int(word.removeprefix("epoch="))
+                                for word in words
+                                if word.startswith("epoch=")
+                            ),
+                            None,
+                        ),
+                    )
                 case ["hold", _, *_]:
                     self.turns.hold(line)
 
@@ -259,9 +304,23 @@ class StubKeeper:
                     now = self.now
                     if not self.is_published:
                         return "nowhere", name
-                    return ("at", name, now.number, now.run, now.address, len(self.archive), self.told_lines, now.base, now.shift,
-                            self.ends.get(now.number - 1, 0), self.of(), *self.more)
-                case ["durable", name, generation, position, of] if of == self.of(f"run{generation}"):
+                    return (
+                        "at",
+                        name,
+                        now.number,
+                        now.run,
+                        now.address,
+                        len(self.archive),
+                        self.told_lines,
+                        now.base,
+                        now.shift,
+                        self.ends.get(now.number - 1, 0),
+                        self.of(),
+                        *self.more,
+                    )
+                case ["durable", name, generation, position, of] if of == self.of(
+                    f"run{generation}"
+                ):
                     return *self.durable(name, int(generation), int(position)), of
         return ("what",)
 

@@ -62,10 +62,14 @@ def test_a_turn_is_given_back():
 def test_a_turn_is_given_back_where_a_begin_fails():
     with StubKeeper() as keeper:
         connection, other, told = amid_a_transaction(keeper), named(keeper, 5, move=300), []
-        thread = threading.Thread(target=lambda: told.append(code_of(lambda: other.execute("begin immediate"))))
+        thread = threading.Thread(
+            target=lambda: told.append(code_of(lambda: other.execute("begin immediate")))
+        )
         thread.start()
         until(lambda: keeper.turns._waiting, "another waits")
-        keeper.rule = lambda frame: None if int.from_bytes(frame[4:8], "big") == 5 else frame  # its principal
+        keeper.rule = (
+            lambda frame: None if int.from_bytes(frame[4:8], "big") == 5 else frame
+        )  # its principal
         connection.execute("commit")
         thread.join()
         same("told", ["SQLITE_IOERR"], told)
@@ -118,11 +122,11 @@ def test_a_child_has_no_turn():
 
 
 @contextlib.contextmanager
-def for_ever(name):
-    """A time of the keeper's that does not end: the first turn of a generation is for who had the last one of the one before (EARLY), or
-    a turn that is wanted back is waited for (GRACE), until the test ends that."""
+def for_ever(name, seconds=3600):
+    """A time of the keeper's that does not end, or so soon: the first turn of a generation is for who had the last one of the one before
+    (EARLY), or a turn that is wanted back is waited for (GRACE), until the test ends that."""
     before = getattr(turns, name)
-    setattr(turns, name, 3600)
+    setattr(turns, name, seconds)
     try:
         yield
     finally:
@@ -160,10 +164,26 @@ def test_the_first_write_of_a_generation_by_one_who_is_alone_and_waits_for_nobod
     with StubKeeper() as keeper:
         connection = named(keeper, busy=0)
         connection.execute("create table t(a, b)")
-        for number, event in enumerate((lambda: keeper.succeed(), lambda: keeper.die(), lambda: (keeper.succeed(), forget(keeper)))):
+        for number, event in enumerate(
+            (
+                lambda: keeper.succeed(),
+                lambda: keeper.die(),
+                lambda: (keeper.succeed(), forget(keeper)),
+            )
+        ):
             event()
             same("the first write", None, code_of(lambda: fill(connection, 1, first=number)))
         same("all of it", [0, 1, 2], rows(connection))
+
+
+def test_a_keeper_that_lives_may_take_longer_than_a_second_in_a_generation_that_begins():
+    """It waits for who wrote last, who has asked for nothing, and answers nobody else meanwhile; one that is late is no other."""
+    with for_ever("EARLY", 1.5), StubKeeper() as keeper:
+        connection = named(keeper, busy=0)
+        connection.execute("create table t(a, b)")
+        keeper.succeed()
+        same("the first write", None, code_of(lambda: fill(connection, 1)))
+        same("it has its turn", [0], rows(connection))
 
 
 def forget(keeper):
@@ -234,7 +254,9 @@ def signals_for_ever():
 @contextlib.contextmanager
 def no_connect():
     """An address at which no connection comes about, and none is refused: there is no room for one more."""
-    with socket.create_server(("127.0.0.1", 0), backlog=0) as listener, contextlib.ExitStack() as waiting:
+    with socket.create_server(
+        ("127.0.0.1", 0), backlog=0
+    ) as listener, contextlib.ExitStack() as waiting:
         for _ in range(4):
             each = waiting.enter_context(socket.socket())
             each.setblocking(False)
@@ -246,7 +268,11 @@ def test_a_turn_that_nobody_can_be_asked_for():
     """Who writes goes on without one in the end, whatever signals come meanwhile."""
     with StubKeeper() as keeper, no_connect() as lines:
         answer = keeper.answer
-        keeper.answer = lambda words: (*told[:6], lines, *told[7:]) if (told := answer(words))[0] == "at" else told
+        keeper.answer = (
+            lambda words: (*told[:6], lines, *told[7:])
+            if (told := answer(words))[0] == "at"
+            else told
+        )
         connection = named(keeper)
         connection.execute("pragma synchronous = off")
         with signals_for_ever():
@@ -273,7 +299,13 @@ def test_who_has_the_turn_reads_what_was_written():
         before = numbers(connection, "epoch", "round_trips")
         for number in range(5):
             connection.execute("update t set a = a + 1")
-        same("alone", (0, 5), tuple(now - then for now, then in zip(numbers(connection, "epoch", "round_trips"), before)))
+        same(
+            "alone",
+            (0, 5),
+            tuple(
+                now - then for now, then in zip(numbers(connection, "epoch", "round_trips"), before)
+            ),
+        )
 
 
 class Quarters:
@@ -326,8 +358,13 @@ def test_a_turn_that_is_in_use_is_not_passed_on():
             if is_kept:
                 connection.execute("begin immediate")
             holder, count = keeper.turns._holder, len(rows(connection))
-            waits = waits_for_a_turn(keeper) if not is_kept else fork(
-                lambda: (fill(waiting := named(keeper, busy=60), 1, first=count), rows(waiting)))
+            waits = (
+                waits_for_a_turn(keeper)
+                if not is_kept
+                else fork(
+                    lambda: (fill(waiting := named(keeper, busy=60), 1, first=count), rows(waiting))
+                )
+            )
             until(lambda: keeper.turns._waiting and not keeper.turns._hurried, "another waits")
             for _ in range(3 * turns.BEATS):
                 before = quarters.heard
@@ -345,7 +382,9 @@ def test_a_turn_that_is_kept_and_unused_comes_back_at_once():
             Quarters(keeper)
             connection = keep_the_turn(keeper)
             if first == "read":
-                same(f"read by another, {busy}", 30, in_child(lambda: upgrade(keeper, 30, busy=busy)))
+                same(
+                    f"read by another, {busy}", 30, in_child(lambda: upgrade(keeper, 30, busy=busy))
+                )
             else:
                 same("begun by another", None, begins(keeper, busy=busy))
             same("all of it", 30 + (first == "read"), len(rows(connection)))
@@ -367,7 +406,11 @@ def test_an_upgrade_waits_for_a_keeper_that_does_not_answer():
         keeper.turn = is_cut_once
         for busy, told in (0, "SQLITE_BUSY"), (60, None):
             asked.clear()
-            same(f"busy {busy}", told, in_child(lambda: code_of(lambda: upgrade(keeper, 0, busy=busy))))  # noqa: B023
+            same(
+                f"busy {busy}",
+                told,
+                in_child(lambda: code_of(lambda: upgrade(keeper, 0, busy=busy))),
+            )  # noqa: B023
 
 
 def test_an_upgrade_beside_a_transaction_is_busy():
@@ -398,9 +441,15 @@ def test_a_turn_is_not_kept_by_one_that_stands_still():
                     connection.execute("begin immediate")
                     fill(connection, 1)
                 os.kill(os.getpid(), signal.SIGSTOP)
-                return code_of(lambda: connection.execute("commit")) if not is_kept else upgrade(keeper, 31, busy=60)
+                return (
+                    code_of(lambda: connection.execute("commit"))
+                    if not is_kept
+                    else upgrade(keeper, 31, busy=60)
+                )
 
-            waits = fork(lambda: (os.write(writes, os.getpid().to_bytes(4, "big")), stands_still())[1])
+            waits = fork(
+                lambda: (os.write(writes, os.getpid().to_bytes(4, "big")), stands_still())[1]
+            )
             stopped = int.from_bytes(os.read(reads, 4), "big")
             os.waitpid(stopped, os.WUNTRACED)
             other = fork(lambda: code_of(lambda: fill(named(keeper, busy=60), 1, first=30)))
@@ -409,7 +458,11 @@ def test_a_turn_is_not_kept_by_one_that_stands_still():
             same("another writes", None, other())
             os.kill(stopped, signal.SIGCONT)
             same("told", 31 if is_kept else "SQLITE_BUSY_SNAPSHOT", waits())
-            same("what is there", list(range(32)) if is_kept else [30], rows(named(keeper, 3, mode="ro")))
+            same(
+                "what is there",
+                list(range(32)) if is_kept else [30],
+                rows(named(keeper, 3, mode="ro")),
+            )
             os.close(reads)
             os.close(writes)
 
@@ -438,7 +491,11 @@ def test_threads_write_in_the_order_of_asking():
         fill(connection, 1, first=6)
         for thread in threads:
             thread.join()
-        same("in this order", list(range(7)), [number for number, in connection.execute("select a from t order by rowid")])
+        same(
+            "in this order",
+            list(range(7)),
+            [number for number, in connection.execute("select a from t order by rowid")],
+        )
 
 
 def test_a_thread_that_waits_no_more_is_in_nobodys_way():
@@ -446,8 +503,14 @@ def test_a_thread_that_waits_no_more_is_in_nobodys_way():
         connection, told = amid_a_transaction(keeper), []
         impatient, patient = named(keeper, busy=0.2), named(keeper, busy=60)
         before = events()
-        threads = [threading.Thread(target=lambda each=each, number=number: told.append((number, code_of(
-            lambda: fill(each, 1, first=number))))) for number, each in enumerate((impatient, patient), 1)]
+        threads = [
+            threading.Thread(
+                target=lambda each=each, number=number: told.append(
+                    (number, code_of(lambda: fill(each, 1, first=number)))
+                )
+            )
+            for number, each in enumerate((impatient, patient), 1)
+        ]
         for number, thread in enumerate(threads, 1):
             thread.start()
             until(lambda: events() == before + number, "it waits")
@@ -527,7 +590,11 @@ def test_the_next_commit_does_not_wait_until_the_last_one_is_durable():
             same("a reader of what is durable", list(range(number)), rows(reader))
             archive_one(keeper)
             same("told", None, end())
-        same("all of them", (list(range(4)), "ok"), (rows(reader), one(connection, "pragma integrity_check")))
+        same(
+            "all of them",
+            (list(range(4)), "ok"),
+            (rows(reader), one(connection, "pragma integrity_check")),
+        )
         keeper.is_archiving = True
 
 
@@ -564,8 +631,16 @@ def test_who_is_given_the_turn_begins_by_one_message():
             same("asked", [wire.FAILOVER, wire.STATUS, wire.PULL], asked)
             fill(other, 1, first=2 * is_foreseen + 1)
             other.execute("commit")
-            same("asked", [wire.WRITE, wire.WRITE, wire.REPORT], [each for each in asked[3:] if each != wire.GET])
-        same("in this order", [0, 1, 2, 3], [number for number, in connection.execute("select a from t order by rowid")])
+            same(
+                "asked",
+                [wire.WRITE, wire.WRITE, wire.REPORT],
+                [each for each in asked[3:] if each != wire.GET],
+            )
+        same(
+            "in this order",
+            [0, 1, 2, 3],
+            [number for number, in connection.execute("select a from t order by rowid")],
+        )
 
 
 def test_a_transaction_that_reads_waits_for_no_turn():
@@ -599,7 +674,9 @@ def test_an_epoch_that_is_another_one_by_now():
             thread.start()
             until(lambda: keeper.turns._waiting, "it waits")
             if told is None:
-                keeper.rule = at_the_takeover(keeper, lambda: fill(opened_in(keeper.now), 1, first=100))
+                keeper.rule = at_the_takeover(
+                    keeper, lambda: fill(opened_in(keeper.now), 1, first=100)
+                )
             else:
                 back = keeper.turns.back
                 keeper.turns.back = lambda line, _=None, back=back, told=told: back(line, told)
@@ -607,7 +684,11 @@ def test_an_epoch_that_is_another_one_by_now():
             thread.join(30)
             true(f"{told}: it writes", not thread.is_alive())
             wanted = [0, 1] if told else [0, 1, 100]
-            same(f"{told}", (wanted, wanted, "ok"), (rows(connection), rows(other), one(other, "pragma integrity_check")))
+            same(
+                f"{told}",
+                (wanted, wanted, "ok"),
+                (rows(connection), rows(other), one(other, "pragma integrity_check")),
+            )
 
 
 def test_who_is_given_the_turn_reads_more_than_one_message_brings():
@@ -623,7 +704,11 @@ def test_who_is_given_the_turn_reads_more_than_one_message_brings():
         connection.execute("commit")
         thread.join()
         true("so many blocks", end_of(keeper) > before + 16)
-        same("all of it", (list(range(501)), "ok"), (rows(connection), one(other, "pragma integrity_check")))
+        same(
+            "all of it",
+            (list(range(501)), "ok"),
+            (rows(connection), one(other, "pragma integrity_check")),
+        )
 
 
 @contextlib.contextmanager
@@ -661,7 +746,9 @@ def in_a_loop(connection, level, first, count, ends=lambda: False):
 
 def loops(keeper, level, count):
     """Two processes write so many rows each, side by side."""
-    ends = [fork(lambda: in_a_loop(named(keeper, busy=60), level, first, count)) for first in (0, count)]
+    ends = [
+        fork(lambda: in_a_loop(named(keeper, busy=60), level, first, count)) for first in (0, count)
+    ]
     return [end() for end in ends]
 
 
@@ -674,8 +761,15 @@ def test_who_writes_one_transaction_after_the_other_has_a_slice_of_time():
             asked = heard(keeper, "turn")
             same("commits", [count] * 2, loops(keeper, level, count))
             sliced = sum("slices" in words for words in asked)
-            true(f"{level}: {len(asked)} times asked, {sliced} for slices", sliced == 0 if level == "full" else len(asked) < count and sliced)
-            same("all of them", (list(range(2 * count)), "ok"), (rows(reader), one(reader, "pragma integrity_check")))
+            true(
+                f"{level}: {len(asked)} times asked, {sliced} for slices",
+                sliced == 0 if level == "full" else len(asked) < count and sliced,
+            )
+            same(
+                "all of them",
+                (list(range(2 * count)), "ok"),
+                (rows(reader), one(reader, "pragma integrity_check")),
+            )
 
 
 def test_a_slice_of_one_that_writes_no_more_comes_back():
@@ -693,7 +787,11 @@ def test_a_slice_of_one_that_writes_no_more_comes_back():
         since = time.monotonic()
         count += in_a_loop(connection, "normal", count, 50)
         true(f"it goes on: {time.monotonic() - since:.1f} s", time.monotonic() - since < 20)
-        same("all of them", list(range(count)), [number for number in rows(connection) if number < 10000])
+        same(
+            "all of them",
+            list(range(count)),
+            [number for number in rows(connection) if number < 10000],
+        )
 
 
 def test_what_waits_for_the_archive_is_sent_again_in_its_order():
@@ -707,7 +805,11 @@ def test_what_waits_for_the_archive_is_sent_again_in_its_order():
             keeper.is_archiving = True
             same(f"{lost} lost: told", [None] * 3, [end() for end in ends])
             found = [number for number, in connection.execute("select a from t order by rowid")]
-            same("in their order", (list(range(3)), "ok"), (found, one(connection, "pragma integrity_check")))
+            same(
+                "in their order",
+                (list(range(3)), "ok"),
+                (found, one(connection, "pragma integrity_check")),
+            )
 
 
 def test_what_was_written_upon_a_commit_is_lost_with_it():
@@ -719,7 +821,11 @@ def test_what_was_written_upon_a_commit_is_lost_with_it():
         keeper.die(lost=2, others=overtaking)
         keeper.is_archiving = True
         same("told", [None, "SQLITE_IOERR_FSYNC", "SQLITE_IOERR_FSYNC"], [end() for end in ends])
-        same("what is there", ([0, 100], "ok"), (rows(connection), one(connection, "pragma integrity_check")))
+        same(
+            "what is there",
+            ([0, 100], "ok"),
+            (rows(connection), one(connection, "pragma integrity_check")),
+        )
 
 
 def test_who_has_not_read_what_waits_for_the_archive_does_not_write_in_its_place():
@@ -735,10 +841,19 @@ def test_who_has_not_read_what_waits_for_the_archive_does_not_write_in_its_place
 
         keeper.durable = held
         waits = waits_for_a_turn(keeper)
-        keeper.rule = lambda frame: frame if keeper.turns._waiting or end_of(keeper) < 2 else keeper.die(lost=1)
-        thread = threading.Thread(target=lambda: told.append(code_of(lambda: connection.execute("commit"))))
+        keeper.rule = (
+            lambda frame: frame
+            if keeper.turns._waiting or end_of(keeper) < 2
+            else keeper.die(lost=1)
+        )
+        thread = threading.Thread(
+            target=lambda: told.append(code_of(lambda: connection.execute("commit")))
+        )
         thread.start()
-        until(lambda: keeper.now.number > 1 and keeper.turns._waiting, "it waits in the next generation")
+        until(
+            lambda: keeper.now.number > 1 and keeper.turns._waiting,
+            "it waits in the next generation",
+        )
         keeper.rule, keeper.is_archiving = None, True
         may_answer.set()
         thread.join()
@@ -766,7 +881,11 @@ def test_a_turn_that_may_be_written_on_with_is_kept_until_the_commit_is_durable(
         fill(connection, 30, size=3000)
         connection.execute("delete from t")
 
-    for prepare, text in (keeps_the_lock, "insert into t values (1, 1)"), (writes_to_two, "commit"), (becomes_shorter, "vacuum"):
+    for prepare, text in (
+        (keeps_the_lock, "insert into t values (1, 1)"),
+        (writes_to_two, "commit"),
+        (becomes_shorter, "vacuum"),
+    ):
         with StubKeeper() as keeper, StubKeeper("stock") as other:
             connection = named(keeper)
             connection.execute("create table t(a, b)")

@@ -87,7 +87,11 @@ def test_a_connection_that_a_child_opens_is_its_own():
 
         epoch = one(parent, "pragma pagelog_writing_epoch")
         same("in a child", (str(int(epoch) + 1), "1"), in_child(child))
-        same("the parent", "SQLITE_READONLY", code_of(lambda: parent.execute("insert into t values (2)")))
+        same(
+            "the parent",
+            "SQLITE_READONLY",
+            code_of(lambda: parent.execute("insert into t values (2)")),
+        )
         parent.execute("pragma pagelog_check = 0")
         same("which reads on", [(1,)], parent.execute("select a from t").fetchall())
 
@@ -100,7 +104,9 @@ def test_children_that_read_and_write():
             with Service() as service:
                 parent = connect(service.address, check=1000)
                 parent.execute(TABLE)
-                children = [fork(lambda who=who: insert_rows(service.address, who)) for who in range(count)]
+                children = [
+                    fork(lambda who=who: insert_rows(service.address, who)) for who in range(count)
+                ]
                 counts.append(compare(service.address, [wait() for wait in children]))
                 parent.close()
     true("each had rows", min(counts) > 0)
@@ -128,8 +134,14 @@ def test_a_child_that_ends_leaves_the_parent_alone():
                 if not unwaited:
                     same("nothing was sent", before, frames[0])
             parent.execute("pragma pagelog_async_commits = 0")
-            same("the parent's connection", ("1", "0", "2"), tuple(one(parent, f"pragma pagelog_{name}") for name in
-                                                                   ("connects", "losses", "writing_epoch")))
+            same(
+                "the parent's connection",
+                ("1", "0", "2"),
+                tuple(
+                    one(parent, f"pragma pagelog_{name}")
+                    for name in ("connects", "losses", "writing_epoch")
+                ),
+            )
             same("rows", 50, one(reader(service.address), "select count(*) from t"))
 
 
@@ -140,8 +152,13 @@ def test_an_inherited_connection_refuses():
         parent.execute("create table t(a)")
 
         def use():
-            texts = ("select * from t", "insert into t values (9)", "begin immediate", "pragma pagelog_lsn",
-                     "pragma pagelog_async_commits = 1")
+            texts = (
+                "select * from t",
+                "insert into t values (9)",
+                "begin immediate",
+                "pragma pagelog_lsn",
+                "pragma pagelog_async_commits = 1",
+            )
             return [code_of(lambda: parent.execute(text).fetchall()) for text in texts]
 
         same("outside of a transaction", ["SQLITE_MISUSE"] * 5, in_child(use))
@@ -175,7 +192,9 @@ def test_a_fork_while_another_thread_waits_for_the_service():
         parent.execute("create table t(a)")
         goes_on.clear(), waits.clear()
         codes = []
-        thread = threading.Thread(target=lambda: codes.append(code_of(lambda: parent.execute("insert into t values (1)"))))
+        thread = threading.Thread(
+            target=lambda: codes.append(code_of(lambda: parent.execute("insert into t values (1)")))
+        )
         thread.start()
         waits.wait()
 
@@ -202,21 +221,31 @@ def test_a_transaction_that_a_child_inherits_while_another_thread_waits():
         return frame
 
     with Service() as service, Proxy(service.address, between=between) as proxy:
-        parent, other = connect(proxy.address, pages=1, check=3600000), connect(proxy.address, check=3600000)
+        parent, other = connect(proxy.address, pages=1, check=3600000), connect(
+            proxy.address, check=3600000
+        )
         parent.execute("create table t(a integer primary key, b)")
-        parent.executemany("insert into t values (?, randomblob(7000))", [(number,) for number in range(40)])
+        parent.executemany(
+            "insert into t values (?, randomblob(7000))", [(number,) for number in range(40)]
+        )
         other.execute("pragma cache_size = 2")
         parent.execute("begin immediate")
         parent.execute("update t set b = 'changed' where a = 1")
         waits.clear(), goes_on.clear()
-        thread = threading.Thread(target=lambda: one(other, "select count(b) from t where b is not null"))
+        thread = threading.Thread(
+            target=lambda: one(other, "select count(b) from t where b is not null")
+        )
         thread.start()
         waits.wait()
         same("in a child", None, in_child(lambda: code_of(parent.close)))
         goes_on.set()
         thread.join()
         parent.execute("commit")
-        same("in the parent", 1, one(reader(service.address), "select count(*) from t where b = 'changed'"))
+        same(
+            "in the parent",
+            1,
+            one(reader(service.address), "select count(*) from t where b = 'changed'"),
+        )
 
 
 def test_a_child_of_a_child():
@@ -228,10 +257,15 @@ def test_a_child_of_a_child():
             second = connect(service.address, check=3600000)
 
             def grandchild():
-                codes = [code_of(lambda: one(connection, "select count(*) from t")) for connection in (first, second)]
+                codes = [
+                    code_of(lambda: one(connection, "select count(*) from t"))
+                    for connection in (first, second)
+                ]
                 return codes, insert_rows(service.address, 1, 5)[0]
 
-            return in_child(grandchild), code_of(lambda: second.execute("insert into t values (0, 0, 0)"))
+            return in_child(grandchild), code_of(
+                lambda: second.execute("insert into t values (0, 0, 0)")
+            )
 
         found, code = in_child(child)
         same("in a grandchild", (["SQLITE_MISUSE"] * 2, list(range(5))), found)
@@ -259,9 +293,17 @@ def test_an_object_of_the_wire_is_its_process_own():
             binding.lib.pagelog_free(log.made)
             return found
 
-        wanted = binding.MALFORMED, binding.MALFORMED, "malformed: made before a fork, by another process"
+        wanted = (
+            binding.MALFORMED,
+            binding.MALFORMED,
+            "malformed: made before a fork, by another process",
+        )
         same("in a child", wanted, in_child(child))
-        same("in the parent", (binding.DONE, 1), (log.append(binding.numbered(1, 1)), log.counts.connects))
+        same(
+            "in the parent",
+            (binding.DONE, 1),
+            (log.append(binding.numbered(1, 1)), log.counts.connects),
+        )
 
 
 if __name__ == "__main__":

@@ -14,7 +14,9 @@ from database import connect, one, reader
 from service import Proxy, Service, random_plan
 
 PROCESS = pathlib.Path(__file__).resolve().parent / "process.py"
-ROW = "create table row(id integer primary key autoincrement, name text unique, epoch int, body blob)"
+ROW = (
+    "create table row(id integer primary key autoincrement, name text unique, epoch int, body blob)"
+)
 
 
 class Started:
@@ -22,8 +24,12 @@ class Started:
 
     def __init__(self, *words):
         self.said = tempfile.TemporaryFile("w+")
-        self.process = subprocess.Popen([sys.executable, "-B", str(PROCESS)] + [str(word) for word in words],
-                                        stdin=subprocess.PIPE, stdout=self.said, stderr=subprocess.STDOUT)
+        self.process = subprocess.Popen(
+            [sys.executable, "-B", str(PROCESS)] + [str(word) for word in words],
+            stdin=subprocess.PIPE,
+            stdout=self.said,
+            stderr=subprocess.STDOUT,
+        )
 
     def lines(self):
         """The whole lines that it has written so far. The file is opened anew, since a place in it would be the writer's too."""
@@ -62,7 +68,13 @@ class Said:
     """What writers said of their rows."""
 
     def __init__(self):
-        self.done, self.refused, self.doubt, self.tried, self.codes = set(), set(), set(), set(), set()
+        self.done, self.refused, self.doubt, self.tried, self.codes = (
+            set(),
+            set(),
+            set(),
+            set(),
+            set(),
+        )
 
     def read(self, lines):
         for line in lines:
@@ -117,7 +129,11 @@ class SaidUnwaited:
             epochs.append(epoch)
         same("one writer after the other", sorted(epochs), epochs)
         for epoch, names in there.items():
-            same("in their order, and none in between is lacking", self.done.get(epoch, [])[: len(names)], names)
+            same(
+                "in their order, and none in between is lacking",
+                self.done.get(epoch, [])[: len(names)],
+                names,
+            )
         return len(epochs), sum(len(names) for names in self.done.values())
 
 
@@ -133,20 +149,26 @@ def look_for_torn_transactions(unwaited):
             "create table account(id integer primary key, money int, note blob); create table moment(number int);"
             "insert into moment values (0);"
             "with recursive g(v) as (select 0 union all select v + 1 from g where v < 199)"
-            "insert into account select v, 1000, randomblob(100) from g;")
+            "insert into account select v, 1000, randomblob(100) from g;"
+        )
         connection.close()
         writer = Started("accounts", service.address, unwaited)
         lookers = [Started("looks", service.address) for _ in range(2)]
-        wait_until(lambda: writer.count("moment") >= wanted and all(looker.count("look") >= wanted for looker in lookers),
-                   [writer, *lookers])
+        wait_until(
+            lambda: writer.count("moment") >= wanted
+            and all(looker.count("look") >= wanted for looker in lookers),
+            [writer, *lookers],
+        )
         said = [looker.finish() for looker in lookers]
         acknowledged = int(writer.kill()[-1].split()[1])
         there = one(reader(service.address), "select number from moment")
         true("the last commit is there", acknowledged - unwaited <= there <= acknowledged + 1)
         moments = [len(set(lines)) for lines in said]
         true("readers saw it move", all(count > 1 for count in moments))
-        return (f"{acknowledged} transactions, readers looked {[len(lines) for lines in said]} times "
-                f"and saw {moments} states")
+        return (
+            f"{acknowledged} transactions, readers looked {[len(lines) for lines in said]} times "
+            f"and saw {moments} states"
+        )
 
 
 def test_failovers():
@@ -154,10 +176,14 @@ def test_failovers():
     wanted, refused = (3000, 300) if LONG else (100, 10)
     with Service() as service:
         connect(service.address).execute(ROW)
-        writers = [Started("rows", service.address, principal, principal, 2300000) for principal in (2, 5)]
+        writers = [
+            Started("rows", service.address, principal, principal, 2300000) for principal in (2, 5)
+        ]
         numbers, failovers = random.Random(7), 0
         with service.operator() as operator:
-            while counted(writers, "done") < wanted or counted(writers, "refused", "doubt") < refused:
+            while (
+                counted(writers, "done") < wanted or counted(writers, "refused", "doubt") < refused
+            ):
                 before, more = counted(writers, "done"), numbers.randrange(8)
                 wait_until(lambda: counted(writers, "done") >= before + more, writers)
                 time.sleep(numbers.random() * 0.05)
@@ -168,9 +194,14 @@ def test_failovers():
         for writer in writers:
             said.read(writer.finish())
         rows = said.compare(service.address)
-        true(f"codes {said.codes}", said.codes <= {"SQLITE_READONLY", "SQLITE_IOERR_FSYNC", "SQLITE_IOERR"})
-        return (f"{failovers} failovers beside those of the writers: {len(said.done)} acknowledged, "
-                f"{len(said.refused)} refused, {len(said.doubt)} in doubt, {rows} rows")
+        true(
+            f"codes {said.codes}",
+            said.codes <= {"SQLITE_READONLY", "SQLITE_IOERR_FSYNC", "SQLITE_IOERR"},
+        )
+        return (
+            f"{failovers} failovers beside those of the writers: {len(said.done)} acknowledged, "
+            f"{len(said.refused)} refused, {len(said.doubt)} in doubt, {rows} rows"
+        )
 
 
 def test_killed_writers():
@@ -194,12 +225,15 @@ def test_killed_writers():
 def test_unwaited_writers_are_killed_and_fenced():
     """Of what each of them committed and nobody waited for, the first transactions are there, and no later one without them."""
     rounds = 100 if LONG else 8
-    with Service(workers=64) as service, \
-            Proxy(service.address, plan=random_plan(11, 3000, 400000)) as proxy, service.operator() as operator:
+    with Service(workers=64) as service, Proxy(
+        service.address, plan=random_plan(11, 3000, 400000)
+    ) as proxy, service.operator() as operator:
         connect(service.address).execute(ROW)
         said, numbers = SaidUnwaited(), random.Random(12)
         for i in range(rounds):
-            writer = Started("rows", proxy.address if i % 2 else service.address, 2, 1000 + i, 300000, 64)
+            writer = Started(
+                "rows", proxy.address if i % 2 else service.address, 2, 1000 + i, 300000, 64
+            )
             wanted = numbers.randrange(5, 60)
             wait_until(lambda: writer.count("done") >= wanted, [writer])
             if i % 4 > 1:
@@ -215,8 +249,9 @@ def test_unwaited_writers_are_killed_and_fenced():
 def test_cut_connections():
     """Each connection is cut after a random number of bytes; no commit fails by it."""
     wanted = 1500 if LONG else 60
-    with Service(workers=64) as service, \
-            Proxy(service.address, plan=random_plan(9, 3000, 400000)) as proxy:
+    with Service(workers=64) as service, Proxy(
+        service.address, plan=random_plan(9, 3000, 400000)
+    ) as proxy:
         connect(service.address).execute(ROW)
         writer = Started("rows", proxy.address, 2, 1, 300000)
         wait_until(lambda: writer.count("done") >= wanted and proxy.cuts >= 10, [writer])
@@ -229,18 +264,27 @@ def test_cut_connections():
 
 def test_failovers_and_cuts_at_once():
     wanted = 1500 if LONG else 60
-    with Service(workers=64) as service, \
-            Proxy(service.address, plan=random_plan(10, 3000, 200000)) as proxy:
+    with Service(workers=64) as service, Proxy(
+        service.address, plan=random_plan(10, 3000, 200000)
+    ) as proxy:
         connect(service.address).execute(ROW)
-        writers = [Started("rows", proxy.address, principal, principal, 300000) for principal in (2, 5)]
-        wait_until(lambda: counted(writers, "done") >= wanted and counted(writers, "refused", "doubt") >= 3 and
-                   proxy.cuts >= 10, writers)
+        writers = [
+            Started("rows", proxy.address, principal, principal, 300000) for principal in (2, 5)
+        ]
+        wait_until(
+            lambda: counted(writers, "done") >= wanted
+            and counted(writers, "refused", "doubt") >= 3
+            and proxy.cuts >= 10,
+            writers,
+        )
         said = Said()
         for writer in writers:
             said.read(writer.finish())
         rows = said.compare(service.address)
-        return (f"{proxy.cuts} cuts and failovers: {len(said.done)} acknowledged, {len(said.refused)} refused, "
-                f"{len(said.doubt)} in doubt, {rows} rows")
+        return (
+            f"{proxy.cuts} cuts and failovers: {len(said.done)} acknowledged, {len(said.refused)} refused, "
+            f"{len(said.doubt)} in doubt, {rows} rows"
+        )
 
 
 def test_two_writers_of_one_principal():
@@ -249,7 +293,10 @@ def test_two_writers_of_one_principal():
     with Service() as service:
         connect(service.address).execute(ROW)
         writers = [Started("rows", service.address, 2, seed, 100000) for seed in (1, 2)]
-        wait_until(lambda: counted(writers, "done") >= wanted and counted(writers, "refused") >= refused, writers)
+        wait_until(
+            lambda: counted(writers, "done") >= wanted and counted(writers, "refused") >= refused,
+            writers,
+        )
         said = Said()
         for writer in writers:
             said.read(writer.finish())

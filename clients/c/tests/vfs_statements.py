@@ -12,36 +12,65 @@ import time
 
 from check import LONG, MODEL, run, same, true
 from database import EXTENSION, TOKENS, code_of, connect, one, reader, uri
-from service import CLIENT, Answer, Asker, Peer, Proxy, START_TABLE, TABLE, Service, failing_over, plain_environment, wire
+from service import (
+    CLIENT,
+    Answer,
+    Asker,
+    Peer,
+    Proxy,
+    START_TABLE,
+    TABLE,
+    Service,
+    failing_over,
+    plain_environment,
+    wire,
+)
 
 COUNT = 40000 if LONG else 300 if MODEL else 10000
 
 
 def mixed(numbers, count):
     """Statements of many kinds, each list a transaction; some fail, some are rolled back."""
-    yield ["create table account(id integer primary key, money int, note text)",
-           "create table blob(id integer primary key, data blob)", "create index by_note on account(note)",
-           "insert into account select value, 1000, 'n' || value from generate(200)"]
+    yield [
+        "create table account(id integer primary key, money int, note text)",
+        "create table blob(id integer primary key, data blob)",
+        "create index by_note on account(note)",
+        "insert into account select value, 1000, 'n' || value from generate(200)",
+    ]
     for i in range(count):
         kind, a, b = numbers.random(), numbers.randrange(200), numbers.randrange(200)
         if kind < 0.5:
-            yield [f"update account set money = money - {a} where id = {a}",
-                   f"update account set money = money + {a} where id = {b}"]
+            yield [
+                f"update account set money = money - {a} where id = {a}",
+                f"update account set money = money + {a} where id = {b}",
+            ]
         elif kind < 0.65:
-            yield [f"insert into blob(data) values (x'{numbers.randbytes(numbers.randrange(3000)).hex()}')"]
+            yield [
+                f"insert into blob(data) values (x'{numbers.randbytes(numbers.randrange(3000)).hex()}')"
+            ]
         elif kind < 0.75:
             yield [f"delete from blob where id % 37 = {a % 37}"]
         elif kind < 0.82:
-            yield [f"update account set note = 'x{a}' where id = {b}", "savepoint s",
-                   f"insert into blob(data) values ('{a}')", "rollback to s", "release s"]
+            yield [
+                f"update account set note = 'x{a}' where id = {b}",
+                "savepoint s",
+                f"insert into blob(data) values ('{a}')",
+                "rollback to s",
+                "release s",
+            ]
         elif kind < 0.88:
             yield [f"update account set note = 'lost' where id < {b}", "rollback"]
         elif kind < 0.93:
-            yield [f"update account set note = 'kept' where id = {b}", "insert into account values (1, 1, 'twice')"]
+            yield [
+                f"update account set note = 'kept' where id = {b}",
+                "insert into account values (1, 1, 'twice')",
+            ]
         elif kind < 0.995:
             yield [f"update account set note = note || '{a}' where id % 7 = {a % 7}"]
         else:
-            yield [f"insert into blob(data) select randomized({a}, value) from generate({numbers.randrange(2200 if LONG else 700)})"]
+            yield [
+                f"insert into blob(data) select randomized({a}, value) from generate({numbers.randrange(2200 if LONG else 700)})"
+            ]
         if i == count // 2:
             yield ["vacuum"]
 
@@ -55,7 +84,9 @@ def unwaiting(address, **more):
 
 def prepare(connection):
     """Functions in place of what a plain list of statements lacks."""
-    connection.create_function("randomized", 2, lambda a, b: random.Random(a * 1000003 + b).randbytes(700))
+    connection.create_function(
+        "randomized", 2, lambda a, b: random.Random(a * 1000003 + b).randbytes(700)
+    )
 
 
 def play(connection, transactions):
@@ -73,8 +104,10 @@ def play(connection, transactions):
 
 def generated(statements):
     """The statements with `generate(N)` spelled out."""
-    spelled = ("(with recursive g(value) as (select 0 union all select value + 1 from g where value + 1 < \\1) "
-               "select value from g)")
+    spelled = (
+        "(with recursive g(value) as (select 0 union all select value + 1 from g where value + 1 < \\1) "
+        "select value from g)"
+    )
     return [re.sub(r"generate\((\d+)\)", spelled, statement) for statement in statements]
 
 
@@ -82,7 +115,9 @@ def test_mixed_transactions_beside_plain_sqlite():
     """Once each of them waits, and once nobody does."""
     transactions = [generated(statements) for statements in mixed(random.Random(1), COUNT)]
     with Service(dbs=2) as service:
-        ours, plain = connect(service.address, check=20), sqlite3.connect(":memory:", isolation_level=None)
+        ours, plain = connect(service.address, check=20), sqlite3.connect(
+            ":memory:", isolation_level=None
+        )
         unwaited = unwaiting(service.address, check=20, db=1)
         for connection in (ours, unwaited, plain):
             prepare(connection)
@@ -110,10 +145,22 @@ def test_page_sizes():
                 connection.execute("insert into t select a + 1, randomblob(3000) from t")
             connection.execute("delete from t where rowid % 3 = 0")
             connection.execute("vacuum")
-            same("size", (size, "ok"), (one(connection, "pragma page_size"), one(connection, "pragma integrity_check")))
+            same(
+                "size",
+                (size, "ok"),
+                (one(connection, "pragma page_size"), one(connection, "pragma integrity_check")),
+            )
             follower = reader(service.address)
-            same("reader", (size, "ok"), (one(follower, "pragma page_size"), one(follower, "pragma integrity_check")))
-            same("rows", one(connection, "select total(length(b)) from t"), one(follower, "select total(length(b)) from t"))
+            same(
+                "reader",
+                (size, "ok"),
+                (one(follower, "pragma page_size"), one(follower, "pragma integrity_check")),
+            )
+            same(
+                "rows",
+                one(connection, "select total(length(b)) from t"),
+                one(follower, "select total(length(b)) from t"),
+            )
     with Service() as service:
         connection = connect(service.address)
         connection.execute("create table t(a)")
@@ -169,14 +216,24 @@ def test_a_follower_of_a_writer_that_keeps_the_lock():
         writer, follower = connect(service.address), reader(service.address)
         same("exclusive", "exclusive", one(writer, "pragma locking_mode = exclusive"))
         writer.execute("create table account(id integer primary key, money int, pad blob)")
-        writer.execute("with recursive g(v) as (select 1 union all select v + 1 from g where v < 50)"
-                       "insert into account select v, 100, zeroblob(5000) from g")
+        writer.execute(
+            "with recursive g(v) as (select 1 union all select v + 1 from g where v < 50)"
+            "insert into account select v, 100, zeroblob(5000) from g"
+        )
         for number in range(1, 21):
             same("before", 101 - number, one(follower, "select money from account where id = 1"))
             version = one(follower, "pragma data_version")
-            writer.execute(f"update account set money = case id when 1 then money - 1 else money + 1 end where id in (1, {2 * number})")
-            same("after", (100 - number, 5000), (one(follower, "select money from account where id = 1"),
-                                                 one(follower, "select sum(money) from account")))
+            writer.execute(
+                f"update account set money = case id when 1 then money - 1 else money + 1 end where id in (1, {2 * number})"
+            )
+            same(
+                "after",
+                (100 - number, 5000),
+                (
+                    one(follower, "select money from account where id = 1"),
+                    one(follower, "select sum(money) from account"),
+                ),
+            )
             true("another version", one(follower, "pragma data_version") != version)
 
 
@@ -192,7 +249,11 @@ def test_connections_of_one_process_lock():
         second.execute("begin")
         one(second, "select count(*) from t")
         same("a commit waits for readers", "SQLITE_BUSY", code_of(lambda: first.execute("commit")))
-        same("who comes now waits too", "SQLITE_BUSY", code_of(lambda: connect(service.address, busy=0).execute("select * from t").fetchall()))
+        same(
+            "who comes now waits too",
+            "SQLITE_BUSY",
+            code_of(lambda: connect(service.address, busy=0).execute("select * from t").fetchall()),
+        )
         second.execute("commit")
         first.execute("commit")
         same("seen", 1, one(second, "select count(*) from t"))
@@ -201,8 +262,10 @@ def test_connections_of_one_process_lock():
 def test_threads_of_one_process():
     wanted, errors, counts = 2000 if LONG else 150, [], [0, 0]
     with Service() as service:
-        connect(service.address).executescript("create table account(id integer primary key, money int);"
-                                               "insert into account values (1, 500), (2, 500);")
+        connect(service.address).executescript(
+            "create table account(id integer primary key, money int);"
+            "insert into account values (1, 500), (2, 500);"
+        )
         start = connect(service.address)
 
         def write():
@@ -227,7 +290,10 @@ def test_threads_of_one_process():
             except Exception as error:  # noqa: BLE001
                 errors.append(error)
 
-        threads = [threading.Thread(target=guarded, args=(action,)) for action in (write, write, read, read)]
+        threads = [
+            threading.Thread(target=guarded, args=(action,))
+            for action in (write, write, read, read)
+        ]
         for thread in threads:
             thread.start()
         for thread in threads:
@@ -253,13 +319,23 @@ def test_a_second_writer_fences_the_first():
         same("it reads on", [(1,), (3,)], old.execute("select a from t").fetchall())
         new.execute("insert into t values (4)")
         same("and follows", 3, one(old, "select count(*) from t"))
-        same("and does not write", "SQLITE_READONLY", code_of(lambda: old.execute("insert into t values (5)")))
-        same("why", "fenced: epoch 2 is over, the current one is 3", one(old, "pragma pagelog_error"))
+        same(
+            "and does not write",
+            "SQLITE_READONLY",
+            code_of(lambda: old.execute("insert into t values (5)")),
+        )
+        same(
+            "why", "fenced: epoch 2 is over, the current one is 3", one(old, "pragma pagelog_error")
+        )
         same("no row of it", [(1,), (3,), (4,)], new.execute("select a from t").fetchall())
         old.close()
         again = connect(service.address, 2)
         again.execute("insert into t values (6)")
-        same("unless it opens again", "SQLITE_READONLY", code_of(lambda: new.execute("insert into t values (7)")))
+        same(
+            "unless it opens again",
+            "SQLITE_READONLY",
+            code_of(lambda: new.execute("insert into t values (7)")),
+        )
 
 
 def number_of(connection, name):
@@ -271,10 +347,18 @@ def test_commits_that_nobody_waits_for():
     with Service() as service:
         connection = connect(service.address, check=3600000, async_commits=30)
         connection.execute("create table t(a)")
-        for synchronous, unwaited, least, most in (("full", 30, 100, 100), ("normal", 30, 100, 100), ("off", 0, 100, 100),
-                                                   ("off", 30, 0, 10)):
+        for synchronous, unwaited, least, most in (
+            ("full", 30, 100, 100),
+            ("normal", 30, 100, 100),
+            ("off", 0, 100, 100),
+            ("off", 30, 0, 10),
+        ):
             connection.execute(f"pragma synchronous = {synchronous}")
-            same("unwaited", str(unwaited), one(connection, f"pragma pagelog_async_commits = {unwaited}"))
+            same(
+                "unwaited",
+                str(unwaited),
+                one(connection, f"pragma pagelog_async_commits = {unwaited}"),
+            )
             before = number_of(connection, "round_trips")
             for number in range(100):
                 connection.execute("insert into t values (?)", (number,))
@@ -295,7 +379,8 @@ def test_commits_that_nobody_waits_for():
 
 def test_a_commit_waits_at_the_limit():
     """The proxy holds all replies back until the report of a 31st commit has come. So 30 commits wait for nothing, and the
-    next one cannot find its replies there: it has to wait. Without the limit it would not; the window has room for 64."""
+    next one cannot find its replies there: it has to wait. Without the limit it would not; the window has room for 64.
+    """
     limit, reports = 30, [0]
 
     def between(frame):
@@ -306,14 +391,22 @@ def test_a_commit_waits_at_the_limit():
         first = connect(service.address)
         first.execute("create table t(a)")
         first.close()
-        with Proxy(service.address, between=between, holds=lambda: reports[0] % (limit + 1) > 0) as proxy:
-            connection = connect(proxy.address, check=3600000, async_commits=limit, timeout=60000, patience=1000)
+        with Proxy(
+            service.address, between=between, holds=lambda: reports[0] % (limit + 1) > 0
+        ) as proxy:
+            connection = connect(
+                proxy.address, check=3600000, async_commits=limit, timeout=60000, patience=1000
+            )
             connection.execute("pragma synchronous = off")
             same("no row yet", 0, one(connection, "select count(*) from t"))
             before = number_of(connection, "round_trips")
             for number in range(1, 3 * (limit + 1) + 1):
                 connection.execute("insert into t values (?)", (number,))
-                same(f"on their way after {number}", number % (limit + 1), number_of(connection, "on_their_way"))
+                same(
+                    f"on their way after {number}",
+                    number % (limit + 1),
+                    number_of(connection, "on_their_way"),
+                )
             same("round trips", 3, number_of(connection, "round_trips") - before)
             same("rows", number, one(reader(service.address), "select count(*) from t"))
             connection.close()
@@ -348,9 +441,13 @@ def test_lost_commits_and_a_connection_that_comes_after():
     between = lambda frame: may_pass.wait() and frame
     for is_reading in (False, True):
         may_pass.set()
-        with Service() as service, service.operator() as operator, Proxy(service.address, between=between) as proxy:
+        with Service() as service, service.operator() as operator, Proxy(
+            service.address, between=between
+        ) as proxy:
             old, looker = (unwaiting(proxy.address, check=3600000) for _ in range(2))
-            old.executescript("pragma page_size = 4096; create table t(a); insert into t values (1);")
+            old.executescript(
+                "pragma page_size = 4096; create table t(a); insert into t values (1);"
+            )
             old.execute("pragma pagelog_async_commits = 64")
             operator.failover(2)
             may_pass.clear()
@@ -359,7 +456,11 @@ def test_lost_commits_and_a_connection_that_comes_after():
                 looker.execute("begin")
                 same("what nobody waited for", 2, one(looker, "select count(*) from t"))
             may_pass.set()
-            same("reported", "SQLITE_IOERR_FSYNC", code_of(lambda: old.execute("pragma pagelog_async_commits = 0")))
+            same(
+                "reported",
+                "SQLITE_IOERR_FSYNC",
+                code_of(lambda: old.execute("pragma pagelog_async_commits = 0")),
+            )
             new = connect(proxy.address, busy=0.1)
             if is_reading:
                 same("waits", "SQLITE_BUSY", code_of(lambda: one(new, "select count(*) from t")))
@@ -367,7 +468,9 @@ def test_lost_commits_and_a_connection_that_comes_after():
             same("what is there", [(1,)], new.execute("select a from t").fetchall())
             same("its pages", 4096, one(new, "pragma page_size"))
             same("all", [(1,)], old.execute("select a from t").fetchall())
-            same("it has taken over", None, code_of(lambda: new.execute("insert into t values (3)")))
+            same(
+                "it has taken over", None, code_of(lambda: new.execute("insert into t values (3)"))
+            )
 
 
 def test_commits_that_are_lost_while_a_connection_closes():
@@ -380,11 +483,23 @@ def test_commits_that_are_lost_while_a_connection_closes():
             operator.failover(2)
             left.execute("insert into t values (2)")
             if is_told:
-                same("told", "SQLITE_IOERR_FSYNC", code_of(lambda: left.execute("pragma pagelog_async_commits = 0")))
+                same(
+                    "told",
+                    "SQLITE_IOERR_FSYNC",
+                    code_of(lambda: left.execute("pragma pagelog_async_commits = 0")),
+                )
             closing.close()
             if not is_told:
-                same("told by the next", "SQLITE_IOERR_FSYNC", code_of(lambda: one(left, "select count(*) from t")))
-            same("what is there", (1, "1"), (one(left, "select count(*) from t"), one(left, "pragma pagelog_losses")))
+                same(
+                    "told by the next",
+                    "SQLITE_IOERR_FSYNC",
+                    code_of(lambda: one(left, "select count(*) from t")),
+                )
+            same(
+                "what is there",
+                (1, "1"),
+                (one(left, "select count(*) from t"), one(left, "pragma pagelog_losses")),
+            )
 
 
 def test_commits_that_are_lost_while_the_file_is_made_shorter():
@@ -395,17 +510,34 @@ def test_commits_that_are_lost_while_the_file_is_made_shorter():
             between = lambda frame: rule[0](frame) if rule[0] else frame
             with Proxy(service.address, between=between) as proxy:
                 connection = unwaiting(proxy.address, check=3600000)
-                connection.executescript("pragma auto_vacuum = full; create table t(a); create table u(a);")
+                connection.executescript(
+                    "pragma auto_vacuum = full; create table t(a); create table u(a);"
+                )
                 connection.execute("insert into t values (zeroblob(100000))")
                 connection.execute("pragma pagelog_async_commits = 1")
                 rule[0] = failing_over(service, wire.WRITE, write, to=2)
-                for text in ("insert into u values (1)", "insert into u values (2)", "delete from t", "select count(*) from t",
-                             "select a from u"):
+                for text in (
+                    "insert into u values (1)",
+                    "insert into u values (2)",
+                    "delete from t",
+                    "select count(*) from t",
+                    "select a from u",
+                ):
                     told.append(code_of(lambda: connection.execute(text).fetchall()))
-                told.append(code_of(lambda: connection.execute("pragma pagelog_async_commits = 0").fetchall()))
-                there = (one(connection, "select count(*) from t"), one(connection, "select count(*) from u"))
-                same(f"before write {write}, lost", there != (0, 2) or number_of(connection, "losses") > 0,
-                     "SQLITE_IOERR_FSYNC" in told)
+                told.append(
+                    code_of(
+                        lambda: connection.execute("pragma pagelog_async_commits = 0").fetchall()
+                    )
+                )
+                there = (
+                    one(connection, "select count(*) from t"),
+                    one(connection, "select count(*) from u"),
+                )
+                same(
+                    f"before write {write}, lost",
+                    there != (0, 2) or number_of(connection, "losses") > 0,
+                    "SQLITE_IOERR_FSYNC" in told,
+                )
                 true(f"once: {told}", told.count("SQLITE_IOERR_FSYNC") <= 1)
                 connection.close()
 
@@ -416,12 +548,16 @@ def test_lost_commits_and_a_transaction_that_reads():
     may_pass = threading.Event()
     may_pass.set()
     between = lambda frame: may_pass.wait() and frame
-    with Service() as service, service.operator() as operator, Proxy(service.address, between=between) as proxy:
+    with Service() as service, service.operator() as operator, Proxy(
+        service.address, between=between
+    ) as proxy:
         writer, looker = (unwaiting(proxy.address, check=3600000, busy=0.1) for _ in range(2))
         looker.execute("pragma cache_size = 1")
         writer.execute("create table t(a integer primary key, b)")
-        writer.execute("with recursive g(v) as (select 1 union all select v + 1 from g where v < 300)"
-                       "insert into t select v, zeroblob(3000) from g")
+        writer.execute(
+            "with recursive g(v) as (select 1 union all select v + 1 from g where v < 300)"
+            "insert into t select v, zeroblob(3000) from g"
+        )
         writer.execute("pragma pagelog_async_commits = 64")
         operator.failover(2)
         may_pass.clear()
@@ -430,15 +566,29 @@ def test_lost_commits_and_a_transaction_that_reads():
         rows = looker.execute("select a, b from t")
         true("what nobody waited for", rows.fetchone()[1] != bytes(3000))
         may_pass.set()
-        same("reported", "SQLITE_IOERR_FSYNC", code_of(lambda: writer.execute("pragma pagelog_async_commits = 0")))
+        same(
+            "reported",
+            "SQLITE_IOERR_FSYNC",
+            code_of(lambda: writer.execute("pragma pagelog_async_commits = 0")),
+        )
         same("nobody begins", "SQLITE_BUSY", code_of(lambda: one(writer, "select count(*) from t")))
         same("torn", "SQLITE_IOERR_FSYNC", code_of(rows.fetchall))
         if looker.in_transaction:
             looker.rollback()
         for connection in (looker, writer):
-            same("as it was", (300, "ok"), (one(connection, "select count(*) from t where b = zeroblob(3000)"),
-                                            one(connection, "pragma integrity_check")))
-        same("fenced", "SQLITE_READONLY", code_of(lambda: writer.execute("insert into t values (1000, 1)")))
+            same(
+                "as it was",
+                (300, "ok"),
+                (
+                    one(connection, "select count(*) from t where b = zeroblob(3000)"),
+                    one(connection, "pragma integrity_check"),
+                ),
+            )
+        same(
+            "fenced",
+            "SQLITE_READONLY",
+            code_of(lambda: writer.execute("insert into t values (1000, 1)")),
+        )
 
 
 def test_a_reader_keeps_its_snapshot_and_the_past_stays():
@@ -457,8 +607,16 @@ def test_a_reader_keeps_its_snapshot_and_the_past_stays():
         follower.execute("commit")
         same("then", 0, one(follower, "select count(*) from t"))
         for i in (0, 7, 19):
-            same("past", i + 1, one(connect(service.address, 4, None, at=lsns[i]), "select count(*) from t"))
-        same("a reader writes nothing", "SQLITE_READONLY", code_of(lambda: follower.execute("insert into t values (1)")))
+            same(
+                "past",
+                i + 1,
+                one(connect(service.address, 4, None, at=lsns[i]), "select count(*) from t"),
+            )
+        same(
+            "a reader writes nothing",
+            "SQLITE_READONLY",
+            code_of(lambda: follower.execute("insert into t values (1)")),
+        )
 
 
 def test_settings():
@@ -471,7 +629,11 @@ def test_settings():
         opened = lambda text: sqlite3.connect(text, uri=True, isolation_level=None)
         for mode in (0o640, 0o604, 0o620):
             os.chmod(path, mode)
-            same("others may read it", "SQLITE_PERM", code_of(lambda: opened(f"{plain}&credentials={path}")))
+            same(
+                "others may read it",
+                "SQLITE_PERM",
+                code_of(lambda: opened(f"{plain}&credentials={path}")),
+            )
         os.chmod(path, 0o600)
         opened(f"{plain}&credentials={path}").execute("create table t(a)")
         same("no token", "SQLITE_MISUSE", code_of(lambda: opened(plain)))
@@ -481,29 +643,40 @@ def test_settings():
         os.remove(path), os.rmdir(folder)
         other = connect(service.address, db=1)
         same("another database", 0, one(other, "select count(*) from sqlite_schema"))
-        for text, code in (("id=9", "SQLITE_MISUSE"), ("id=3&token=zz", "SQLITE_MISUSE"),
-                           (f"id=3&token={TOKENS[3]}&db=x", "SQLITE_MISUSE"),
-                           (f"id=3&token={TOKENS[3]}&copies=1", "SQLITE_MISUSE"),
-                           (f"id=3&token={TOKENS[3]}&copies=4", "SQLITE_MISUSE"),
-                           (f"id=3&token={TOKENS[3]}&copies=6&quorum=2", "SQLITE_MISUSE"),
-                           (f"id=3&token={TOKENS[3]}&quorum=4", "SQLITE_MISUSE"),
-                           (f"id=3&token={TOKENS[3]}&written=1", "SQLITE_MISUSE"),
-                           (f"id=3&token={TOKENS[3]}&written=4", "SQLITE_MISUSE"),
-                           (f"id=3&token={TOKENS[3]}&copies=6&written=3", "SQLITE_MISUSE"),
-                           (f"id=3&token={TOKENS[3]}&op=1", "SQLITE_MISUSE"),
-                           (f"id=3&token={TOKENS[3]}&mode=ro&spin=x", "SQLITE_MISUSE"),
-                           (f"id=3&token={TOKENS[3]}&mode=ro&pages=x", "SQLITE_MISUSE"),
-                           (f"id=3&token={TOKENS[3]}&async_commits=65", "SQLITE_MISUSE"),
-                           (f"id=3&token={TOKENS[4]}&mode=ro", "SQLITE_PERM"),
-                           (f"id=3&token={TOKENS[3]}&mode=ro&db=2", "SQLITE_PERM"),
-                           (f"id=3&token={TOKENS[3]}", "SQLITE_READONLY"),
-                           (f"id=3&token={TOKENS[3]}&mode=ro&to=127.0.0.1:1&timeout=50", "SQLITE_CANTOPEN")):
+        for text, code in (
+            ("id=9", "SQLITE_MISUSE"),
+            ("id=3&token=zz", "SQLITE_MISUSE"),
+            (f"id=3&token={TOKENS[3]}&db=x", "SQLITE_MISUSE"),
+            (f"id=3&token={TOKENS[3]}&copies=1", "SQLITE_MISUSE"),
+            (f"id=3&token={TOKENS[3]}&copies=4", "SQLITE_MISUSE"),
+            (f"id=3&token={TOKENS[3]}&copies=6&quorum=2", "SQLITE_MISUSE"),
+            (f"id=3&token={TOKENS[3]}&quorum=4", "SQLITE_MISUSE"),
+            (f"id=3&token={TOKENS[3]}&written=1", "SQLITE_MISUSE"),
+            (f"id=3&token={TOKENS[3]}&written=4", "SQLITE_MISUSE"),
+            (f"id=3&token={TOKENS[3]}&copies=6&written=3", "SQLITE_MISUSE"),
+            (f"id=3&token={TOKENS[3]}&op=1", "SQLITE_MISUSE"),
+            (f"id=3&token={TOKENS[3]}&mode=ro&spin=x", "SQLITE_MISUSE"),
+            (f"id=3&token={TOKENS[3]}&mode=ro&pages=x", "SQLITE_MISUSE"),
+            (f"id=3&token={TOKENS[3]}&async_commits=65", "SQLITE_MISUSE"),
+            (f"id=3&token={TOKENS[4]}&mode=ro", "SQLITE_PERM"),
+            (f"id=3&token={TOKENS[3]}&mode=ro&db=2", "SQLITE_PERM"),
+            (f"id=3&token={TOKENS[3]}", "SQLITE_READONLY"),
+            (f"id=3&token={TOKENS[3]}&mode=ro&to=127.0.0.1:1&timeout=50", "SQLITE_CANTOPEN"),
+        ):
             address = "" if "&to=" in text else f"&to={service.address}"
             same(text, code, code_of(lambda: opened(f"file:test?vfs=pagelog&{text}{address}")))
         joined = connect(service.address, 2, None)
         joined.execute("insert into t values (1)")
-        same("a writer without an operator", 1, one(reader(service.address), "select count(*) from t"))
-        same("SQLite's own parameter", 1, one(reader(service.address, cache="shared"), "select count(*) from t"))
+        same(
+            "a writer without an operator",
+            1,
+            one(reader(service.address), "select count(*) from t"),
+        )
+        same(
+            "SQLite's own parameter",
+            1,
+            one(reader(service.address, cache="shared"), "select count(*) from t"),
+        )
 
 
 def test_pages_in_memory():
@@ -511,11 +684,17 @@ def test_pages_in_memory():
     with Service() as service:
         writer = connect(service.address)
         writer.execute("create table t(a)")
-        writer.execute("insert into t select zeroblob(8000) from (select 1 from pragma_function_list limit 100)")
+        writer.execute(
+            "insert into t select zeroblob(8000) from (select 1 from pragma_function_list limit 100)"
+        )
         for few in (16, 64, None):
             connection = reader(service.address, pages=few)
             connection.execute("pragma cache_size = 10")
-            same(f"rows, pages={few}", 100, one(connection, "select count(*) from t where a is not null"))
+            same(
+                f"rows, pages={few}",
+                100,
+                one(connection, "select count(*) from t where a is not null"),
+            )
             kept = number_of(connection, "cached_pages")
             true(f"pages={few}: {kept} are kept", kept <= few if few else kept > 100)
 
@@ -524,18 +703,45 @@ def test_pragmas():
     with Service() as service:
         connection = connect(service.address)
         connection.execute("create table t(a)")
-        same("numbers", ["1", "1", "1", "2", "2", "1", "0", "0"],
-             [one(connection, f"pragma pagelog_{name}") for name in
-              ("lsn", "end", "transaction", "epoch", "writing_epoch", "commits", "repairs", "check")])
+        same(
+            "numbers",
+            ["1", "1", "1", "2", "2", "1", "0", "0"],
+            [
+                one(connection, f"pragma pagelog_{name}")
+                for name in (
+                    "lsn",
+                    "end",
+                    "transaction",
+                    "epoch",
+                    "writing_epoch",
+                    "commits",
+                    "repairs",
+                    "check",
+                )
+            ],
+        )
         same("role", "writer", one(connection, "pragma pagelog_role"))
         same("check", "50", one(connection, "pragma pagelog_check = 50"))
         same("sleeps", "0", one(connection, "pragma pagelog_spin = 0"))
         if len(os.sched_getaffinity(0)) > 1:
             same("looks", "70", one(connection, "pragma pagelog_spin = 70"))
-            same("looks, of the URI", "30", one(reader(service.address, spin=30), "pragma pagelog_spin"))
+            same(
+                "looks, of the URI",
+                "30",
+                one(reader(service.address, spin=30), "pragma pagelog_spin"),
+            )
         same("sleeps, of the URI", "0", one(reader(service.address, spin=0), "pragma pagelog_spin"))
-        true("all", one(connection, "pragma pagelog").startswith("writer lsn 1 end 1 transaction 1 size 16384 epoch 2"))
-        same("another's", "pagelog", one(reader(service.address), "pragma pagelog_role").replace("reader", "pagelog"))
+        true(
+            "all",
+            one(connection, "pragma pagelog").startswith(
+                "writer lsn 1 end 1 transaction 1 size 16384 epoch 2"
+            ),
+        )
+        same(
+            "another's",
+            "pagelog",
+            one(reader(service.address), "pragma pagelog_role").replace("reader", "pagelog"),
+        )
         same("none", "SQLITE_ERROR", code_of(lambda: connection.execute("pragma pagelog_nothing")))
 
 
@@ -574,17 +780,31 @@ def test_a_commit_to_two_databases_that_the_second_one_refuses():
                 if refusal == "another writer":
                     operator.failover(5)
                 else:
-                    operator.set_table("".join(TABLE.read_text().split('[[row]]\nverdict = "allow"\nwho = 2\nrole = "primary"\n')))
+                    operator.set_table(
+                        "".join(
+                            TABLE.read_text().split(
+                                '[[row]]\nverdict = "allow"\nwho = 2\nrole = "primary"\n'
+                            )
+                        )
+                    )
                 wanted = "SQLITE_READONLY" if refusal == "another writer" else "SQLITE_PERM"
                 same(f"{refusal}, {mode}", wanted, code_of(lambda: connection.execute("commit")))
                 operator.set_table(TABLE.read_text())
                 for db, name in enumerate(("main", "other")):
                     for who in (connection, reader(service.address, db=db)):
-                        same(f"rows of {name}", [(0,), (1,)], who.execute(f"select a from {name}_t").fetchall())
+                        same(
+                            f"rows of {name}",
+                            [(0,), (1,)],
+                            who.execute(f"select a from {name}_t").fetchall(),
+                        )
                         same("integrity", "ok", one(who, "pragma integrity_check"))
-                for db, name in enumerate(("main", "other")[: 1 if refusal == "another writer" else 2]):
+                for db, name in enumerate(
+                    ("main", "other")[: 1 if refusal == "another writer" else 2]
+                ):
                     connection.execute(f"insert into {name}_t values (3)")
-                    rows = reader(service.address, db=db).execute(f"select a from {name}_t").fetchall()
+                    rows = (
+                        reader(service.address, db=db).execute(f"select a from {name}_t").fetchall()
+                    )
                     same("and on", [(0,), (1,), (3,)], rows)
                 reads.close()
                 connection.close()
@@ -595,14 +815,22 @@ def test_requests_that_are_denied_for_a_while():
     connection that keeps the lock, which goes on once it has given that back."""
     for seed in range(32):
         numbers, is_on = random.Random(seed), [False]
-        between = lambda frame: Answer(b"\5\2" + bytes(10)) if is_on[0] and numbers.random() < 0.15 else frame
+        between = (
+            lambda frame: Answer(b"\5\2" + bytes(10))
+            if is_on[0] and numbers.random() < 0.15
+            else frame
+        )
         with Service() as service, Proxy(service.address, between=between) as proxy:
             connection = connect(proxy.address, pages=16)
-            connection.executescript("pragma page_size = 4096; create table t(a integer primary key, b);")
+            connection.executescript(
+                "pragma page_size = 4096; create table t(a integer primary key, b);"
+            )
             ends = ["commit"]
             if seed >= 16:
                 connection.execute("pragma locking_mode = exclusive")
-                connection.execute(f"pragma journal_mode = {numbers.choice(['delete', 'memory', 'persist', 'truncate'])}")
+                connection.execute(
+                    f"pragma journal_mode = {numbers.choice(['delete', 'memory', 'persist', 'truncate'])}"
+                )
                 connection.execute(f"pragma cache_size = {numbers.choice([2, 10, 2000])}")
                 ends = ["commit", "rollback"]
             is_on[0], there, codes = True, [], set()
@@ -610,8 +838,17 @@ def test_requests_that_are_denied_for_a_while():
                 size, factor = numbers.choice([10, 9000, 60000]), number % 3
                 texts = [f"insert into t values ({number}, randomblob({size}))"]
                 if factor > 0:
-                    texts = ["begin", *texts, f"update t set b = randomblob({size // 3}) where a % 3 = {factor}", numbers.choice(ends)]
-                failed = [code for code in (code_of(lambda: connection.execute(text)) for text in texts) if code]
+                    texts = [
+                        "begin",
+                        *texts,
+                        f"update t set b = randomblob({size // 3}) where a % 3 = {factor}",
+                        numbers.choice(ends),
+                    ]
+                failed = [
+                    code
+                    for code in (code_of(lambda: connection.execute(text)) for text in texts)
+                    if code
+                ]
                 there += [] if failed or texts[-1] == "rollback" else [number]
                 codes.update(failed)
                 if connection.in_transaction:
@@ -624,7 +861,11 @@ def test_requests_that_are_denied_for_a_while():
             connection.execute("pragma locking_mode = normal")
             code_of(lambda: one(connection, "select count(*) from t"))
             connection.execute("insert into t values (61, zeroblob(60000))")
-            same("and on", other.execute("select a from t").fetchall(), connection.execute("select a from t").fetchall())
+            same(
+                "and on",
+                other.execute("select a from t").fetchall(),
+                connection.execute("select a from t").fetchall(),
+            )
             same("all of it", "ok", one(connection, "pragma integrity_check"))
 
 
@@ -653,11 +894,16 @@ def test_a_file_that_is_made_shorter_after_its_commit():
             rule = CutsAfterTheCommit(goes_away)
             with Service() as service, Proxy(service.address, between=rule) as rule.proxy:
                 writer = connect(rule.proxy.address, pages=1, check=3600000, patience=100)
-                writer.executescript("pragma page_size = 4096; pragma auto_vacuum = incremental; pragma cache_size = 5;"
-                                     "create table t(a integer primary key, b); create table u(a integer primary key, b);"
-                                     f"pragma locking_mode = {locking}; pragma journal_mode = {journal};")
+                writer.executescript(
+                    "pragma page_size = 4096; pragma auto_vacuum = incremental; pragma cache_size = 5;"
+                    "create table t(a integer primary key, b); create table u(a integer primary key, b);"
+                    f"pragma locking_mode = {locking}; pragma journal_mode = {journal};"
+                )
                 for table in "tu":
-                    writer.executemany(f"insert into {table} values (?, zeroblob(4000))", [(a,) for a in range(100)])
+                    writer.executemany(
+                        f"insert into {table} values (?, zeroblob(4000))",
+                        [(a,) for a in range(100)],
+                    )
                 writer.execute("delete from u")
                 same("other pages in memory", 400000, one(writer, "select sum(length(b)) from t"))
                 pages, size = one(writer, "pragma page_count"), number_of(writer, "size")
@@ -665,8 +911,16 @@ def test_a_file_that_is_made_shorter_after_its_commit():
                 writer.execute("insert into u values (1, 'small')")
                 writer.execute("pragma incremental_vacuum(1)").fetchall()
                 rule.is_armed = True
-                same(f"{goes_away, locking}: commit", (None, 1), (code_of(lambda: writer.execute("commit")), rule.count))
-                same("as long as it was", (pages - 1, size), (one(writer, "pragma page_count"), number_of(writer, "size")))
+                same(
+                    f"{goes_away, locking}: commit",
+                    (None, 1),
+                    (code_of(lambda: writer.execute("commit")), rule.count),
+                )
+                same(
+                    "as long as it was",
+                    (pages - 1, size),
+                    (one(writer, "pragma page_count"), number_of(writer, "size")),
+                )
                 if goes_away:
                     rule.proxy.come_back()
                 other = reader(service.address)
@@ -674,15 +928,19 @@ def test_a_file_that_is_made_shorter_after_its_commit():
                     for connection in (writer, other):
                         same("rows", number, one(connection, "select count(*) from u"))
                         same("integrity", "ok", one(connection, "pragma integrity_check"))
-                    same("pages", (pages - number, size // 4096 - number * (number > 1)),
-                         (one(other, "pragma page_count"), number_of(other, "size") // 4096))
+                    same(
+                        "pages",
+                        (pages - number, size // 4096 - number * (number > 1)),
+                        (one(other, "pragma page_count"), number_of(other, "size") // 4096),
+                    )
                     writer.execute("insert into u values (?, 'small')", (number + 1,))
                     writer.execute("pragma incremental_vacuum(1)").fetchall()
 
 
 def test_a_journal_that_persists_has_no_end_of_a_name_from_before():
     """SQLite finds the name of a super-journal in a journal by eight bytes. Where those are in a page that an older transaction
-    has left in the journal, a COMMIT to two databases that the second one refuses is in none of them all the same."""
+    has left in the journal, a COMMIT to two databases that the second one refuses is in none of them all the same.
+    """
     magic = bytes.fromhex("d9d505f920a163d7")
     for shift in range(8):
         with Service(dbs=2) as service:
@@ -693,7 +951,9 @@ def test_a_journal_that_persists_has_no_end_of_a_name_from_before():
                 connection.execute(f"create table {name}.{name}_t(a)")
                 connection.execute(f"insert into {name}_t values (0), (1)")
             connection.execute("create table large(b)")
-            connection.execute("insert into large values (?)", (shift * b"x" + 30000 * magic + (8 - shift) * b"x",))
+            connection.execute(
+                "insert into large values (?)", (shift * b"x" + 30000 * magic + (8 - shift) * b"x",)
+            )
             reads = [connection.execute(f"select a from {name}_t") for name in ("main", "other")]
             same("it keeps the journals", [(0,), (0,)], [cursor.fetchone() for cursor in reads])
             connection.execute("update large set b = zeroblob(240008)")
@@ -703,7 +963,11 @@ def test_a_journal_that_persists_has_no_end_of_a_name_from_before():
             connect(service.address, 5, db=1).close()
             same("refused", "SQLITE_READONLY", code_of(lambda: connection.execute("commit")))
             for db, name in enumerate(("main", "other")):
-                same(name, [(0,), (1,)], reader(service.address, db=db).execute(f"select a from {name}_t").fetchall())
+                same(
+                    name,
+                    [(0,), (1,)],
+                    reader(service.address, db=db).execute(f"select a from {name}_t").fetchall(),
+                )
 
 
 def test_a_plain_file_that_is_attached():
@@ -720,7 +984,9 @@ def test_a_plain_file_that_is_attached():
             connection.execute("commit")
 
         def rows(connection):
-            return tuple(one(connection, f"select count(*) from {name}_t") for name in ("service", "plain"))
+            return tuple(
+                one(connection, f"select count(*) from {name}_t") for name in ("service", "plain")
+            )
 
         plain = sqlite3.connect(path, isolation_level=None, uri=True)
         plain.execute("create table plain_t(a)")
@@ -764,10 +1030,15 @@ def test_at_the_limits():
         same("audit list full", "SQLITE_FULL_LIST", code)
         same("why", "audit list full", one(connection, "pragma pagelog_error"))
         same("a new reader", "SQLITE_FULL_LIST", code_of(lambda: reader(service.address)))
-        same("the snapshot of a reader that may be stale", (0, "1"),
-             (one(follower, "select count(*) from t"), one(follower, "pragma pagelog_stale")))
+        same(
+            "the snapshot of a reader that may be stale",
+            (0, "1"),
+            (one(follower, "select count(*) from t"), one(follower, "pragma pagelog_stale")),
+        )
     with Service() as service:
-        connection, follower = connect(service.address, patience=200), reader(service.address, patience=200)
+        connection, follower = connect(service.address, patience=200), reader(
+            service.address, patience=200
+        )
         connection.executescript("create table t(a); insert into t values (1);")
         same("a row", 1, one(follower, "select count(*) from t"))
         follower.execute("begin")
@@ -776,10 +1047,18 @@ def test_at_the_limits():
         same("within its transaction", 1, one(follower, "select count(*) from t"))
         follower.execute("commit")
         same("not there", "SQLITE_IOERR", code_of(lambda: one(follower, "select count(*) from t")))
-        same("nor for a writer", "SQLITE_IOERR", code_of(lambda: connection.execute("insert into t values (2)")))
+        same(
+            "nor for a writer",
+            "SQLITE_IOERR",
+            code_of(lambda: connection.execute("insert into t values (2)")),
+        )
         with Service(listen=service.address):
             for other in (connection, follower):
-                same("restarted", "SQLITE_IOERR", code_of(lambda: one(other, "select count(*) from t")))
+                same(
+                    "restarted",
+                    "SQLITE_IOERR",
+                    code_of(lambda: one(other, "select count(*) from t")),
+                )
                 true("why", "restarted" in one(other, "pragma pagelog_error"))
 
 
@@ -802,13 +1081,29 @@ def test_a_commit_in_doubt():
                 writer = connect(proxy.address, patience=300, check=3600000)
                 writer.executescript("create table t(a); insert into t values (1);")
                 is_armed[0] = True
-                same("in doubt", "SQLITE_IOERR_FSYNC", code_of(lambda: writer.execute("insert into t values (2)")))
-                same("not there", "SQLITE_CANTOPEN", code_of(lambda: connect(proxy.address, 5, patience=50)))
+                same(
+                    "in doubt",
+                    "SQLITE_IOERR_FSYNC",
+                    code_of(lambda: writer.execute("insert into t values (2)")),
+                )
+                same(
+                    "not there",
+                    "SQLITE_CANTOPEN",
+                    code_of(lambda: connect(proxy.address, 5, patience=50)),
+                )
                 is_armed[0] = is_away[0] = False
                 rows = writer.execute("select a from t").fetchall()
-                same("as a reader sees it", rows, reader(service.address).execute("select a from t").fetchall())
+                same(
+                    "as a reader sees it",
+                    rows,
+                    reader(service.address).execute("select a from t").fetchall(),
+                )
                 writer.execute("insert into t values (3)")
-                same("and on", rows + [(3,)], reader(service.address).execute("select a from t").fetchall())
+                same(
+                    "and on",
+                    rows + [(3,)],
+                    reader(service.address).execute("select a from t").fetchall(),
+                )
                 found.add((is_carried, len(rows)))
                 writer.close()
     true(f"a report that was carried out is a commit: {found}", (True, 2) in found)
@@ -823,7 +1118,10 @@ def test_another_writer_between_a_commit_in_doubt_and_its_failover():
             is_away, failovers = [False], [0]
 
             def between(frame):
-                if not is_away[0] or frame[33] in (wire.WRITE, wire.GET):  # a get shows after a connect that the log is the same
+                if not is_away[0] or frame[33] in (
+                    wire.WRITE,
+                    wire.GET,
+                ):  # a get shows after a connect that the log is the same
                     return frame
                 failovers[0] += frame[33] == wire.FAILOVER
                 if frame[33] == wire.FAILOVER and failovers[0] == 1:
@@ -837,8 +1135,10 @@ def test_another_writer_between_a_commit_in_doubt_and_its_failover():
                 writer = connect(proxy.address, patience=6000, check=check, async_commits=unwaited)
                 writer.execute("create table t(a integer primary key, b)")
                 writer.execute("create index i on t(b)")
-                writer.execute("with recursive g(v) as (select 1 union all select v + 1 from g where v < 90)"
-                               "insert into t select v, 'x' || v from g")
+                writer.execute(
+                    "with recursive g(v) as (select 1 union all select v + 1 from g where v < 90)"
+                    "insert into t select v, 'x' || v from g"
+                )
                 if unwaited:
                     writer.execute("pragma synchronous = off")
                 writer.execute("begin immediate")
@@ -852,8 +1152,19 @@ def test_another_writer_between_a_commit_in_doubt_and_its_failover():
                 writer.execute("pragma pagelog_async_commits = 0")
                 for connection in (writer, reader(service.address)):
                     same("integrity", "ok", one(connection, "pragma integrity_check"))
-                    same("rows", (183, 91, 1, 1), tuple(one(connection, f"select count(*) from t {which}") for which in
-                                                        ("", "where b = 'other'", "where b = 'first'", "where b = 'next'")))
+                    same(
+                        "rows",
+                        (183, 91, 1, 1),
+                        tuple(
+                            one(connection, f"select count(*) from t {which}")
+                            for which in (
+                                "",
+                                "where b = 'other'",
+                                "where b = 'first'",
+                                "where b = 'next'",
+                            )
+                        ),
+                    )
                 writer.close()
 
 
@@ -871,11 +1182,21 @@ def test_a_commit_in_doubt_of_a_writer_that_keeps_the_lock():
 
         with Proxy(service.address, between=between) as proxy:
             writer = connect(proxy.address, patience=300, check=3600000)
-            writer.executescript("create table t(a); pragma locking_mode = exclusive; insert into t values (1);")
+            writer.executescript(
+                "create table t(a); pragma locking_mode = exclusive; insert into t values (1);"
+            )
             is_armed[0] = True
-            same("in doubt", "SQLITE_IOERR_FSYNC", code_of(lambda: writer.execute("insert into t values (2)")))
+            same(
+                "in doubt",
+                "SQLITE_IOERR_FSYNC",
+                code_of(lambda: writer.execute("insert into t values (2)")),
+            )
             is_armed[0] = is_away[0] = False
-            same("no commit", "SQLITE_PROTOCOL", code_of(lambda: writer.execute("insert into t values (3)")))
+            same(
+                "no commit",
+                "SQLITE_PROTOCOL",
+                code_of(lambda: writer.execute("insert into t values (3)")),
+            )
             same("lets go", "normal", one(writer, "pragma locking_mode = normal"))
             same("after this statement", [(1,)], writer.execute("select a from t").fetchall())
             writer.execute("insert into t values (4)")
@@ -887,12 +1208,24 @@ def test_a_commit_in_doubt_of_a_writer_that_keeps_the_lock():
 def test_replies_of_a_service_at_its_end():
     """Its turns are spent, its memory or its audit list is full: each is an error of its own to a reader and to a writer, and
     a reader's snapshot stays readable."""
-    for body, name, words in ((b"\x08", "SQLITE_FULL", "denied: spent"), (b"\x06", "SQLITE_FULL", "no memory"),
-                              (b"\x07", "SQLITE_FULL_LIST", "audit list full"), (b"\x09", "SQLITE_PERM", "denied: no database"),
-                              (b"\x05\x02\0\0" + bytes(8), "SQLITE_PERM", "denied: denied B0, value 0: no row of the table matches")):
+    for body, name, words in (
+        (b"\x08", "SQLITE_FULL", "denied: spent"),
+        (b"\x06", "SQLITE_FULL", "no memory"),
+        (b"\x07", "SQLITE_FULL_LIST", "audit list full"),
+        (b"\x09", "SQLITE_PERM", "denied: no database"),
+        (
+            b"\x05\x02\0\0" + bytes(8),
+            "SQLITE_PERM",
+            "denied: denied B0, value 0: no row of the table matches",
+        ),
+    ):
         is_over = [False]
-        with Service() as service, Proxy(service.address, between=lambda frame: Answer(body) if is_over[0] else frame) as proxy:
-            writer, follower = connect(proxy.address, patience=200), reader(proxy.address, patience=200)
+        with Service() as service, Proxy(
+            service.address, between=lambda frame: Answer(body) if is_over[0] else frame
+        ) as proxy:
+            writer, follower = connect(proxy.address, patience=200), reader(
+                proxy.address, patience=200
+            )
             writer.executescript("create table t(a); insert into t values (1);")
             follower.execute("begin")
             same("a row", 1, one(follower, "select count(*) from t"))
@@ -903,9 +1236,15 @@ def test_replies_of_a_service_at_its_end():
             same("why", words, one(writer, "pragma pagelog_error"))
             same("a snapshot", 1, one(follower, "select count(*) from t"))
             follower.execute("commit")
-            same(f"a reader, {words}", name, code_of(lambda: one(follower, "select count(*) from t")))
+            same(
+                f"a reader, {words}", name, code_of(lambda: one(follower, "select count(*) from t"))
+            )
             same("why", words, one(follower, "pragma pagelog_error"))
-            same(f"who comes now, {words}", name, code_of(lambda: reader(proxy.address, patience=200)))
+            same(
+                f"who comes now, {words}",
+                name,
+                code_of(lambda: reader(proxy.address, patience=200)),
+            )
             is_over[0] = False
             same("a row", 1, one(follower, "select count(*) from t"))
 
@@ -927,21 +1266,32 @@ def mark(lsn, size=0, magic=b"plfile01"):
 
 def test_a_database_of_something_else_is_not_opened():
     """Page 0 has no end mark, or one that cannot be its own. Nobody may open the database, and nothing is written to it."""
-    cases = [("a text", b"something else"), ("another magic number", mark(1, magic=b"plfile02")), ("an LSN of 0", mark(0)),
-             ("an LSN above its own", mark(2)), ("a size above the largest", mark(1, 4294967295 * 8192 + 1)),
-             ("something after zeros", bytes(8191) + b"x")]
+    cases = [
+        ("a text", b"something else"),
+        ("another magic number", mark(1, magic=b"plfile02")),
+        ("an LSN of 0", mark(0)),
+        ("an LSN above its own", mark(2)),
+        ("a size above the largest", mark(1, 4294967295 * 8192 + 1)),
+        ("something after zeros", bytes(8191) + b"x"),
+    ]
     with Service(dbs=1 + len(cases)) as service:
         for db, (what, page) in enumerate(cases, 1):
             write_as_another(service.address, 1, (0, 0, page), database=db)
-            for who, opened in (("reader", lambda: reader(service.address, db=db)),
-                                ("reader of the past", lambda: connect(service.address, 4, None, at=1, db=db)),
-                                ("writer", lambda: connect(service.address, db=db)),
-                                ("writer without an operator", lambda: connect(service.address, 2, None, db=db))):
+            for who, opened in (
+                ("reader", lambda: reader(service.address, db=db)),
+                ("reader of the past", lambda: connect(service.address, 4, None, at=1, db=db)),
+                ("writer", lambda: connect(service.address, db=db)),
+                ("writer without an operator", lambda: connect(service.address, 2, None, db=db)),
+            ):
                 same(f"{what}, {who}", "SQLITE_NOTADB", code_of(opened))
             with service.operator(db) as operator:
                 same(f"{what}: blocks", 1, operator.status()[2])
         write_as_another(service.address, 1, (0, 0, mark(1)))
-        same("an end mark of its own", 0, one(connect(service.address), "select count(*) from sqlite_schema"))
+        same(
+            "an end mark of its own",
+            0,
+            one(connect(service.address), "select count(*) from sqlite_schema"),
+        )
 
 
 def test_another_session_in_the_epoch_is_a_protocol_error():
@@ -952,7 +1302,9 @@ def test_another_session_in_the_epoch_is_a_protocol_error():
         rows = lambda connection: connection.execute("select a from t").fetchall()
         writer = connect(service.address, check=3600000)
         writer.executescript("create table t(a); insert into t values (1);")
-        write_as_another(service.address, number_of(writer, "end") + 1, (2, 100, b"other"), copies=(1,))
+        write_as_another(
+            service.address, number_of(writer, "end") + 1, (2, 100, b"other"), copies=(1,)
+        )
         for _ in range(2):
             same("in one copy", "SQLITE_PROTOCOL", insert(2))
             same("why", "conflict: denied C4, value 0", one(writer, "pragma pagelog_error"))
@@ -988,19 +1340,32 @@ def test_a_repair_that_is_cut_off():
             writer.executescript("create table t(a); insert into t values (1);")
             write_as_another(service.address, number_of(writer, "end") + 1, (2, 100, b"other"))
             is_armed[0] = True
-            true("cut off", code_of(lambda: one(writer, "select count(*) from t")) in ("SQLITE_IOERR", "SQLITE_IOERR_FSYNC"))
+            true(
+                "cut off",
+                code_of(lambda: one(writer, "select count(*) from t"))
+                in ("SQLITE_IOERR", "SQLITE_IOERR_FSYNC"),
+            )
             is_armed[0], left[0] = False, count
-            same(f"on, after request {count} of {operation}", None, code_of(lambda: writer.execute("insert into t values (2)")))
+            same(
+                f"on, after request {count} of {operation}",
+                None,
+                code_of(lambda: writer.execute("insert into t values (2)")),
+            )
             for connection in (writer, reader(service.address)):
                 same("rows", [(1,), (2,)], connection.execute("select a from t").fetchall())
                 same("integrity", "ok", one(connection, "pragma integrity_check"))
 
 
 # What no service replies to a request of this client: a body, and what the client says of it.
-NONSENSE = (("no byte", b"", "malformed"), ("an unknown kind", b"\x0b", "malformed"), ("a byte too many", b"\6\0", "malformed"),
-            ("half a page", b"\2" + bytes(4104), "malformed"), ("no section", b"\5\4\0\1" + bytes(8), "malformed"),
-            ("a fault that no request has", b"\x0a\x10", "malformed"),
-            ("a fault of the request", b"\x0a\x06", "malformed: fault 6 of the request"))
+NONSENSE = (
+    ("no byte", b"", "malformed"),
+    ("an unknown kind", b"\x0b", "malformed"),
+    ("a byte too many", b"\6\0", "malformed"),
+    ("half a page", b"\2" + bytes(4104), "malformed"),
+    ("no section", b"\5\4\0\1" + bytes(8), "malformed"),
+    ("a fault that no request has", b"\x0a\x10", "malformed"),
+    ("a fault of the request", b"\x0a\x06", "malformed: fault 6 of the request"),
+)
 
 
 def test_a_peer_that_is_no_service_is_a_protocol_error():
@@ -1018,15 +1383,23 @@ def test_a_peer_that_is_no_service_is_a_protocol_error():
             writer.execute("begin immediate")
             writer.execute("insert into t values (-1)")
             peer.body = nonsense
-            same(f"{what}: a commit", "SQLITE_IOERR_FSYNC", code_of(lambda: writer.execute("commit")))
+            same(
+                f"{what}: a commit", "SQLITE_IOERR_FSYNC", code_of(lambda: writer.execute("commit"))
+            )
             same(f"{what}: why", "in doubt", one(writer, "pragma pagelog_error").split(":")[0])
             same(f"{what}: a snapshot", rows, follower.execute(select).fetchall())
             follower.execute("commit")
             for who, connection in (("a reader", follower), ("a writer", writer)):
-                same(f"{what}: {who}", "SQLITE_PROTOCOL", code_of(lambda: connection.execute(select).fetchall()))
+                same(
+                    f"{what}: {who}",
+                    "SQLITE_PROTOCOL",
+                    code_of(lambda: connection.execute(select).fetchall()),
+                )
                 same("why", words, one(connection, "pragma pagelog_error"))
-            for who, opened in (("a new reader", lambda: reader(proxy.address, patience=200)),
-                                ("a new writer", lambda: connect(proxy.address, 5, patience=200))):
+            for who, opened in (
+                ("a new reader", lambda: reader(proxy.address, patience=200)),
+                ("a new writer", lambda: connect(proxy.address, 5, patience=200)),
+            ):
                 same(f"{what}: {who}", "SQLITE_PROTOCOL", code_of(opened))
             peer.body = None
             for connection in (writer, follower):
@@ -1038,17 +1411,39 @@ def test_a_commit_whose_report_meets_a_failover_is_done():
     The next transaction is refused."""
     for check in (0, 3600000):
         for to in (2, 5):
-            with Service() as service, Proxy(service.address, between=failing_over(service, wire.REPORT, 2, to)) as proxy:
+            with Service() as service, Proxy(
+                service.address, between=failing_over(service, wire.REPORT, 2, to)
+            ) as proxy:
                 writer = connect(proxy.address, check=check)
                 writer.execute("create table t(a, b)")
-                same("done", None, code_of(lambda: writer.execute("insert into t values (1, randomblob(100000))")))
-                same("in an epoch that is over", (2, 3), (number_of(writer, "writing_epoch"), number_of(writer, "epoch")))
+                same(
+                    "done",
+                    None,
+                    code_of(lambda: writer.execute("insert into t values (1, randomblob(100000))")),
+                )
+                same(
+                    "in an epoch that is over",
+                    (2, 3),
+                    (number_of(writer, "writing_epoch"), number_of(writer, "epoch")),
+                )
                 new = reader(service.address)
-                same("a new reader", [(1, 100000)], new.execute("select a, length(b) from t").fetchall())
+                same(
+                    "a new reader",
+                    [(1, 100000)],
+                    new.execute("select a, length(b) from t").fetchall(),
+                )
                 same("integrity", "ok", one(new, "pragma integrity_check"))
-                same("the next one", "SQLITE_READONLY", code_of(lambda: writer.execute("insert into t values (2, 2)")))
+                same(
+                    "the next one",
+                    "SQLITE_READONLY",
+                    code_of(lambda: writer.execute("insert into t values (2, 2)")),
+                )
                 for connection in (new, writer):
-                    same("rows", [(1, 100000)], connection.execute("select a, length(b) from t").fetchall())
+                    same(
+                        "rows",
+                        [(1, 100000)],
+                        connection.execute("select a, length(b) from t").fetchall(),
+                    )
 
 
 def test_no_memory():
@@ -1066,8 +1461,11 @@ def test_no_memory():
             code = code_of(lambda: connection.execute("insert into t values (randomblob(300000))"))
             rows += code is None
         words = one(connection, "pragma pagelog_error")
-        true(f"an error of the right kind, and not {code}, {words}",
-             code in ("SQLITE_FULL", "SQLITE_IOERR_FSYNC") and words in ("no memory", "in doubt: no memory"))
+        true(
+            f"an error of the right kind, and not {code}, {words}",
+            code in ("SQLITE_FULL", "SQLITE_IOERR_FSYNC")
+            and words in ("no memory", "in doubt: no memory"),
+        )
         return f"no memory: {code} after {rows} rows"
 
 
@@ -1078,9 +1476,21 @@ def test_a_writer_under_the_start_table():
         connection.executescript("create table t(a); insert into t values (1);")
         other = connect(service.address, 5)
         other.execute("insert into t values (2)")
-        same("fenced", "SQLITE_READONLY", code_of(lambda: (connection.execute("pragma pagelog_check = 3600000"),
-                                                           connection.execute("insert into t values (3)"))))
-        same("and may not follow", "SQLITE_PERM", code_of(lambda: one(connection, "select count(*) from t")))
+        same(
+            "fenced",
+            "SQLITE_READONLY",
+            code_of(
+                lambda: (
+                    connection.execute("pragma pagelog_check = 3600000"),
+                    connection.execute("insert into t values (3)"),
+                )
+            ),
+        )
+        same(
+            "and may not follow",
+            "SQLITE_PERM",
+            code_of(lambda: one(connection, "select count(*) from t")),
+        )
         same("rows", 2, one(other, "select count(*) from t"))
 
 
@@ -1090,7 +1500,9 @@ def test_another_session_in_the_epoch_of_a_writer_that_may_not_look():
     for unwaited in (0, 64):
         with Service(table=START_TABLE) as service:
             writer = connect(service.address, check=3600000, async_commits=unwaited)
-            writer.executescript("create table t(a); insert into t values (1); pragma synchronous = off;")
+            writer.executescript(
+                "create table t(a); insert into t values (1); pragma synchronous = off;"
+            )
             lsn = number_of(writer, "end") + 1
             write_as_another(service.address, lsn, (2, 100, b"other"))
             code = code_of(lambda: writer.execute("insert into t values (2)"))
@@ -1099,7 +1511,9 @@ def test_another_session_in_the_epoch_of_a_writer_that_may_not_look():
                 code = code_of(lambda: one(writer, "pragma pagelog_async_commits = 0"))
             same("another's", "SQLITE_IOERR_FSYNC" if unwaited else "SQLITE_PROTOCOL", code)
             if not unwaited:
-                same("why", f"conflict: denied C2, value {lsn}", one(writer, "pragma pagelog_error"))
+                same(
+                    "why", f"conflict: denied C2, value {lsn}", one(writer, "pragma pagelog_error")
+                )
             writer.execute("insert into t values (3)")
             writer.execute("pragma pagelog_async_commits = 0")
             for connection in (writer, reader(service.address)):
@@ -1127,22 +1541,41 @@ def test_a_lost_connection_where_another_session_has_joined_the_epoch():
 
             with Proxy(service.address, between=between) as proxy:
                 writer = connect(proxy.address, check=3600000)
-                writer.executescript("create table t(a); create table u(b); insert into t values (1);")
-                other, epoch = connect(service.address, operator=None, check=3600000), number_of(writer, "epoch")
+                writer.executescript(
+                    "create table t(a); create table u(b); insert into t values (1);"
+                )
+                other, epoch = connect(service.address, operator=None, check=3600000), number_of(
+                    writer, "epoch"
+                )
                 same("all pages in memory", 1, one(other, "select count(*) from t"))
                 is_cut[0] = True
                 several = "begin; insert into t values (2); insert into u values (randomblob(200000)); commit"
-                same("cut", None if is_own else "SQLITE_IOERR", code_of(lambda: writer.executescript(several)))
+                same(
+                    "cut",
+                    None if is_own else "SQLITE_IOERR",
+                    code_of(lambda: writer.executescript(several)),
+                )
                 if writer.in_transaction:
                     writer.execute("rollback")
-                same("an epoch more", (1, epoch + (not is_own)), (proxy.cuts, number_of(writer, "epoch")))
+                same(
+                    "an epoch more",
+                    (1, epoch + (not is_own)),
+                    (proxy.cuts, number_of(writer, "epoch")),
+                )
                 writer.execute("insert into t values (3)")
                 for connection in (writer, reader(service.address)):
-                    same("rows", [(1,), (2,) if is_own else (20,), (3,)], connection.execute("select a from t").fetchall())
+                    same(
+                        "rows",
+                        [(1,), (2,) if is_own else (20,), (3,)],
+                        connection.execute("select a from t").fetchall(),
+                    )
                     same("large rows", is_own, one(connection, "select count(*) from u"))
                     same("integrity", "ok", one(connection, "pragma integrity_check"))
-                same("fenced, or it has not read what came", "SQLITE_PROTOCOL" if is_own else "SQLITE_READONLY",
-                     code_of(lambda: other.execute("insert into t values (21)")))
+                same(
+                    "fenced, or it has not read what came",
+                    "SQLITE_PROTOCOL" if is_own else "SQLITE_READONLY",
+                    code_of(lambda: other.execute("insert into t values (21)")),
+                )
 
 
 def test_another_session_in_the_epoch_and_a_commit_of_several_blocks():
@@ -1152,54 +1585,94 @@ def test_another_session_in_the_epoch_and_a_commit_of_several_blocks():
         for unwaited in (0, 64):
             with Service(table=table) as service, Proxy(service.address) as proxy:
                 writer = connect(service.address, check=3600000, async_commits=unwaited)
-                writer.executescript("create table t(a integer primary key, b); insert into t values (1, 'x');")
+                writer.executescript(
+                    "create table t(a integer primary key, b); insert into t values (1, 'x');"
+                )
                 other = connect(proxy.address, operator=None)
                 other.execute("insert into t values (20, 'y')")
                 writer.execute(f"pragma synchronous = {'off' if unwaited else 'full'}")
-                codes = [code_of(lambda: writer.execute("insert into t values (2, ?)", (random.Random(1).randbytes(200000),))),
-                         code_of(lambda: one(writer, "pragma pagelog_async_commits = 0"))]
+                codes = [
+                    code_of(
+                        lambda: writer.execute(
+                            "insert into t values (2, ?)", (random.Random(1).randbytes(200000),)
+                        )
+                    ),
+                    code_of(lambda: one(writer, "pragma pagelog_async_commits = 0")),
+                ]
                 same("in doubt", ["SQLITE_IOERR_FSYNC"], [code for code in codes if code])
                 true("at once, where it is waited for", unwaited or codes[0])
                 if not unwaited:
-                    same("why", "in doubt: another session of this epoch has put a block in the place of one of these",
-                         one(writer, "pragma pagelog_error"))
+                    same(
+                        "why",
+                        "in doubt: another session of this epoch has put a block in the place of one of these",
+                        one(writer, "pragma pagelog_error"),
+                    )
                 writer.execute("insert into t values (4, 'z')")
-                writer.execute("pragma pagelog_async_commits = 0")  # where it told an error it has changed nothing
+                writer.execute(
+                    "pragma pagelog_async_commits = 0"
+                )  # where it told an error it has changed nothing
                 for connection in (writer, reader(service.address)):
-                    same("rows", [(1,), (4,), (20,)], connection.execute("select a from t").fetchall())
+                    same(
+                        "rows",
+                        [(1,), (4,), (20,)],
+                        connection.execute("select a from t").fetchall(),
+                    )
                     same("integrity", "ok", one(connection, "pragma integrity_check"))
 
 
 def test_the_shell():
     with Service() as service:
-        text = (f".load {EXTENSION}\n.open '{uri(service.address)}'\ncreate table t(a, b);\n"
-                "insert into t values (1, 'one'), (2, 'two');\nselect group_concat(b, ' ') from t;\n"
-                f".open '{uri(service.address, 3, None, mode='ro')}'\nselect count(*) from t;\npragma integrity_check;\n")
+        text = (
+            f".load {EXTENSION}\n.open '{uri(service.address)}'\ncreate table t(a, b);\n"
+            "insert into t values (1, 'one'), (2, 'two');\nselect group_concat(b, ' ') from t;\n"
+            f".open '{uri(service.address, 3, None, mode='ro')}'\nselect count(*) from t;\npragma integrity_check;\n"
+        )
         preload = {"LD_PRELOAD": os.environ["LD_PRELOAD"]} if "LD_PRELOAD" in os.environ else {}
-        shell = subprocess.run(["sqlite3"], input=text, capture_output=True, text=True, timeout=60,
-                               env=plain_environment(ASAN_OPTIONS="detect_leaks=0", **preload))
+        shell = subprocess.run(
+            ["sqlite3"],
+            input=text,
+            capture_output=True,
+            text=True,
+            timeout=60,
+            env=plain_environment(ASAN_OPTIONS="detect_leaks=0", **preload),
+        )
         same("shell", ("one two\n2\nok\n", ""), (shell.stdout, shell.stderr))
 
 
 def test_programs_that_cannot_be_changed():
     """The library that is loaded before them writes nothing, and they may still configure SQLite, as its shell does."""
     library = CLIENT / "out" / "pagelog_preload.so"
-    subprocess.run(["make", "-s", "-C", CLIENT, library.relative_to(CLIENT)], check=True, env=plain_environment())
+    subprocess.run(
+        ["make", "-s", "-C", CLIENT, library.relative_to(CLIENT)],
+        check=True,
+        env=plain_environment(),
+    )
     python = "import sqlite3, sys; print(*sqlite3.connect(sys.argv[1], uri=True).execute(sys.argv[2]).fetchone())"
     with Service() as service:
         connect(service.address).execute("create table t(a)").execute("insert into t values (7)")
         where = uri(service.address, 3, None, mode="ro")
         for words in (["sqlite3"], ["sqlite3", "-vfs", "pagelog"], [sys.executable, "-c", python]):
-            ran = subprocess.run([*words, where, "select a from t"], capture_output=True, text=True, timeout=60,
-                                 env=plain_environment(LD_PRELOAD=str(library)))
+            ran = subprocess.run(
+                [*words, where, "select a from t"],
+                capture_output=True,
+                text=True,
+                timeout=60,
+                env=plain_environment(LD_PRELOAD=str(library)),
+            )
             same(words, (0, "7\n", ""), (ran.returncode, ran.stdout, ran.stderr))
 
 
 def test_a_linked_program_gives_its_memory_back():
     with Service() as service:
-        ran = subprocess.run([CLIENT / "out" / "checked" / "statements", service.address], capture_output=True, text=True,
-                             env=plain_environment())
-        same("statements", (0, "0 failures\n", ""), (ran.returncode, ran.stdout, ran.stderr[-2000:]))
+        ran = subprocess.run(
+            [CLIENT / "out" / "checked" / "statements", service.address],
+            capture_output=True,
+            text=True,
+            env=plain_environment(),
+        )
+        same(
+            "statements", (0, "0 failures\n", ""), (ran.returncode, ran.stdout, ran.stderr[-2000:])
+        )
 
 
 def test_speedtest1():
@@ -1207,13 +1680,24 @@ def test_speedtest1():
     program = os.environ.get("SPEEDTEST1")
     if not program:
         return "speedtest1 not run: SPEEDTEST1 names no program"
-    subprocess.run(["make", "-s", "-C", CLIENT, "out/pagelog_preload.so"], check=True, env=plain_environment())
+    subprocess.run(
+        ["make", "-s", "-C", CLIENT, "out/pagelog_preload.so"], check=True, env=plain_environment()
+    )
     with Service() as service:
         hashes = []
-        for words, more in ((["--vfs", "pagelog", uri(service.address, check=50)],
-                             {"LD_PRELOAD": str(CLIENT / "out" / "pagelog_preload.so")}), ([":memory:"], {})):
-            ran = subprocess.run([program, "--size", "20" if LONG else "2", "--verify", *words], capture_output=True,
-                                 text=True, env=plain_environment(**more))
+        for words, more in (
+            (
+                ["--vfs", "pagelog", uri(service.address, check=50)],
+                {"LD_PRELOAD": str(CLIENT / "out" / "pagelog_preload.so")},
+            ),
+            ([":memory:"], {}),
+        ):
+            ran = subprocess.run(
+                [program, "--size", "20" if LONG else "2", "--verify", *words],
+                capture_output=True,
+                text=True,
+                env=plain_environment(**more),
+            )
             hashes += [line for line in ran.stdout.splitlines() if "Hash" in line]
         same("two hashes", 2, len(hashes))
         same("verification hash", hashes[1], hashes[0])
@@ -1222,5 +1706,15 @@ def test_speedtest1():
 
 if __name__ == "__main__":
     # The model never lacks memory, and takes long to start, and to carry much out.
-    run("vfs", globals(), not_with_the_model=["test_page_sizes", "test_at_the_limits", "test_a_commit_in_doubt",
-                                              "test_replies_of_a_service_at_its_end", "test_no_memory", "test_speedtest1"])
+    run(
+        "vfs",
+        globals(),
+        not_with_the_model=[
+            "test_page_sizes",
+            "test_at_the_limits",
+            "test_a_commit_in_doubt",
+            "test_replies_of_a_service_at_its_end",
+            "test_no_memory",
+            "test_speedtest1",
+        ],
+    )

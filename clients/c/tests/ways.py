@@ -52,14 +52,24 @@ class Gathering:
         with contextlib.suppress(OSError):
             while True:
                 client, _ = self.listener.accept()
-                threading.Thread(target=self.carry, args=(client, socket.create_connection(self.keeper)), daemon=True).start()
+                threading.Thread(
+                    target=self.carry,
+                    args=(client, socket.create_connection(self.keeper)),
+                    daemon=True,
+                ).start()
 
     def carry(self, client, keeper):
-        with client, keeper, client.makefile("rb") as asked, keeper.makefile("rb") as told, contextlib.suppress(OSError):
+        with client, keeper, client.makefile("rb") as asked, keeper.makefile(
+            "rb"
+        ) as told, contextlib.suppress(OSError):
             held = b""
             for question in asked:
                 keeper.sendall(question)
-                held += told.readline() if question.startswith(b"hello") else (told.readline().rstrip(b"\n") + b" key=").ljust(1020, b"x") + b"\n"
+                held += (
+                    told.readline()
+                    if question.startswith(b"hello")
+                    else (told.readline().rstrip(b"\n") + b" key=").ljust(1020, b"x") + b"\n"
+                )
                 if not question.startswith(b"hello"):
                     client.sendall(held)
                     held = b""
@@ -85,9 +95,13 @@ class Spoiler:
         with contextlib.suppress(OSError):
             while True:
                 client, _ = self.listener.accept()
-                front = socket.create_connection((self.target.rsplit(":", 1)[0], int(self.target.rsplit(":", 1)[1])))
+                front = socket.create_connection(
+                    (self.target.rsplit(":", 1)[0], int(self.target.rsplit(":", 1)[1]))
+                )
                 for source, target in ((client, front), (front, client)):
-                    threading.Thread(target=self.carry, args=(source, target, source is front), daemon=True).start()
+                    threading.Thread(
+                        target=self.carry, args=(source, target, source is front), daemon=True
+                    ).start()
 
     def carry(self, source, target, spoils):
         with contextlib.suppress(OSError):
@@ -111,7 +125,9 @@ class Spoiler:
             case 3:
                 raise ConnectionError("it is cut")
             case 4:
-                return bytes([21, 3, 3, 0, 2, 2, at % 120]) + data  # an alert that nobody has encrypted
+                return (
+                    bytes([21, 3, 3, 0, 2, 2, at % 120]) + data
+                )  # an alert that nobody has encrypted
         return data
 
 

@@ -9,8 +9,29 @@ import stat
 import threading
 import time
 
-from binding import (CONFLICT, DENIED, DONE, FENCED, IN_DOUBT, LOST, MALFORMED, AUDIT_FULL, NO_SPIN, OPERATOR, PAGE_SERVER,
-                     PRIMARY, SECONDARY, Blocks, Log, blocks_of, encode, numbered, records_of, request, token)
+from binding import (
+    CONFLICT,
+    DENIED,
+    DONE,
+    FENCED,
+    IN_DOUBT,
+    LOST,
+    MALFORMED,
+    AUDIT_FULL,
+    NO_SPIN,
+    OPERATOR,
+    PAGE_SERVER,
+    PRIMARY,
+    SECONDARY,
+    Blocks,
+    Log,
+    blocks_of,
+    encode,
+    numbered,
+    records_of,
+    request,
+    token,
+)
 from check import run, same, true
 from service import Proxy, Service, START_TABLE, TABLE, failing_over, stopped, wire
 
@@ -24,31 +45,58 @@ def test_requests_are_spelled_as_the_scripts_spell_them():
         (request(1, wire.WRITE, b"abc", copy=2), wire.PRIMARY, wire.WRITE, wire.write(2, b"abc")),
         (request(1, wire.OFFER, b"abc"), wire.PRIMARY, wire.OFFER, b"abc"),
         (request(1, wire.REPORT, lsn=1 << 48), wire.PRIMARY, wire.REPORT, wire.report(1 << 48)),
-        (request(2, wire.GET, page=4294967295, lsn=7, exact=1), 2, wire.GET, wire.get(4294967295, 7, 1)),
-        (request(2, wire.PULL, lo=1, hi=65535, lsn=9, max=16), 2, wire.PULL, wire.pull(1, 65535, 9, 16)),
+        (
+            request(2, wire.GET, page=4294967295, lsn=7, exact=1),
+            2,
+            wire.GET,
+            wire.get(4294967295, 7, 1),
+        ),
+        (
+            request(2, wire.PULL, lo=1, hi=65535, lsn=9, max=16),
+            2,
+            wire.PULL,
+            wire.pull(1, 65535, 9, 16),
+        ),
         (request(3, wire.ADVANCE, partition=5, steps=1024), 3, wire.ADVANCE, wire.advance(5, 1024)),
         (request(4, wire.FAILOVER, to=7), 4, wire.FAILOVER, wire.failover(7)),
         (request(4, wire.SET_TABLE, b""), 4, wire.SET_TABLE, b""),
         (request(4, wire.AUDIT, lsn=1, max=1024), 4, wire.AUDIT, wire.audit(1, 1024)),
-        *((request(role, op), role, op, b"") for op in wire.WITHOUT_ARGUMENTS for role in wire.roles_of(op)),
+        *(
+            (request(role, op), role, op, b"")
+            for op in wire.WITHOUT_ARGUMENTS
+            for role in wire.roles_of(op)
+        ),
     ]
     same("each operation", set(wire.OPS), {op for _, _, op, _ in cases})
     for made, role, op, rest in cases:
         made.principal, made.epoch, made.database = 3, 9, 2
         made.token[:] = token(3)[:]
         same(f"operation {op}", wire.head(3, role, op, 9, 2) + rest, encode(made))
-    wrong = [request(0, 7), request(5, 7), request(1, 0), request(1, wire.NO_OPERATION), request(1, 3, lsn=(1 << 48) + 1),
-             request(2, 5, lo=2, hi=1, lsn=1, max=1), request(2, 5, lsn=0, max=1), request(2, 5, lsn=1, max=17),
-             request(3, 6, steps=0), request(3, 6, steps=1025), request(4, 10, lsn=0, max=1),
-             request(4, 10, lsn=1, max=1025), request(1, 4, exact=2), request(4, 9, b"x" * 65507)]
+    wrong = [
+        request(0, 7),
+        request(5, 7),
+        request(1, 0),
+        request(1, wire.NO_OPERATION),
+        request(1, 3, lsn=(1 << 48) + 1),
+        request(2, 5, lo=2, hi=1, lsn=1, max=1),
+        request(2, 5, lsn=0, max=1),
+        request(2, 5, lsn=1, max=17),
+        request(3, 6, steps=0),
+        request(3, 6, steps=1025),
+        request(4, 10, lsn=0, max=1),
+        request(4, 10, lsn=1, max=1025),
+        request(1, 4, exact=2),
+        request(4, 9, b"x" * 65507),
+    ]
     for made in wrong:
         same(f"out of range {made.operation}", b"", encode(made))
 
 
 def test_each_operation_is_answered():
     table = TABLE.read_text() + '\n[[row]]\nverdict = "allow"\nwho = 3\nrole = "page_server"\n'
-    with Service() as service, service.operator() as operator, Log(service.address, 2) as log, \
-            Log(service.address, 3) as reader:
+    with Service() as service, service.operator() as operator, Log(service.address, 2) as log, Log(
+        service.address, 3
+    ) as reader:
         operator.set_table(table)
         same("join", DONE, log.join())
         same("epoch", 1, log.writing_epoch)
@@ -58,10 +106,17 @@ def test_each_operation_is_answered():
         same("offer", DONE, log.ask(PRIMARY, wire.OFFER, block)[0])
         same("report", DONE, log.ask(PRIMARY, wire.REPORT, lsn=1)[0])
         outcome, status = log.status()
-        same("status", (DONE, 1, 2, 1, 1, 0),
-             (outcome, status.epoch, status.primary, status.hard, status.pending, status.landing))
+        same(
+            "status",
+            (DONE, 1, 2, 1, 1, 0),
+            (outcome, status.epoch, status.primary, status.hard, status.pending, status.landing),
+        )
         outcome, pages = reader.get(SECONDARY, 1, [0, 65536, 5])
-        same("pages", (DONE, b"abc" + bytes(8189), bytes(8191) + b"z", bytes(8192)), (outcome, *pages))
+        same(
+            "pages",
+            (DONE, b"abc" + bytes(8189), bytes(8191) + b"z", bytes(8192)),
+            (outcome, *pages),
+        )
         outcome, pulled = reader.pull(1)
         same("pull", (DONE, 2, [block]), (outcome, pulled.next, blocks_of(pulled)))
         outcome, pulled = reader.pull(2)
@@ -80,8 +135,9 @@ def test_each_operation_is_answered():
 
 
 def test_denials_have_their_outcomes():
-    with Service() as service, Log(service.address, 2) as log, Log(service.address, 3) as reader, \
-            Log(service.address, 1) as admin:
+    with Service() as service, Log(service.address, 2) as log, Log(
+        service.address, 3
+    ) as reader, Log(service.address, 1) as admin:
         same("join", DONE, log.join())
         reader.status(SECONDARY), admin.status(OPERATOR)
         one, other = block_of(1, (0, 0, b"a")), block_of(1, (0, 0, b"b"))
@@ -103,7 +159,9 @@ def test_denials_have_their_outcomes():
         with Log(service.address, 2, key=token(9)) as unknown:
             same("A1", (DENIED, ("A1", 0)), (unknown.status()[0], unknown.row))
         with Log(service.address, 2, database=1) as nowhere:
-            same("no database", (DENIED, "denied: no database"), (nowhere.status()[0], nowhere.words))
+            same(
+                "no database", (DENIED, "denied: no database"), (nowhere.status()[0], nowhere.words)
+            )
         same("malformed", MALFORMED, write(b"\0" * 12))
         same("its words", "malformed: fault 8 of the request", log.words)
         same("failover", DONE, admin.ask(OPERATOR, wire.FAILOVER, to=5)[0])
@@ -189,7 +247,9 @@ def test_blocks_are_cut_where_they_are_full():
             true("full", len(block) > 32768 - 80 or i == len(all_blocks) - 1)
             for page, *put in records:
                 at = found.setdefault(page, bytearray(8192))
-                at[:] = bytes(8192) if not put else at[: put[0]] + put[1] + at[put[0] + len(put[1]) :]
+                at[:] = (
+                    bytes(8192) if not put else at[: put[0]] + put[1] + at[put[0] + len(put[1]) :]
+                )
         same("pages", wanted, found)
     same("ranges", [MALFORMED] * 2, [blocks.put(0, 0, b""), blocks.put(0, 1, bytes(8192))])
 
@@ -200,7 +260,9 @@ def test_blocks_that_are_dropped():
     for _ in range(30):
         blocks, whole, dropped = Blocks(5), Blocks(5), 0
         for _ in range(numbers.randrange(1, 80)):
-            page, data = numbers.choice([1, 2, 65536, 200000]), numbers.randbytes(numbers.randrange(1, 2000))
+            page, data = numbers.choice([1, 2, 65536, 200000]), numbers.randbytes(
+                numbers.randrange(1, 2000)
+            )
             same("put", [DONE] * 2, [made.put(page, 7, data) for made in (blocks, whole)])
             if numbers.random() < 0.1:
                 same("end", [DONE] * 2, [made.end() for made in (blocks, whole)])
@@ -293,8 +355,9 @@ def blocks_ahead(log, seen, first, count, early):
 def test_blocks_that_are_sent_ahead():
     """Their writes come to the service before the append, which sends the others: each once, and all in one round trip."""
     seen, wanted = Seen(), []
-    with Service() as service, Log(service.address, 3) as reader, Proxy(service.address, between=seen) as proxy, \
-            Log(proxy.address, 2) as log:
+    with Service() as service, Log(service.address, 3) as reader, Proxy(
+        service.address, between=seen
+    ) as proxy, Log(proxy.address, 2) as log:
         same("take over", DONE, log.take_over())
         for count, early in ((1, [1]), (3, [1, 2]), (3, [2]), (70, [5, 64, 66]), (2, [])):
             before, trips = seen.writes, log.counts.round_trips
@@ -332,8 +395,9 @@ def test_blocks_ahead_that_do_not_all_go_at_once():
             may_go.wait(60)
         return frame
 
-    with Service() as service, Log(service.address, 3) as reader, Proxy(service.address, between=held) as proxy, \
-            Log(proxy.address, 2) as log:
+    with Service() as service, Log(service.address, 3) as reader, Proxy(
+        service.address, between=held
+    ) as proxy, Log(proxy.address, 2) as log:
         same("take over", DONE, log.take_over())
         make_small(proxy.address)
         before, numbers, blocks = log.counts.bytes_sent, random.Random(5), Blocks(1)
@@ -343,7 +407,9 @@ def test_blocks_ahead_that_do_not_all_go_at_once():
             blocks.end()
             log.append_ahead(blocks)
         same("blocks", (40, 80), (len(blocks.all()), log.in_flight()))
-        true("not all of them went", log.counts.bytes_sent - before < 2 * sum(map(len, blocks.all())))
+        true(
+            "not all of them went", log.counts.bytes_sent - before < 2 * sum(map(len, blocks.all()))
+        )
         may_go.set()
         same("append", (DONE, 40), (log.append(blocks), log.end))
         found = []
@@ -355,7 +421,9 @@ def test_blocks_ahead_that_do_not_all_go_at_once():
 def test_blocks_ahead_that_are_given_up():
     """Nothing else is asked meanwhile, and afterwards nothing is appended before an epoch of its own."""
     seen = Seen()
-    with Service() as service, Proxy(service.address, between=seen) as proxy, Log(proxy.address, 2) as log:
+    with Service() as service, Proxy(service.address, between=seen) as proxy, Log(
+        proxy.address, 2
+    ) as log:
         same("take over", DONE, log.take_over())
         blocks = blocks_ahead(log, seen, 1, 2, [2])
         same("in flight", (4, MALFORMED), (log.in_flight(), log.status()[0]))
@@ -371,8 +439,9 @@ def test_blocks_ahead_that_are_given_up():
 def test_blocks_ahead_whose_connection_is_lost():
     for cut in range(1, 5):
         seen = Seen(cut)
-        with Service() as service, Log(service.address, 3) as reader, Proxy(service.address, between=seen) as proxy, \
-                Log(proxy.address, 2) as log:
+        with Service() as service, Log(service.address, 3) as reader, Proxy(
+            service.address, between=seen
+        ) as proxy, Log(proxy.address, 2) as log:
             same("take over", DONE, log.take_over())
             blocks = Blocks(1)
             for page in range(3):
@@ -395,8 +464,11 @@ def test_blocks_ahead_of_an_epoch_that_ends():
             operator.failover(5)
         return frame
 
-    with Service() as service, service.operator() as operator, Log(service.address, 3) as reader, \
-            Proxy(service.address, between=ends_at_the_third) as proxy, Log(proxy.address, 2) as log:
+    with Service() as service, service.operator() as operator, Log(
+        service.address, 3
+    ) as reader, Proxy(service.address, between=ends_at_the_third) as proxy, Log(
+        proxy.address, 2
+    ) as log:
         same("take over", DONE, log.take_over())
         blocks = blocks_ahead(log, seen, 1, 1, [1])
         same("put", DONE, blocks.put(9, 0, b"last"))
@@ -421,15 +493,20 @@ def add_block(blocks, page):
 def test_appends_that_nobody_waits_for():
     """They come into the log by themselves, one after the other; the append after them asks nothing twice, and waits once."""
     seen, wanted = Seen(), []
-    with Service() as service, Log(service.address, 3) as reader, Proxy(service.address, between=seen) as proxy, \
-            Log(proxy.address, 2) as log:
+    with Service() as service, Log(service.address, 3) as reader, Proxy(
+        service.address, between=seen
+    ) as proxy, Log(proxy.address, 2) as log:
         same("take over", DONE, log.take_over())
         for count in (1, 5, 64):
             blocks, before, trips = Blocks(log.end + 1), seen.writes, log.counts.round_trips
             for page in range(count):
                 add_block(blocks, page)
                 true("sent", log.append_unwaited(blocks))
-            same("in the log, and nobody asked", wanted + blocks.all(), pulled(reader, len(wanted) + count))
+            same(
+                "in the log, and nobody asked",
+                wanted + blocks.all(),
+                pulled(reader, len(wanted) + count),
+            )
             while log.in_flight() > 0:
                 same("all is well", False, log.is_due())
             true("all have come", log.is_answered())
@@ -444,7 +521,11 @@ def test_appends_that_nobody_waits_for():
         blocks = Blocks(log.end + 1)
         add_block(blocks, 1)
         true("sent", log.append_unwaited(blocks))
-        same("nothing else meanwhile", (MALFORMED, MALFORMED), (log.append(blocks, 3), log.status()[0]))
+        same(
+            "nothing else meanwhile",
+            (MALFORMED, MALFORMED),
+            (log.append(blocks, 3), log.status()[0]),
+        )
         add_block(blocks, 2)
         log.append_ahead(blocks)
         add_block(blocks, 3)
@@ -466,8 +547,9 @@ def test_appends_that_nobody_waits_for_and_lost_connections():
                 left[0] -= 1
                 return None if left[0] == 0 else frame
 
-            with Service() as service, Log(service.address, 3) as reader, \
-                    Proxy(service.address, between=between) as proxy, Log(proxy.address, 2) as log:
+            with Service() as service, Log(service.address, 3) as reader, Proxy(
+                service.address, between=between
+            ) as proxy, Log(proxy.address, 2) as log:
                 same("take over", DONE, log.take_over())
                 left[0], blocks = cut, Blocks(1)
                 for page in range(3):
@@ -492,8 +574,9 @@ def test_appends_that_nobody_waits_for_and_an_epoch_that_ends():
                     operator.failover(5)
             return frame
 
-        with Service() as service, service.operator() as operator, Log(service.address, 3) as reader, \
-                Proxy(service.address, between=between) as proxy, Log(proxy.address, 2) as log:
+        with Service() as service, service.operator() as operator, Log(
+            service.address, 3
+        ) as reader, Proxy(service.address, between=between) as proxy, Log(proxy.address, 2) as log:
             same("take over", DONE, log.take_over())
             left[0], blocks = ends, Blocks(1)
             for page in range(3):
@@ -505,7 +588,11 @@ def test_appends_that_nobody_waits_for_and_an_epoch_that_ends():
             kept = min((ends - 1) // 3 + (ends % 3 == 0), 3)
             wanted = (DONE, 3) if kept == 3 else (FENCED, "A2")
             outcome = log.append(blocks)
-            same(f"append, over before request {ends}", wanted, (outcome, log.end if outcome == DONE else log.row[0]))
+            same(
+                f"append, over before request {ends}",
+                wanted,
+                (outcome, log.end if outcome == DONE else log.row[0]),
+            )
             if ends == 10:
                 operator.failover(5)
             same("log", blocks.all()[:kept], blocks_of(reader.pull(1)[1]))
@@ -538,23 +625,42 @@ def test_tidying_up():
     """It asks two things, or one where there is no operator. Whatever comes next has the reply to its own request, and the log
     and its end are as before."""
     asked = Asked()
-    calls = [("status", lambda log: log.status()[0]), ("gets", lambda log: log.get(PRIMARY, log.end, [0] * 70)[0]),
-             ("pull", lambda log: log.pull(1, 1)[0]), ("take over", lambda log: log.take_over())]
-    calls += [(how, lambda log, how=how: appended(log, how)) for how in ("at once", "ahead", "unwaited", "looked for")]
-    with Service() as service, service.operator() as operator, Log(service.address, 3) as reader, \
-            Proxy(service.address, between=asked) as proxy, Log(proxy.address, 2) as log:
+    calls = [
+        ("status", lambda log: log.status()[0]),
+        ("gets", lambda log: log.get(PRIMARY, log.end, [0] * 70)[0]),
+        ("pull", lambda log: log.pull(1, 1)[0]),
+        ("take over", lambda log: log.take_over()),
+    ]
+    calls += [
+        (how, lambda log, how=how: appended(log, how))
+        for how in ("at once", "ahead", "unwaited", "looked for")
+    ]
+    with Service() as service, service.operator() as operator, Log(
+        service.address, 3
+    ) as reader, Proxy(service.address, between=asked) as proxy, Log(proxy.address, 2) as log:
         same("take over", DONE, log.take_over())
         same("append", DONE, log.append(numbered(1, 5)))
         for what, call in calls:
             for who in (1, None):
                 before, requests, end = len(asked.operations), log.counts.requests, log.end
                 log.tidy_up(who)
-                same(f"before {what}", (0, requests + (2 if who else 1)), (log.in_flight(), log.counts.requests))
+                same(
+                    f"before {what}",
+                    (0, requests + (2 if who else 1)),
+                    (log.in_flight(), log.counts.requests),
+                )
                 same(what, (DONE, 0), (call(log), log.in_flight()))
                 same(f"{what}: replies", log.counts.requests, log.counts.replies)
-                same(f"{what}: asked", [wire.REPORT, wire.TIDY][: 2 if who else 1],
-                     asked.operations[before : before + (2 if who else 1)])
-                same(f"{what}: end", end + (what in ("at once", "ahead", "unwaited", "looked for")), log.end)
+                same(
+                    f"{what}: asked",
+                    [wire.REPORT, wire.TIDY][: 2 if who else 1],
+                    asked.operations[before : before + (2 if who else 1)],
+                )
+                same(
+                    f"{what}: end",
+                    end + (what in ("at once", "ahead", "unwaited", "looked for")),
+                    log.end,
+                )
         same("log", numbered(1, log.end).all()[5:], pulled(reader, log.end)[5:])
         same("none was refused", 0, log.refused.kind)
         operator.status()
@@ -612,8 +718,9 @@ def test_tidying_up_and_lost_connections():
     for cut in (wire.REPORT, wire.TIDY):
         for how in ("at once", "ahead", "unwaited"):
             asked = Asked()
-            with Service() as service, Log(service.address, 3) as reader, Proxy(service.address, between=asked) as proxy, \
-                    Log(proxy.address, 2) as log:
+            with Service() as service, Log(service.address, 3) as reader, Proxy(
+                service.address, between=asked
+            ) as proxy, Log(proxy.address, 2) as log:
                 same("take over", DONE, log.take_over())
                 same("append", DONE, log.append(numbered(1, 3)))
                 asked.cut = cut
@@ -633,8 +740,9 @@ def test_tidying_up_and_lost_connections():
 def test_tidying_up_after_the_epoch():
     """It ends before the report or before the tidy: the next append learns of it, and nothing comes into the log."""
     for operation, count in ((wire.REPORT, 2), (wire.TIDY, 1)):
-        with Service() as service, Log(service.address, 3) as reader, \
-                Proxy(service.address, between=failing_over(service, operation, count)) as proxy, Log(proxy.address, 2) as log:
+        with Service() as service, Log(service.address, 3) as reader, Proxy(
+            service.address, between=failing_over(service, operation, count)
+        ) as proxy, Log(proxy.address, 2) as log:
             same("take over", DONE, log.take_over())
             same("append", DONE, log.append(numbered(1, 3)))
             log.tidy_up()
@@ -644,8 +752,9 @@ def test_tidying_up_after_the_epoch():
 
 
 def test_an_old_writer_is_fenced():
-    with Service() as service, Log(service.address, 2) as old, Log(service.address, 5) as new, \
-            service.operator() as operator:
+    with Service() as service, Log(service.address, 2) as old, Log(
+        service.address, 5
+    ) as new, service.operator() as operator:
         same("old", DONE, old.take_over())
         same("append", DONE, old.append(numbered(1, 3)))
         same("new", DONE, new.take_over())
@@ -663,7 +772,13 @@ def test_an_old_writer_is_fenced():
 def test_a_failover_that_was_lost_takes_nobody_elses_epoch():
     """Its reply is lost, or it is not even sent, and then another writer begins the epoch after: that one keeps it. What the
     lost one has begun itself is taken over."""
-    for who, is_sent, is_carried in ((5, False, False), (2, False, False), (5, True, False), (5, True, True), (None, True, True)):
+    for who, is_sent, is_carried in (
+        (5, False, False),
+        (2, False, False),
+        (5, True, False),
+        (5, True, True),
+        (None, True, True),
+    ):
         with Service() as service, service.operator() as operator:
             is_cut = [False]
 
@@ -676,9 +791,14 @@ def test_a_failover_that_was_lost_takes_nobody_elses_epoch():
                     operator.carry(frame)
                 return None
 
-            with Proxy(service.address, between=between) as proxy, \
-                    Log(proxy.address, 2, patience_ms=100) as old, Log(service.address, who or 5) as new:
-                same("old", (DONE, DONE, 2), (old.take_over(), old.append(numbered(1, 1)), old.writing_epoch))
+            with Proxy(service.address, between=between) as proxy, Log(
+                proxy.address, 2, patience_ms=100
+            ) as old, Log(service.address, who or 5) as new:
+                same(
+                    "old",
+                    (DONE, DONE, 2),
+                    (old.take_over(), old.append(numbered(1, 1)), old.writing_epoch),
+                )
                 if is_sent:
                     is_cut[0] = True
                 else:
@@ -690,16 +810,25 @@ def test_a_failover_that_was_lost_takes_nobody_elses_epoch():
                 proxy.come_back()
                 before = operator.status()[0]
                 if who:
-                    same(f"after {who, is_sent, is_carried}", (FENCED, before), (old.take_over(expected=2), operator.status()[0]))
+                    same(
+                        f"after {who, is_sent, is_carried}",
+                        (FENCED, before),
+                        (old.take_over(expected=2), operator.status()[0]),
+                    )
                     same("new goes on", DONE, new.append(numbered(3, 1)))
                 else:
-                    same("its own", (DONE, DONE), (old.take_over(expected=2), old.append(numbered(2, 1))))
+                    same(
+                        "its own",
+                        (DONE, DONE),
+                        (old.take_over(expected=2), old.append(numbered(2, 1))),
+                    )
 
 
 def test_blocks_in_two_copies_are_in_the_log_when_their_report_is_denied():
     for copies in (2, 3):
-        with Service() as service, Proxy(service.address, between=failing_over(service, wire.REPORT, 1, 5)) as proxy, \
-                Log(proxy.address, 2) as log, Log(service.address, 3) as reader:
+        with Service() as service, Proxy(
+            service.address, between=failing_over(service, wire.REPORT, 1, 5)
+        ) as proxy, Log(proxy.address, 2) as log, Log(service.address, 3) as reader:
             same("take over", DONE, log.take_over())
             blocks = numbered(1, 3)
             same("in the log", (DONE, 3), (log.append(blocks, copies), log.end))
@@ -711,8 +840,9 @@ def test_a_block_in_one_copy_is_never_in_the_log():
     """The epoch ends before each of the writes of three blocks in turn."""
     for write in range(1, 7):
         with Service() as service, Log(service.address, 3) as reader:
-            with Proxy(service.address, between=failing_over(service, wire.WRITE, write, 5)) as proxy, \
-                    Log(proxy.address, 2) as log:
+            with Proxy(
+                service.address, between=failing_over(service, wire.WRITE, write, 5)
+            ) as proxy, Log(proxy.address, 2) as log:
                 same("take over", DONE, log.take_over())
                 blocks = numbered(1, 3)
                 same("fenced", (FENCED, ("A2", 3)), (log.append(blocks), log.row))
@@ -751,7 +881,9 @@ def test_a_lost_report_is_repeated():
     """The connection is lost at the report, once before it was carried and once after it: all blocks are in the log, and
     the log ends where the client says."""
     for is_carried in (False, True):
-        with Service() as service, service.operator() as operator, Log(service.address, 3) as reader:
+        with Service() as service, service.operator() as operator, Log(
+            service.address, 3
+        ) as reader:
             lost = [False]
 
             def between(frame):
@@ -773,7 +905,9 @@ def test_a_lost_report_is_repeated():
 
 
 def test_a_report_that_is_not_allowed_leaves_doubt():
-    denied = TABLE.read_text().replace('[[row]]', '[[row]]\nverdict = "deny"\nwho = 2\nop = ["report"]\n\n[[row]]', 1)
+    denied = TABLE.read_text().replace(
+        "[[row]]", '[[row]]\nverdict = "deny"\nwho = 2\nop = ["report"]\n\n[[row]]', 1
+    )
     with Service() as service, service.operator() as operator, Log(service.address, 2) as log:
         same("take over", DONE, log.take_over())
         operator.set_table(denied)
@@ -787,8 +921,9 @@ def test_a_report_that_is_not_allowed_leaves_doubt():
 
 
 def test_another_writer_of_the_epoch_is_a_conflict():
-    with Service() as service, Log(service.address, 2) as one, Log(service.address, 2) as two, \
-            Log(service.address, 2) as third:
+    with Service() as service, Log(service.address, 2) as one, Log(service.address, 2) as two, Log(
+        service.address, 2
+    ) as third:
         for log in (one, two, third):
             same("join", DONE, log.join())
         write = block_of(1, (3, 0, b"other"))
@@ -831,7 +966,11 @@ def test_a_full_audit_list():
         same("take over", DONE, log.take_over())
         outcomes = [log.append(numbered(log.end + 1, 1)) for _ in range(20)]
         true("first done", outcomes[0] == DONE)
-        true("then full", AUDIT_FULL in outcomes and set(outcomes[outcomes.index(AUDIT_FULL) :]) <= {AUDIT_FULL, CONFLICT})
+        true(
+            "then full",
+            AUDIT_FULL in outcomes
+            and set(outcomes[outcomes.index(AUDIT_FULL) :]) <= {AUDIT_FULL, CONFLICT},
+        )
         same("status", AUDIT_FULL, log.status()[0])
 
 
@@ -875,9 +1014,17 @@ def test_every_wait_ends():
                 same("a service that is silent", LOST, log.status(SECONDARY)[0])
                 true("no sooner than reply_ms", time.monotonic() - start >= 0.2)
         with Log(service.address, 3) as log:
-            same("one worker, two connections", (DONE, DONE), (log.status(SECONDARY)[0], holder.status(PRIMARY)[0]))
+            same(
+                "one worker, two connections",
+                (DONE, DONE),
+                (log.status(SECONDARY)[0], holder.status(PRIMARY)[0]),
+            )
     with Log("127.0.0.1:1", 2, patience_ms=100) as log:
-        same("nobody", (LOST, LOST, LOST), (log.status(SECONDARY)[0], log.take_over(), log.pull(1)[0]))
+        same(
+            "nobody",
+            (LOST, LOST, LOST),
+            (log.status(SECONDARY)[0], log.take_over(), log.pull(1)[0]),
+        )
     for address in ("nonsense", "", "::::", "[::1", "127.0.0.1:no"):
         with Log(address, 2, patience_ms=1) as log:
             same(f"address {address}", LOST, log.status(SECONDARY)[0])
@@ -925,7 +1072,9 @@ def begins_to_answer():
 def test_no_wait_is_shorter_than_asked():
     """At whatever part of a millisecond it begins: for a reply whose first byte has come, and for somebody to answer."""
     with begins_to_answer() as address:
-        waits = [(address, {"reply_ms": 3, "patience_ms": 1})] * 40 + [("127.0.0.1:1", {"patience_ms": ms}) for ms in range(1, 41)]
+        waits = [(address, {"reply_ms": 3, "patience_ms": 1})] * 40 + [
+            ("127.0.0.1:1", {"patience_ms": ms}) for ms in range(1, 41)
+        ]
         for address, options in waits:
             with Log(address, 2, **options) as log:
                 start = time.monotonic_ns()
@@ -938,8 +1087,11 @@ def test_waits_that_look_for_their_reply():
     """Replies that come soon are found awake, later ones asleep, and on one processor all of them."""
     all_of_them = os.sched_getaffinity(0)
     between = lambda frame: time.sleep(0.02) or frame
-    with Service() as service, Proxy(service.address, between=between) as slow, Log(service.address, 2) as near, \
-            Log(slow.address, 2, spin_us=15000) as far, Log(service.address, 2, spin_us=NO_SPIN) as sleeper:
+    with Service() as service, Proxy(service.address, between=between) as slow, Log(
+        service.address, 2
+    ) as near, Log(slow.address, 2, spin_us=15000) as far, Log(
+        service.address, 2, spin_us=NO_SPIN
+    ) as sleeper:
         same("sleeps", 0, sleeper.spin)
         for log in (near, far, sleeper):
             same("join", DONE, log.join())
@@ -972,7 +1124,9 @@ def test_a_wait_for_many_replies_looks_for_the_last_ones():
         time.sleep(0.002)
         return frame
 
-    with Service() as service, Proxy(service.address, between=between) as slow, Log(slow.address, 2, spin_us=1000000) as log:
+    with Service() as service, Proxy(service.address, between=between) as slow, Log(
+        slow.address, 2, spin_us=1000000
+    ) as log:
         same("join", DONE, log.join())
         for _ in range(3):
             blocks = numbered(log.end + 1, 40, 8000)
@@ -1005,19 +1159,27 @@ def test_whose_block_it_is_where_nobody_may_look():
     doubt; where the last block was not sent, it is not in the log."""
     for count, others, wanted in ((1, 1, IN_DOUBT), (70, 64, CONFLICT), (70, 70, CONFLICT)):
         is_cut = [False]
-        with Service(table=START_TABLE) as service, Log(service.address, 3) as reader, Log(service.address, 2) as other:
+        with Service(table=START_TABLE) as service, Log(service.address, 3) as reader, Log(
+            service.address, 2
+        ) as other:
 
             def between(frame):
                 if not is_cut[0]:
                     return frame
                 is_cut[0] = False
-                same("the other", (DONE, DONE), (other.join(), other.append(numbered(1, others, page=7))))
+                same(
+                    "the other",
+                    (DONE, DONE),
+                    (other.join(), other.append(numbered(1, others, page=7))),
+                )
                 return None
 
             with Proxy(service.address, between=between) as proxy, Log(proxy.address, 2) as log:
                 same("take over", DONE, log.take_over())
                 is_cut[0] = True
-                same(f"{count} blocks", (wanted, wanted), (log.append(numbered(1, count)), log.words))
+                same(
+                    f"{count} blocks", (wanted, wanted), (log.append(numbered(1, count)), log.words)
+                )
                 same("the log", numbered(1, others, page=7).all(), pulled(reader, others))
                 same("no more in this epoch", CONFLICT, log.append(numbered(log.end + 1, 1)))
                 same("take over", (DONE, others), (log.take_over(), log.end))
@@ -1027,7 +1189,9 @@ def test_a_lost_report_where_nobody_may_look():
     """It was carried out. The append looks at the pages that its blocks touch, and is done."""
     for is_answered in (False, True):
         is_cut = [False]
-        with Service(table=START_TABLE) as service, service.operator() as operator, Log(service.address, 3) as reader:
+        with Service(table=START_TABLE) as service, service.operator() as operator, Log(
+            service.address, 3
+        ) as reader:
 
             def between(frame):
                 if not is_cut[0] or frame[33] != wire.REPORT:

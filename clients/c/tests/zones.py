@@ -1,7 +1,21 @@
 """Landing zones of three copies and of six, with the right one and the wrong one in the options; rows of a table that end at an
 LSN. What the service does not know of these is not tried, and said."""
 
-from binding import CONFLICT, DENIED, DONE, FENCED, MALFORMED, Blocks, Log, Options, blocks_of, byref, lib, numbered, token
+from binding import (
+    CONFLICT,
+    DENIED,
+    DONE,
+    FENCED,
+    MALFORMED,
+    Blocks,
+    Log,
+    Options,
+    blocks_of,
+    byref,
+    lib,
+    numbered,
+    token,
+)
 from check import run, same
 from database import code_of, connect, one, reader
 from service import Proxy, SIX_COPIES, Service, TABLE, failing_over, starts_with, wire
@@ -28,8 +42,9 @@ def each_case():
 def each_log():
     """Each case, with a follower, and a writer that has begun its epoch."""
     for zone, told in each_case():
-        with Service(text=ZONES[zone]) as service, Log(service.address, 3) as follower, \
-                Log(service.address, 2, copies=told[0], quorum=told[1]) as log:
+        with Service(text=ZONES[zone]) as service, Log(service.address, 3) as follower, Log(
+            service.address, 2, copies=told[0], quorum=told[1]
+        ) as log:
             same("take over", DONE, log.take_over())
             yield zone, told, follower, log
 
@@ -56,8 +71,11 @@ def test_appends():
                 same("requests", count * each + -(-count // 64), after.requests - before.requests)
             same("zone", (*zone, True), log.zone)
         same_log(follower, wanted)
-        same("arguments", (MALFORMED, MALFORMED), (log.append(numbered(log.end + 1, 1), 1),
-                                                   log.append(numbered(log.end + 1, 1), 7)))
+        same(
+            "arguments",
+            (MALFORMED, MALFORMED),
+            (log.append(numbered(log.end + 1, 1), 1), log.append(numbered(log.end + 1, 1), 7)),
+        )
 
 
 def test_failovers_before_each_request():
@@ -65,11 +83,19 @@ def test_failovers_before_each_request():
     has."""
     seen = set()
     for zone, told in each_case():
-        writes = [(many, wire.WRITE, count) for many in (1, 3) for count in range(1, many * max(zone[1], told[1]) + 1)]
-        for many, operation, count in writes + [(1, wire.REPORT, 1), (3, wire.REPORT, 1), (3, wire.REPORT, 2)]:
-            with Service(text=ZONES[zone]) as service, Log(service.address, 3) as follower, \
-                    Proxy(service.address, between=failing_over(service, operation, count)) as proxy, \
-                    Log(proxy.address, 2, copies=told[0], quorum=told[1]) as log:
+        writes = [
+            (many, wire.WRITE, count)
+            for many in (1, 3)
+            for count in range(1, many * max(zone[1], told[1]) + 1)
+        ]
+        for many, operation, count in writes + [
+            (1, wire.REPORT, 1),
+            (3, wire.REPORT, 1),
+            (3, wire.REPORT, 2),
+        ]:
+            with Service(text=ZONES[zone]) as service, Log(service.address, 3) as follower, Proxy(
+                service.address, between=failing_over(service, operation, count)
+            ) as proxy, Log(proxy.address, 2, copies=told[0], quorum=told[1]) as log:
                 same("take over", DONE, log.take_over())
                 blocks = numbered(1, many)
                 outcome = log.append(blocks)
@@ -104,10 +130,12 @@ def test_appends_that_nobody_waits_for():
 def test_failovers_before_each_request_of_what_nobody_waits_for():
     for zone, told in each_case():
         each = max(zone[1], told[1])
-        for operation, count in [(wire.WRITE, n) for n in range(1, 3 * each + 1)] + [(wire.REPORT, n) for n in (1, 2, 3)]:
-            with Service(text=ZONES[zone]) as service, Log(service.address, 3) as follower, \
-                    Proxy(service.address, between=failing_over(service, operation, count)) as proxy, \
-                    Log(proxy.address, 2, copies=told[0], quorum=told[1]) as log:
+        for operation, count in [(wire.WRITE, n) for n in range(1, 3 * each + 1)] + [
+            (wire.REPORT, n) for n in (1, 2, 3)
+        ]:
+            with Service(text=ZONES[zone]) as service, Log(service.address, 3) as follower, Proxy(
+                service.address, between=failing_over(service, operation, count)
+            ) as proxy, Log(proxy.address, 2, copies=told[0], quorum=told[1]) as log:
                 same("take over", DONE, log.take_over())
                 blocks = send_one_by_one(log, 3)
                 outcome = log.append(blocks)
@@ -119,16 +147,20 @@ def test_failovers_before_each_request_of_what_nobody_waits_for():
 
 def test_a_report_of_what_another_has_hardened_shows_no_zone():
     """The other has joined the epoch of a writer that was given three copies, and there are six. The report of that one's own
-    block is Done, since the LSN is in the log with the other's. Its next block is in two copies when the epoch ends."""
+    block is Done, since the LSN is in the log with the other's. Its next block is in two copies when the epoch ends.
+    """
     if not KNOWS_SIX:
         return f"{NOT_KNOWN} copies and quorum"
-    with Service(text=SIX_COPIES) as service, service.operator() as operator, Log(service.address, 3) as follower, \
-            Log(service.address, 2, copies=6) as other:
+    with Service(text=SIX_COPIES) as service, service.operator() as operator, Log(
+        service.address, 3
+    ) as follower, Log(service.address, 2, copies=6) as other:
         reports = []
 
         def between(frame):
             if frame[33] == wire.WRITE and not reports and other.end == 0:
-                same("the other", (DONE, DONE), (other.join(), other.append(numbered(1, 1, page=7))))
+                same(
+                    "the other", (DONE, DONE), (other.join(), other.append(numbered(1, 1, page=7)))
+                )
             if frame[33] == wire.REPORT:
                 reports.append(frame)
                 if len(reports) == 2:
@@ -147,9 +179,9 @@ def test_who_may_not_look():
     """Without the role of a secondary, who was given the right zone knows what a failover hardened."""
     for zone, text in ZONES.items():
         text = text.replace('who = 2\nrole = "secondary"', 'who = 2\nrole = "page_server"')
-        with Service(text=text) as service, Log(service.address, 3) as follower, \
-                Proxy(service.address, between=failing_over(service, wire.REPORT, 1)) as proxy, \
-                Log(proxy.address, 2, copies=zone[0]) as log:
+        with Service(text=text) as service, Log(service.address, 3) as follower, Proxy(
+            service.address, between=failing_over(service, wire.REPORT, 1)
+        ) as proxy, Log(proxy.address, 2, copies=zone[0]) as log:
             same("take over", DONE, log.take_over())
             blocks = numbered(1, 3)
             same("append", DONE, log.append(blocks))
@@ -177,7 +209,11 @@ def test_sqlite():
         with Service(text=ZONES[zone]) as service:
             writer = connect(service.address, copies=told[0], quorum=told[1], check=3600000)
             writer.executescript("create table t(a); insert into t values (1);")
-            same("zone", zone, tuple(int(one(writer, f"pragma pagelog_{name}")) for name in ("copies", "quorum")))
+            same(
+                "zone",
+                zone,
+                tuple(int(one(writer, f"pragma pagelog_{name}")) for name in ("copies", "quorum")),
+            )
             before = int(one(writer, "pragma pagelog_requests"))
             writer.execute("insert into t values (2)")
             same("requests", zone[1] + 1, int(one(writer, "pragma pagelog_requests")) - before)
@@ -187,7 +223,9 @@ def test_sqlite():
 
 def test_rows_that_end_at_an_lsn():
     """A reader whose row ends reads the past up to there, and is told that it may not read on."""
-    ending = TABLE.read_text().replace('who = 3\nrole = "secondary"', 'who = 3\nrole = "secondary"\nthrough = 3')
+    ending = TABLE.read_text().replace(
+        'who = 3\nrole = "secondary"', 'who = 3\nrole = "secondary"\nthrough = 3'
+    )
     if not starts_with(ending):
         return f"rows that end at an LSN {NOT_KNOWN} key through"
     with Service(text=ending) as service, Log(service.address, 3) as follower:
@@ -207,5 +245,11 @@ def test_rows_that_end_at_an_lsn():
 
 if __name__ == "__main__":
     # A service for each request, and the model takes long to start.
-    run("zones", globals(), not_with_the_model=["test_failovers_before_each_request",
-                                               "test_failovers_before_each_request_of_what_nobody_waits_for"])
+    run(
+        "zones",
+        globals(),
+        not_with_the_model=[
+            "test_failovers_before_each_request",
+            "test_failovers_before_each_request_of_what_nobody_waits_for",
+        ],
+    )
