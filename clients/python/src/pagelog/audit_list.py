@@ -49,7 +49,13 @@ class AuditFollower:
             self.operator.forget()
             found, is_new = (), True
         if is_new:
-            self.next, self._mark, self._last, self._marked, self.is_new_list = 1, 0, None, None, True
+            self.next, self._mark, self._last, self._marked, self.is_new_list = (
+                1,
+                0,
+                None,
+                None,
+                True,
+            )
             self._leave_mark()
             found = self.operator.audit(1)
         self._connects = self.operator.connection.connects
@@ -98,7 +104,13 @@ class AuditRoom:
     The first look costs some 25 entries, a later one some 10.
     """
 
-    def __init__(self, operator: Operator, limit: int = MOST_ENTRIES, *, clock: Callable[[], float] = time.monotonic) -> None:
+    def __init__(
+        self,
+        operator: Operator,
+        limit: int = MOST_ENTRIES,
+        *,
+        clock: Callable[[], float] = time.monotonic,
+    ) -> None:
         self.operator = operator
         self.limit = limit
         self._clock = clock
@@ -112,7 +124,11 @@ class AuditRoom:
         if self.room is None or is_due or now >= self._next_look:
             before = self.room
             entries = self.operator.count_of_entries(before.entries if before else 0)
-            rate = (entries - before.entries) / max(now - self._looked, 1e-9) if before and entries >= before.entries else None
+            rate = (
+                (entries - before.entries) / max(now - self._looked, 1e-9)
+                if before and entries >= before.entries
+                else None
+            )
             self.room, self._looked = Room(entries, self.limit, rate), now
             # Twenty looks in the time that is left, and the second one soon, so that there is a rate.
             full_in = self.room.full_in if before else 1.0

@@ -7,9 +7,16 @@ from dataclasses import dataclass, field
 from typing import Iterable, Iterator, Union
 
 from pagelog.faults import (
-    BlockEndsInField, BlockTooLong, BytesAfterRecords, EmptyPut, LsnOutOfRange, PartitionsNotRising, PutPastPage,
-    UnknownRecordKind, WrongAnnotations,
-)  # fmt: skip
+    BlockEndsInField,
+    BlockTooLong,
+    BytesAfterRecords,
+    EmptyPut,
+    LsnOutOfRange,
+    PartitionsNotRising,
+    PutPastPage,
+    UnknownRecordKind,
+    WrongAnnotations,
+)
 
 PAGE_SIZE = 8192
 """Bytes of a page."""
@@ -95,7 +102,11 @@ class Block:
         if len(listed) > 65535:
             raise BlockTooLong(f"{len(listed)} records")
         try:
-            parts = [_START.pack(lsn, len(partitions)), *map(_SHORT.pack, partitions), _SHORT.pack(len(listed))]
+            parts = [
+                _START.pack(lsn, len(partitions)),
+                *map(_SHORT.pack, partitions),
+                _SHORT.pack(len(listed)),
+            ]
             parts.extend(map(encode_record, listed))
         except struct.error as error:
             raise ValueError(f"an LSN, a page or an offset is no whole number: {error}") from error
@@ -171,7 +182,9 @@ def _check_record(record: Record) -> None:
         if not record.data:
             raise EmptyPut(f"page {record.page}")
         if record.offset + len(record.data) > PAGE_SIZE:
-            raise PutPastPage(f"page {record.page}, offset {record.offset}, {len(record.data)} bytes")
+            raise PutPastPage(
+                f"page {record.page}, offset {record.offset}, {len(record.data)} bytes"
+            )
 
 
 def _check(data: bytes) -> int:

@@ -60,13 +60,32 @@ class Client:
         self._head: Head | None = None
 
     @classmethod
-    def open(cls: type[Self], account: Account, database: int = 0, *, timeout: float = 10.0, **options: Any) -> Self:
+    def open(
+        cls: type[Self],
+        account: Account,
+        database: int = 0,
+        *,
+        timeout: float = 10.0,
+        **options: Any,
+    ) -> Self:
         """A client over a connection of its own. The options are those of the class, as `quorum` of a primary."""
-        return cls(Connection(account.to, timeout=timeout, trust=account.trust), account.credentials, database, **options)
+        return cls(
+            Connection(account.to, timeout=timeout, trust=account.trust),
+            account.credentials,
+            database,
+            **options,
+        )
 
     @classmethod
     def at(
-        cls: type[Self], address: Address | str, id: int, token: str, database: int = 0, *, trust: Trust | None = None, **options: Any
+        cls: type[Self],
+        address: Address | str,
+        id: int,
+        token: str,
+        database: int = 0,
+        *,
+        trust: Trust | None = None,
+        **options: Any,
     ) -> Self:
         """A client of the service at an address as `127.0.0.1:7400`; the token has 32 hexadecimal digits.
 
@@ -77,7 +96,12 @@ class Client:
     def __enter__(self: Self) -> Self:
         return self
 
-    def __exit__(self, kind: type[BaseException] | None, error: BaseException | None, trace: TracebackType | None) -> None:
+    def __exit__(
+        self,
+        kind: type[BaseException] | None,
+        error: BaseException | None,
+        trace: TracebackType | None,
+    ) -> None:
         self.close()
 
     def close(self) -> None:
@@ -99,19 +123,25 @@ class Client:
     def _request(self, act: Act) -> Request:
         head = self._head
         if head is None or head.epoch != self.epoch:
-            head = Head(self.credentials.id, self.credentials.token, self.role, self.database, self.epoch)
+            head = Head(
+                self.credentials.id, self.credentials.token, self.role, self.database, self.epoch
+            )
             self._head = head
         return Request(head, act)
 
     def _take_over(self, epoch: int) -> None:
         """The epoch is this one now. Epochs of one log only rise."""
         if epoch < self.epoch:
-            raise LogWentBack(f"epoch {epoch} where {self.epoch} was seen: the service was restarted")
+            raise LogWentBack(
+                f"epoch {epoch} where {self.epoch} was seen: the service was restarted"
+            )
         self.epoch = epoch
 
     def _saw_hard(self, hard: int) -> None:
         if hard < self.hard_seen:
-            raise LogWentBack(f"{hard} blocks where {self.hard_seen} were seen: the service was restarted")
+            raise LogWentBack(
+                f"{hard} blocks where {self.hard_seen} were seen: the service was restarted"
+            )
         self.hard_seen = hard
 
     # Asking.
@@ -120,7 +150,9 @@ class Client:
         [reply] = self._ask_all((act,))
         return reply
 
-    def _ask_all(self, acts: Sequence[Act], in_flight: int = 64, over: int | None = None) -> list[Reply]:
+    def _ask_all(
+        self, acts: Sequence[Act], in_flight: int = 64, over: int | None = None
+    ) -> list[Reply]:
         """The replies, in order. Those that were denied for an older epoch are asked again in the one that was reported.
 
         With `over` they are fewer where that connection was lost: those that came over it.
@@ -138,7 +170,12 @@ class Client:
         raise UnexpectedReply(f"{MOST_EPOCHS} epochs ended while it was asked")
 
     def _ask_once(
-        self, acts: Sequence[Act], left: Sequence[int], replies: list[Reply | None], in_flight: int, over: int | None
+        self,
+        acts: Sequence[Act],
+        left: Sequence[int],
+        replies: list[Reply | None],
+        in_flight: int,
+        over: int | None,
     ) -> tuple[int | None, int]:
         """Asks those that are left, and puts their replies into `replies`. Returns the epoch of the last denial for the sake
         of another, and how many replies came.
@@ -181,4 +218,7 @@ class PageClient(Client):
 
     def pages(self, numbers: Sequence[int], lsn: int, *, exact: bool = True) -> list[Page]:
         """Pages at one LSN, asked for together."""
-        return [expect(Page, reply) for reply in self._ask_all([Get(number, lsn, exact) for number in numbers])]
+        return [
+            expect(Page, reply)
+            for reply in self._ask_all([Get(number, lsn, exact) for number in numbers])
+        ]

@@ -20,7 +20,9 @@ def main() -> None:
         print(f"pagelogctl needs {error.name}: {LACKS}", file=sys.stderr)
         sys.exit(1)
     except OSError as error:
-        os.dup2(os.open(os.devnull, os.O_WRONLY), 1)  # where the output is full, what is left of it goes nowhere
+        os.dup2(
+            os.open(os.devnull, os.O_WRONLY), 1
+        )  # where the output is full, what is left of it goes nowhere
         print(f"pagelogctl: {error}", file=sys.stderr)
         sys.exit(1)
     except KeyboardInterrupt:

@@ -60,7 +60,9 @@ def all_blocks(reader: Reader, first: int, last: int) -> Iterator[Block]:
         first = span.last + 1
 
 
-def compare(found: Iterable[Block], wanted: Iterable[Block], *, told: Progress = no_progress, last: int = 0) -> int:
+def compare(
+    found: Iterable[Block], wanted: Iterable[Block], *, told: Progress = no_progress, last: int = 0
+) -> int:
     """How many blocks two logs have in common, which are equal from their beginnings on. Raises `OtherLog`."""
     count = 0
     for one, other in zip(found, wanted, strict=True):
@@ -123,7 +125,12 @@ class Replay:
 
 
 def verify(
-    archive: Archive, reader: Reader, *, last: int = HIGHEST_LSN, seed: int | None = None, told: Progress = no_progress
+    archive: Archive,
+    reader: Reader,
+    *,
+    last: int = HIGHEST_LSN,
+    seed: int | None = None,
+    told: Progress = no_progress,
 ) -> Verified:
     """Compares all archived blocks, or those up to LSN `last`, with those of a service, and a sample of pages at the last
     of them and half way.
@@ -159,7 +166,9 @@ def _compare_pages(reader: Reader, replay: Replay, lsn: int) -> tuple[int, int]:
         if isinstance(reply, Denied) and reply.section is Section.B:
             refused += 1
         elif expect(Page, reply).data != replay.pages[number]:
-            raise OtherLog(lsn, f"page {number} of the service is not what the archived blocks make of it")
+            raise OtherLog(
+                lsn, f"page {number} of the service is not what the archived blocks make of it"
+            )
         else:
             same += 1
     return same, refused

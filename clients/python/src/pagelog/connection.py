@@ -88,9 +88,15 @@ class Connection:
     """
 
     def __init__(
-        self, address: Address | str, *, timeout: float = 10.0, attempts: int = 5, pause: float = 0.05,
-        reply_timeout: float | None = None, trust: Trust | None = None,
-    ) -> None:  # fmt: skip
+        self,
+        address: Address | str,
+        *,
+        timeout: float = 10.0,
+        attempts: int = 5,
+        pause: float = 0.05,
+        reply_timeout: float | None = None,
+        trust: Trust | None = None,
+    ) -> None:
         self.trust = trust
         self.address = Address.parse(address) if isinstance(address, str) else address
         self.timeout = timeout
@@ -117,7 +123,12 @@ class Connection:
     def __enter__(self) -> Connection:
         return self
 
-    def __exit__(self, kind: type[BaseException] | None, error: BaseException | None, trace: TracebackType | None) -> None:
+    def __exit__(
+        self,
+        kind: type[BaseException] | None,
+        error: BaseException | None,
+        trace: TracebackType | None,
+    ) -> None:
         self.close()
 
     @property
@@ -150,7 +161,9 @@ class Connection:
         [reply] = self.exchange((request,), in_flight=1)
         return reply
 
-    def exchange(self, requests: Iterable[Request], in_flight: int = 64, over: int | None = None) -> Generator[Reply, None, None]:
+    def exchange(
+        self, requests: Iterable[Request], in_flight: int = 64, over: int | None = None
+    ) -> Generator[Reply, None, None]:
         """The replies to the requests, in order, with at most `in_flight` requests in flight.
 
         The next request is taken from `requests` when there is room for it. An iterator that is left before its end
@@ -163,15 +176,24 @@ class Connection:
         for answer in self.answers(requests, in_flight, over):
             yield answer.reply
 
-    def answers(self, requests: Iterable[Request], in_flight: int = 64, over: int | None = None) -> Generator[Answer, None, None]:
+    def answers(
+        self, requests: Iterable[Request], in_flight: int = 64, over: int | None = None
+    ) -> Generator[Answer, None, None]:
         """As `exchange`, and says of each reply whether its request was repeated."""
         if in_flight < 1:
             raise ValueError(f"{in_flight} requests in flight: at least 1 is")
         self._check_process()
         source = map(_Waiting, requests)
         if self._in_use:
-            raise RuntimeError("the connection is in use: end the exchange that was begun on it first")
-        self._in_use, self._thread, self._is_closed_by_other, self._most = True, threading.get_ident(), False, in_flight
+            raise RuntimeError(
+                "the connection is in use: end the exchange that was begun on it first"
+            )
+        self._in_use, self._thread, self._is_closed_by_other, self._most = (
+            True,
+            threading.get_ident(),
+            False,
+            in_flight,
+        )
         try:
             self._leave_replies()  # of one that was interrupted as it ended
             while over is None or (over == self.connects and self.is_open):
@@ -196,7 +218,9 @@ class Connection:
         """A child that a fork made would read replies to its parent."""
         if self._process != os.getpid():
             if self.connects:
-                raise RuntimeError(f"the connection was made in process {self._process}: make another one in this process")
+                raise RuntimeError(
+                    f"the connection was made in process {self._process}: make another one in this process"
+                )
             self._process = os.getpid()
 
     def _first_reply(self, in_flight: int, stays: bool) -> Reply | None:
@@ -235,7 +259,9 @@ class Connection:
         for asked in self._waiting:
             if asked.sent and not asked.request.act.repeatable:
                 self._count_again()
-                raise InDoubt(f"{asked.request.act.operation.word} may have been done: {error}") from error
+                raise InDoubt(
+                    f"{asked.request.act.operation.word} may have been done: {error}"
+                ) from error
 
     def _count_again(self) -> None:
         self._failures = 0
@@ -248,15 +274,24 @@ class Connection:
             raise error
         wait = self._waits.next()
         again = sum(1 for asked in self._waiting if asked.sent)
-        _logger.info("%s; connecting again in %.3f s, attempt %d of %d, and %d requests are sent again", error, wait,
-                     self._failures + 1, self.attempts, again)  # fmt: skip
+        _logger.info(
+            "%s; connecting again in %.3f s, attempt %d of %d, and %d requests are sent again",
+            error,
+            wait,
+            self._failures + 1,
+            self.attempts,
+            again,
+        )
         time.sleep(wait)
 
     def _connect(self) -> None:
         self._check_closed()
         try:
             made = dial(self.address.host, self.address.port, self.timeout, self.trust)
-        except (OSError, UnicodeError) as error:  # UnicodeError: the host is no name that can be looked up
+        except (
+            OSError,
+            UnicodeError,
+        ) as error:  # UnicodeError: the host is no name that can be looked up
             raise Unreachable(f"{self.address}: {error}") from error
         made.setsockopt(socket.IPPROTO_TCP, socket.TCP_NODELAY, 1)
         made.setblocking(False)

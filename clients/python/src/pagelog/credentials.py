@@ -95,12 +95,16 @@ class Accounts:
         """The account of this role. Raises `CredentialsError` where there is none."""
         found = self.of_role.get(role)
         if found is None:
-            raise CredentialsError(f"the credentials have no section [{role.word}], which this needs")
+            raise CredentialsError(
+                f"the credentials have no section [{role.word}], which this needs"
+            )
         return found
 
 
 def load(
-    file: str | Path | None = None, environment: Mapping[str, str] | None = None, words: Mapping[str, str] | None = None
+    file: str | Path | None = None,
+    environment: Mapping[str, str] | None = None,
+    words: Mapping[str, str] | None = None,
 ) -> Accounts:
     """The accounts of the file, or of the one that the environment names. Those of the environment override them, and `words` of TLS both.
 
@@ -109,15 +113,30 @@ def load(
     environment = os.environ if environment is None else environment
     name = file if file is not None else environment.get(FILE_VARIABLE)
     document = _read(Path(name)) if name else {}
-    unknown = set(document) - {role.word for role in Role} - {"archive", "service", "keeper", "store", "tls"}
+    unknown = (
+        set(document)
+        - {role.word for role in Role}
+        - {"archive", "service", "keeper", "store", "tls"}
+    )
     if unknown:
         raise CredentialsError(f"{name}: there is no section [{sorted(unknown)[0]}]")
-    sections = {role: {**_section(document, role.word), **_variables(environment, role)} for role in Role}
+    sections = {
+        role: {**_section(document, role.word), **_variables(environment, role)} for role in Role
+    }
     trust = trust_of(words or {}, of_environment(environment), _section(document, "tls", WORDS))
-    accounts = {role: _account(role, section, trust) for role, section in sections.items() if section}
-    archive, service = _section(document, "archive", ("url", "keep", "key_file", "store")), _section(document, "service", ("audit", "quorum", "memory"))
+    accounts = {
+        role: _account(role, section, trust) for role, section in sections.items() if section
+    }
+    archive, service = _section(
+        document, "archive", ("url", "keep", "key_file", "store")
+    ), _section(document, "service", ("audit", "quorum", "memory"))
     keys = archive.get("key_file")
-    url, limit, quorum, memory = archive.get("url"), service.get("audit"), service.get("quorum", QUORUM), service.get("memory")
+    url, limit, quorum, memory = (
+        archive.get("url"),
+        service.get("audit"),
+        service.get("quorum", QUORUM),
+        service.get("memory"),
+    )
     if url is not None and not isinstance(url, str):
         raise CredentialsError("[archive]: url is a text")
     if keys is not None and not isinstance(keys, str):
@@ -128,9 +147,18 @@ def load(
         raise CredentialsError("[service]: quorum is 2 or 4")
     if memory is not None and (type(memory) is not int or memory < 1):
         raise CredentialsError("[service]: memory is a number of bytes, 1 or more")
-    return Accounts(accounts, url, keep_of(archive.get("keep")), limit, quorum, memory, _section(document, "keeper"),
-                    None if keys is None else Path(name or ".").absolute().parent / keys,
-                    StoreSettings.of(archive.get("store"), _section(document, "store")), trust)  # fmt: skip
+    return Accounts(
+        of_role=accounts,
+        archive_url=url,
+        archive_keep=keep_of(archive.get("keep")),
+        audit_limit=limit,
+        quorum=quorum,
+        memory=memory,
+        keeper=_section(document, "keeper"),
+        key_file=None if keys is None else Path(name or ".").absolute().parent / keys,
+        store=StoreSettings.of(archive.get("store"), _section(document, "store")),
+        trust=trust,
+    )
 
 
 def keep_of(value: object) -> str | int | None:
@@ -154,18 +182,25 @@ def _read(file: Path) -> dict[str, Any]:
             return tomllib.load(opened)
     except OSError as error:
         raise CredentialsError(f"{file}: {error.strerror}") from error
-    except (ValueError, RecursionError) as error:  # also of a number of thousands of digits, and of brackets within brackets
+    except (
+        ValueError,
+        RecursionError,
+    ) as error:  # also of a number of thousands of digits, and of brackets within brackets
         raise CredentialsError(f"{file.name}: {error}") from error
 
 
-def _section(document: Mapping[str, Any], name: str, keys: Sequence[str] | None = None) -> dict[str, Any]:
+def _section(
+    document: Mapping[str, Any], name: str, keys: Sequence[str] | None = None
+) -> dict[str, Any]:
     """The section of this name, which has no other keys than these."""
     section = document.get(name, {})
     if not isinstance(section, dict):
         raise CredentialsError(f"{name} is no section")
     unknown = set(section) - set(section if keys is None else keys)
     if unknown:
-        raise CredentialsError(f"[{name}] has no key {min(unknown)!r}: it may have {', '.join(keys or ())}")
+        raise CredentialsError(
+            f"[{name}] has no key {min(unknown)!r}: it may have {', '.join(keys or ())}"
+        )
     return dict(section)
 
 
@@ -175,7 +210,9 @@ def _variables(environment: Mapping[str, str], role: Role) -> dict[str, Any]:
         value = environment.get(f"PAGELOG_{role.name}_{key.upper()}")
         if value is not None:
             # A number of more digits than an id may have stays a text, which is no id.
-            found[key] = int(value) if key == "id" and value.isdecimal() and len(value) <= 10 else value
+            found[key] = (
+                int(value) if key == "id" and value.isdecimal() and len(value) <= 10 else value
+            )
     return found
 
 
@@ -187,6 +224,10 @@ def _account(role: Role, section: Mapping[str, Any], trust: Trust | None) -> Acc
     if set(section) - set(_KEYS):
         raise CredentialsError(f"{place} has more than to, id and token")
     try:
-        return Account(Address.parse(str(section["to"])), Credentials.of(section["id"], str(section["token"])), trust)
+        return Account(
+            Address.parse(str(section["to"])),
+            Credentials.of(section["id"], str(section["token"])),
+            trust,
+        )
     except (CredentialsError, ValueError) as error:
         raise CredentialsError(f"{place}: {error}") from error

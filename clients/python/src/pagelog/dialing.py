@@ -34,7 +34,9 @@ def dial(host: str, port: int, timeout: float, trust: Trust | None = None) -> so
     raise failed
 
 
-def _connected(family: int, kind: int, protocol: int, address: object, timeout: float) -> socket.socket:
+def _connected(
+    family: int, kind: int, protocol: int, address: object, timeout: float
+) -> socket.socket:
     made = socket.socket(family, kind, protocol)
     try:
         made.settimeout(timeout)

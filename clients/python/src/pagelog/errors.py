@@ -24,9 +24,21 @@ from __future__ import annotations
 from typing import ClassVar
 
 __all__ = [
-    "PagelogError", "Unreachable", "ConnectionLost", "TimedOut", "InDoubt", "LogWentBack", "UnexpectedReply",
-    "HoldsSqlite", "CredentialsError", "Refusal", "OutOfMemory", "AuditListFull", "TurnsSpent", "UnknownDatabase",
-]  # fmt: skip
+    "PagelogError",
+    "Unreachable",
+    "ConnectionLost",
+    "TimedOut",
+    "InDoubt",
+    "LogWentBack",
+    "UnexpectedReply",
+    "HoldsSqlite",
+    "CredentialsError",
+    "Refusal",
+    "OutOfMemory",
+    "AuditListFull",
+    "TurnsSpent",
+    "UnknownDatabase",
+]
 
 
 class PagelogError(Exception):
@@ -74,8 +86,10 @@ class HoldsSqlite(PagelogError):
 
     def __init__(self, lsn: int, name: str) -> None:
         called = f" {name!r}" if name else ""
-        super().__init__(f"page 0 ends the SQLite database{called} at LSN {lsn}, which these records would destroy: nothing was "
-                         "written. Use another database, or say overwrite_sqlite=True")  # fmt: skip
+        super().__init__(
+            f"page 0 ends the SQLite database{called} at LSN {lsn}, which these records would destroy: nothing was "
+            "written. Use another database, or say overwrite_sqlite=True"
+        )
         self.lsn, self.name = lsn, name
 
 

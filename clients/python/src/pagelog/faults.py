@@ -19,7 +19,9 @@ class BlockFault(Fault):
     """A block's bytes are not in the format."""
 
     def __init__(self, detail: str = "") -> None:
-        super().__init__(f"block fault {self.code}: {first_line(type(self).__doc__)}{detail and ': ' + detail}")
+        super().__init__(
+            f"block fault {self.code}: {first_line(type(self).__doc__)}{detail and ': ' + detail}"
+        )
 
 
 class BlockEndsInField(BlockFault):
@@ -78,9 +80,18 @@ class BlockTooLong(BlockFault):
 
 BLOCK_FAULTS: dict[int, type[BlockFault]] = {
     kind.code: kind
-    for kind in (BlockEndsInField, LsnOutOfRange, PartitionsNotRising, UnknownRecordKind, EmptyPut, PutPastPage,
-                 BytesAfterRecords, WrongAnnotations, BlockTooLong)
-}  # fmt: skip
+    for kind in (
+        BlockEndsInField,
+        LsnOutOfRange,
+        PartitionsNotRising,
+        UnknownRecordKind,
+        EmptyPut,
+        PutPastPage,
+        BytesAfterRecords,
+        WrongAnnotations,
+        BlockTooLong,
+    )
+}
 FIRST_OF_A_BLOCK = 7
 
 
@@ -91,7 +102,9 @@ class RequestFault(Fault):
     """A request's body, or a value for it, is not in the format."""
 
     def __init__(self, detail: str = "") -> None:
-        super().__init__(f"request fault {self.code}: {first_line(type(self).__doc__)}{detail and ': ' + detail}")
+        super().__init__(
+            f"request fault {self.code}: {first_line(type(self).__doc__)}{detail and ': ' + detail}"
+        )
 
 
 class BodyTooShort(RequestFault):
@@ -145,9 +158,15 @@ class FaultyBlock(RequestFault):
 
 REQUEST_FAULTS: dict[int, type[RequestFault]] = {
     kind.code: kind
-    for kind in (BodyTooShort, UnknownRole, UnknownOperation, BodyEndsInArgument, BytesAfterArguments,
-                 ArgumentOutOfRange)
-}  # fmt: skip
+    for kind in (
+        BodyTooShort,
+        UnknownRole,
+        UnknownOperation,
+        BodyEndsInArgument,
+        BytesAfterArguments,
+        ArgumentOutOfRange,
+    )
+}
 
 
 def request_fault(code: int) -> RequestFault:
@@ -171,7 +190,9 @@ class ReplyFault(Fault):
     """A reply's body is not in the format."""
 
     def __init__(self, detail: str = "") -> None:
-        super().__init__(f"reply fault {self.code}: {first_line(type(self).__doc__)}{detail and ': ' + detail}")
+        super().__init__(
+            f"reply fault {self.code}: {first_line(type(self).__doc__)}{detail and ': ' + detail}"
+        )
 
 
 class EmptyReply(ReplyFault):
@@ -221,5 +242,3 @@ class FaultyBlockInReply(ReplyFault):
     @property
     def code(self) -> int:  # type: ignore[override]
         return self._code
-
-

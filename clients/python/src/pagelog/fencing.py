@@ -5,7 +5,7 @@ from __future__ import annotations
 import time
 from typing import Callable
 
-from pagelog.archiving import Archiver
+from pagelog.archive.archiving import Archiver
 from pagelog.audit_list import AuditRoom, Room
 from pagelog.operator import Operator
 from pagelog.rules import Denial, UnknownPrincipal
@@ -34,9 +34,15 @@ class ListGuard:
     """
 
     def __init__(
-        self, room: AuditRoom, archiver: Archiver, *, fence_at: int = 0, table: TableText | None = None,
-        warn: Callable[[str], None] = lambda _: None, clock: Callable[[], float] = time.monotonic,
-    ) -> None:  # fmt: skip
+        self,
+        room: AuditRoom,
+        archiver: Archiver,
+        *,
+        fence_at: int = 0,
+        table: TableText | None = None,
+        warn: Callable[[str], None] = lambda _: None,
+        clock: Callable[[], float] = time.monotonic,
+    ) -> None:
         self.room = room
         self.archiver = archiver
         self.fence_at = fence_at
@@ -62,7 +68,9 @@ class ListGuard:
             try:
                 room, grown = self._look()
             except Denial as error:
-                if self.table is not None or (isinstance(error, UnknownPrincipal) and self.room.operator.was_let_in):
+                if self.table is not None or (
+                    isinstance(error, UnknownPrincipal) and self.room.operator.was_let_in
+                ):
                     raise
                 self._is_blind = True
                 self._warn(f"it is not known how full the audit list is: {error}")
@@ -72,8 +80,12 @@ class ListGuard:
             soon = grown + int(2 * (room.rate or 0.0))
             if self.table is not None and room.left - soon <= max(self.fence_at, wanted):
                 self.is_fencing = True
-                self.fenced = fence_for_archiver(self.room.operator, self.table, self.archiver.reader.credentials.id)
-                self._warn(f"the audit list has {room.left} entries left: the database is fenced in epoch {self.fenced}")
+                self.fenced = fence_for_archiver(
+                    self.room.operator, self.table, self.archiver.reader.credentials.id
+                )
+                self._warn(
+                    f"the audit list has {room.left} entries left: the database is fenced in epoch {self.fenced}"
+                )
             elif self._is_near(room):
                 self._warn_of(room, wanted)
         return self.fenced is not None
@@ -88,11 +100,15 @@ class ListGuard:
         return room, grown
 
     def _is_near(self, room: Room) -> bool:
-        return room.entries > _NEAR * room.limit or (room.full_in is not None and room.full_in < _NEAR_SECONDS)
+        return room.entries > _NEAR * room.limit or (
+            room.full_in is not None and room.full_in < _NEAR_SECONDS
+        )
 
     def _warn_of(self, room: Room, wanted: int) -> None:
         if self._clock() - self._warned >= _WARNING_SECONDS:
             self._warned = self._clock()
             full_in = "" if room.full_in is None else f", full in {room.full_in:.0f} s"
-            self._warn(f"the audit list has {room.left} entries left of {room.limit}{full_in}; {self.archiver.lag} blocks are not "
-                       f"archived, which want {wanted}: move the database")  # fmt: skip
+            self._warn(
+                f"the audit list has {room.left} entries left of {room.limit}{full_in}; {self.archiver.lag} blocks are not "
+                f"archived, which want {wanted}: move the database"
+            )

@@ -8,13 +8,28 @@ from typing import Sequence, TypeVar
 
 from pagelog.connection import Connection
 from pagelog.credentials import Credentials
-from pagelog.errors import AuditListFull, ConnectionLost, InDoubt, LogWentBack, TurnsSpent, Unreachable
+from pagelog.errors import (
+    AuditListFull,
+    ConnectionLost,
+    InDoubt,
+    LogWentBack,
+    TurnsSpent,
+    Unreachable,
+)
 from pagelog.keeper.table import proof_of, token_of
 from pagelog.place import Keepers, Place, WrongToken
 from pagelog.rules import UnknownPrincipal
 from pagelog.secure import Trust
 
-GONE = (ConnectionLost, Unreachable, UnknownPrincipal, LogWentBack, AuditListFull, TurnsSpent, InDoubt)
+GONE = (
+    ConnectionLost,
+    Unreachable,
+    UnknownPrincipal,
+    LogWentBack,
+    AuditListFull,
+    TurnsSpent,
+    InDoubt,
+)
 """What is raised where the service is gone, or is another run's: the keepers know where the database is now."""
 AGAIN = 0.001
 """Seconds before a lost connection is tried once more. Where that is refused the service has ended, and the keepers are asked."""
@@ -41,7 +56,13 @@ class NamedAccount:
 
     def prove(self, nonce: str, of: str) -> tuple[object, ...]:
         """The words that prove to a keeper which has said this nonce that a client has the token."""
-        return "prove", self._name, self.id, proof_of(self._credentials.token, nonce, self._name, self.id, of), f"of={of}"
+        return (
+            "prove",
+            self._name,
+            self.id,
+            proof_of(self._credentials.token, nonce, self._name, self.id, of),
+            f"of={of}",
+        )
 
 
 class Following:
@@ -49,9 +70,16 @@ class Following:
     service, in seconds. `trust` is of both."""
 
     def __init__(
-        self, name: str, keepers: Sequence[str], principal: int, token: str, *, patience: float = 60.0, timeout: float = 10.0,
+        self,
+        name: str,
+        keepers: Sequence[str],
+        principal: int,
+        token: str,
+        *,
+        patience: float = 60.0,
+        timeout: float = 10.0,
         trust: Trust | None = None,
-    ) -> None:  # fmt: skip
+    ) -> None:
         self._account = NamedAccount(name, principal, token)
         self.keepers = Keepers(name, keepers, patience, trust, self._account.prove)
         self._trust = trust
@@ -70,7 +98,8 @@ class Following:
 
     def _see_refused(self, place: Place, who: str) -> None:
         """The service says that it knows no such principal. It may be another's that has the address of one that is gone, which its keeper
-        does not know at once. Raises `WrongToken` where this run has never answered, and its keepers have named it all the while."""
+        does not know at once. Raises `WrongToken` where this run has never answered, and its keepers have named it all the while.
+        """
         if place.run == self._accepted:
             return
         now = time.monotonic()
@@ -80,7 +109,12 @@ class Following:
     def __enter__(self: Self) -> Self:
         return self
 
-    def __exit__(self, kind: type[BaseException] | None, error: BaseException | None, trace: TracebackType | None) -> None:
+    def __exit__(
+        self,
+        kind: type[BaseException] | None,
+        error: BaseException | None,
+        trace: TracebackType | None,
+    ) -> None:
         self.close()
 
     def close(self) -> None:
@@ -93,4 +127,6 @@ class Following:
         raise NotImplementedError
 
     def _connection(self, place: Place, attempts: int = 1) -> Connection:
-        return Connection(place.address, timeout=self._timeout, attempts=attempts, pause=AGAIN, trust=self._trust)
+        return Connection(
+            place.address, timeout=self._timeout, attempts=attempts, pause=AGAIN, trust=self._trust
+        )

@@ -60,7 +60,8 @@ class Group:
 
     def commit(self, *records: Record) -> int:
         """Returns the position of its end once the archive has all up to there. Raises as `NamedPrimary.append` for a faulty
-        record: then nothing of it is taken. Where its wait is interrupted it may be committed all the same."""
+        record: then nothing of it is taken. Where its wait is interrupted it may be committed all the same.
+        """
         for record in records:
             check_record(record)
         mine = _Commit(records)
@@ -78,7 +79,11 @@ class Group:
         with self._lock:
             self._due.append(mine)
             while self._leader is not None and not mine.is_settled:
-                if not self._changed.wait(_GONE) and self._leader is not None and not self._leader.under_way.locked():
+                if (
+                    not self._changed.wait(_GONE)
+                    and self._leader is not None
+                    and not self._leader.under_way.locked()
+                ):
                     self._end_lead()  # an interrupt came amid its `_leave`
             if not mine.is_settled:
                 self._leader, self._taken, self._due = mine, self._due, []
@@ -95,8 +100,12 @@ class Group:
         """What the thread that committed for all has left unsettled is in doubt."""
         for each in self._taken:
             if not each.is_settled:
-                self._ended = self._ended or InDoubt("a thread that committed for all was interrupted")
-                each.settle(InDoubt(f"the thread that committed for all was interrupted: {self._ended!r}"))
+                self._ended = self._ended or InDoubt(
+                    "a thread that committed for all was interrupted"
+                )
+                each.settle(
+                    InDoubt(f"the thread that committed for all was interrupted: {self._ended!r}")
+                )
         self._changed.notify_all()
         self._leader = None
 
@@ -123,7 +132,11 @@ class Group:
         """What became of each, where not all went well."""
         for each in taken:
             if each.position == 0:
-                each.settle(error if isinstance(error, Unwritten) else Unwritten(f"nothing was written: {error}"))
+                each.settle(
+                    error
+                    if isinstance(error, Unwritten)
+                    else Unwritten(f"nothing was written: {error}")
+                )
             elif isinstance(error, Lost) and each.position >= error.position:
                 each.settle(error.again())
             elif each.position <= self._primary.durable_end:

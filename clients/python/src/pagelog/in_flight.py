@@ -99,7 +99,9 @@ def pages_show(block: Block, replies: Sequence[Reply]) -> bool:
     pages = []
     for reply in replies:
         if not isinstance(reply, Page):
-            raise InDoubt(f"LSN {block.lsn} is hardened, and a {type(reply).__name__} does not show whose block it is")
+            raise InDoubt(
+                f"LSN {block.lsn} is hardened, and a {type(reply).__name__} does not show whose block it is"
+            )
         pages.append(bytearray(reply.data))
     before = dict(zip(_pages_of(block), pages[::2]))
     for record in block.records:
@@ -116,7 +118,11 @@ def checked_copies(quorum: int, copies: Sequence[int] | None) -> tuple[int, ...]
         raise ValueError("a quorum is 2 or 4")
     chosen = tuple(range(quorum) if copies is None else copies)
     there = COPIES_OF_QUORUM[quorum]
-    if len(set(chosen)) != len(chosen) or not set(range(there)).issuperset(chosen) or len(chosen) < quorum:
+    if (
+        len(set(chosen)) != len(chosen)
+        or not set(range(there)).issuperset(chosen)
+        or len(chosen) < quorum
+    ):
         raise ValueError(f"copies are {quorum} to {there} different ones of 0 to {there - 1}")
     return chosen
 

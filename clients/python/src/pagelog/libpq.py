@@ -56,4 +56,6 @@ def ready_by_poll(fileno: int, wanted: Wait, seconds: float | None) -> Ready | N
     if not found:
         return None
     event = found[0][1]
-    return Ready((Ready.R if event & ~select.POLLOUT else 0) | (Ready.W if event & ~select.POLLIN else 0))
+    return Ready(
+        (Ready.R if event & ~select.POLLOUT else 0) | (Ready.W if event & ~select.POLLIN else 0)
+    )

@@ -9,7 +9,11 @@ from pagelog.request import Act, Audit, Get, Pull, Status
 def mismatch(act: Act, epoch: int, reply: Reply) -> str | None:
     """What is wrong with a reply to this act in this epoch; None where it may be an answer."""
     if isinstance(act, Status) and isinstance(reply, State):
-        return None if reply.epoch == epoch else f"a status of epoch {reply.epoch} to a request in epoch {epoch}"
+        return (
+            None
+            if reply.epoch == epoch
+            else f"a status of epoch {reply.epoch} to a request in epoch {epoch}"
+        )
     if isinstance(act, Get) and isinstance(reply, Page):
         return _of_page(act, reply)
     if isinstance(act, Pull) and isinstance(reply, Blocks):
@@ -21,7 +25,11 @@ def mismatch(act: Act, epoch: int, reply: Reply) -> str | None:
 
 def _of_page(act: Get, page: Page) -> str | None:
     is_good = page.at == act.lsn if act.exact else page.at >= act.lsn
-    return None if is_good else f"a page at LSN {page.at} to a get at {'' if act.exact else 'or above '}LSN {act.lsn}"
+    return (
+        None
+        if is_good
+        else f"a page at LSN {page.at} to a get at {'' if act.exact else 'or above '}LSN {act.lsn}"
+    )
 
 
 def _of_blocks(act: Pull, pulled: Blocks) -> str | None:

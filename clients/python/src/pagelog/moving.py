@@ -8,7 +8,7 @@ from dataclasses import dataclass, field
 from typing import Callable
 
 from pagelog.archive import ArchiveError
-from pagelog.archiving import Archiver
+from pagelog.archive.archiving import Archiver
 from pagelog.audit_list import MOST_ENTRIES, AuditRoom
 from pagelog.comparing import PULLS, OtherLog, Progress, all_blocks, compare, no_progress
 from pagelog.fencing import ListGuard
@@ -56,7 +56,9 @@ def is_same_database(one: Operator, other: Operator) -> bool:
     mark = secrets.randbits(62) | 1 << 62
     before = one.count_of_entries()
     other.audit(mark, 1)
-    return any(entry.operation is Operation.AUDIT and entry.a == mark for entry in one.entries(before + 1))
+    return any(
+        entry.operation is Operation.AUDIT and entry.a == mark for entry in one.entries(before + 1)
+    )
 
 
 @dataclass
@@ -109,7 +111,13 @@ class Move:
         self._check_room()
         self._raise_epoch()
         room = AuditRoom(self.operator, self.source_limit)
-        self._guard = ListGuard(room, self.archiver, fence_at=self.archiver.archived // PULL_MAX + 4 * _LOOKS, table=self.table, warn=self.warn)
+        self._guard = ListGuard(
+            room,
+            self.archiver,
+            fence_at=self.archiver.archived // PULL_MAX + 4 * _LOOKS,
+            table=self.table,
+            warn=self.warn,
+        )
         fill(self.archiver.archive, self.primary, self.reader, told=self._archiving(told))
         self._try_reader()
         self._follow(told)
@@ -122,7 +130,9 @@ class Move:
         hard = self._check(compared, told)
         now = self.archiver.reader.status()
         if now.epoch != epoch:
-            raise NotFenced(f"the fence began epoch {epoch}, and the source is in epoch {now.epoch}, with primary {now.primary}")
+            raise NotFenced(
+                f"the fence began epoch {epoch}, and the source is in epoch {now.epoch}, with primary {now.primary}"
+            )
         self._raise_epoch()
         return Moved(hard, hard - before, epoch, time.monotonic() - self._began)
 
@@ -139,16 +149,26 @@ class Move:
         hard, archive = self.archiver.reader.hard_seen, self.archiver.archive
         there = self.target.status().hard
         blocks = max(0, hard - there)
-        wanted = blocks * len(self.primary.copies) + blocks // WINDOW + hard // PULL_MAX + archive.epoch + _LOOKS
+        wanted = (
+            blocks * len(self.primary.copies)
+            + blocks // WINDOW
+            + hard // PULL_MAX
+            + archive.epoch
+            + _LOOKS
+        )
         has = self.target.count_of_entries()
         if has + wanted > self.limit:
-            raise NoRoom(f"the target's audit list takes {self.limit} entries and has {has}, and a move of {blocks} blocks wants "
-                         f"{wanted} more: the source was not fenced")  # fmt: skip
+            raise NoRoom(
+                f"the target's audit list takes {self.limit} entries and has {has}, and a move of {blocks} blocks wants "
+                f"{wanted} more: the source was not fenced"
+            )
         bytes_ = archive.bytes()
         memory = 2 * bytes_ + 200 * hard + 210 * (has + wanted)
         if self.memory is not None and memory > self.memory:
-            raise NoRoom(f"the target may take {self.memory} bytes of memory, and {hard} blocks of {bytes_} bytes with their "
-                         f"entries take some {memory}: the source was not fenced")  # fmt: skip
+            raise NoRoom(
+                f"the target may take {self.memory} bytes of memory, and {hard} blocks of {bytes_} bytes with their "
+                f"entries take some {memory}: the source was not fenced"
+            )
 
     def _archiving(self, told: Progress) -> Progress:
         """The same report, and between two steps of other work what was hardened meanwhile is archived."""
@@ -179,12 +199,16 @@ class Move:
         deadline = time.monotonic() + self.patience
         while self.operator.status().hard - self._pass_on(told) > self.within:
             if time.monotonic() > deadline:
-                raise NotFenced(f"not within {self.within} blocks in {self.patience} s; the source was not fenced")
+                raise NotFenced(
+                    f"not within {self.within} blocks in {self.patience} s; the source was not fenced"
+                )
 
     def _pass_on(self, told: Progress) -> int:
         """Archives a batch, and writes to the target what it lacks. Returns the target's hardened end."""
         self._archive()
-        for lsn in self.primary.harden(self.archiver.archive.blocks(self.primary.durable + 1, self.archiver.archived)):
+        for lsn in self.primary.harden(
+            self.archiver.archive.blocks(self.primary.durable + 1, self.archiver.archived)
+        ):
             told(lsn, self.archiver.reader.hard_seen)
         return self.primary.durable
 
@@ -207,11 +231,19 @@ class Move:
         """Compares what came since the comparison before the fence. Returns the hardened end of both."""
         hard, found = self.operator.status().hard, self.reader.status().hard
         if found != hard:
-            raise OtherLog(min(found, hard) + 1, f"the source has {hard} blocks and the target {found}, and one is missing")
+            raise OtherLog(
+                min(found, hard) + 1,
+                f"the source has {hard} blocks and the target {found}, and one is missing",
+            )
         self._compare(compared + 1, hard, told)
         return hard
 
     def _compare(self, first: int, last: int, told: Progress) -> int:
         """Compares both logs from LSN `first` to `last`, which it returns."""
-        compare(all_blocks(self.archiver.reader, first, last), all_blocks(self.reader, first, last), told=told, last=last)
+        compare(
+            all_blocks(self.archiver.reader, first, last),
+            all_blocks(self.reader, first, last),
+            told=told,
+            last=last,
+        )
         return last

@@ -26,7 +26,15 @@ from pagelog.primary import Primary
 from pagelog.reader import Reader
 from pagelog.repeating import Backoff
 from pagelog.request import PULL_MAX, QUORUM
-from pagelog.rules import Denial, NoRowMatches, OlderEpoch, OtherPrimary, TableRow, UnknownPrincipal, UnlistedPrimary
+from pagelog.rules import (
+    Denial,
+    NoRowMatches,
+    OlderEpoch,
+    OtherPrimary,
+    TableRow,
+    UnknownPrincipal,
+    UnlistedPrimary,
+)
 from pagelog.secure import SecurityError, Trust
 
 TAIL = 16 << 20
@@ -56,12 +64,24 @@ class NamedPrimary(Following):
     """
 
     def __init__(
-        self, name: str, keepers: Sequence[str], principal: int, token: str, operator: tuple[int, str], *, quorum: int = QUORUM,
-        patience: float = 60.0, timeout: float = 10.0, overwrite_sqlite: bool = False, trust: Trust | None = None,
-    ) -> None:  # fmt: skip
+        self,
+        name: str,
+        keepers: Sequence[str],
+        principal: int,
+        token: str,
+        operator: tuple[int, str],
+        *,
+        quorum: int = QUORUM,
+        patience: float = 60.0,
+        timeout: float = 10.0,
+        overwrite_sqlite: bool = False,
+        trust: Trust | None = None,
+    ) -> None:
         """`patience` is for a place or an answer of the keepers, `timeout` for a reply of the service, in seconds. With `trust` all of
         them are reached by TLS."""
-        super().__init__(name, keepers, principal, token, patience=patience, timeout=timeout, trust=trust)
+        super().__init__(
+            name, keepers, principal, token, patience=patience, timeout=timeout, trust=trust
+        )
         self.end = 0
         """The position of the last block of the log, as far as this writer knows."""
         self.durable_end = 0
@@ -156,20 +176,24 @@ class NamedPrimary(Following):
 
     def pack(self, commits: Sequence[Sequence[Record]]) -> list[int]:
         """Makes blocks of the records of some commits, which `commit` writes then. Those of one that fit into a block are in one. Returns
-        the position of each one's end. Raises where no epoch can be begun: then nothing is taken."""
+        the position of each one's end. Raises where no epoch can be begun: then nothing is taken.
+        """
         self._begin()
-        if self._ended is not None:
-            raise self._ended
         return self._pack(commits)
 
     def _begin(self) -> None:
-        """Begins an epoch, if it has none. Where that shows that another writer has one, it has ended then."""
+        """Begins an epoch, if it has none. Raises what has ended it: where that shows that another writer has one, it has ended then."""
+        while self._ended is None and (self._primary is None or self._is_behind_another()):
+            if self._primary is None:
+                self._move()
+            else:
+                self.durable(self._last)  # the next block does not follow on it
         if self._ended is not None:
             raise self._ended
-        if self._primary is None:
-            self._move()
-        while self._tail and self._tail[-1].lsn < self.end:
-            self.durable(self._tail[-1].lsn)  # another has gone on behind it, and so the next block does not follow on it
+
+    def _is_behind_another(self) -> bool:
+        """Whether another writer has gone on behind its last block."""
+        return bool(self._tail) and self._last < self.end
 
     @property
     def _last(self) -> int:
@@ -200,14 +224,18 @@ class NamedPrimary(Following):
         try:
             self._primary.commit()  # what a call that raised has left on its way
             self.end = max(self.end, self._primary.durable + shift)
-            for lsn in self._primary.harden([block.at(block.lsn - shift) for block in self._tail if block.lsn > self.end]):
+            for lsn in self._primary.harden(
+                [block.at(block.lsn - shift) for block in self._tail if block.lsn > self.end]
+            ):
                 self.end = max(self.end, lsn + shift)
                 self._overwrite_sqlite = True
         except OutOfMemory as error:
             self._make_room(error)
         except (*GONE, *_DENIED) as error:
             if isinstance(error, OlderEpoch):
-                self.end = max(self.end, self._primary.durable + shift)  # a failover keeps what was in a quorum of copies
+                self.end = max(
+                    self.end, self._primary.durable + shift
+                )  # a failover keeps what was in a quorum of copies
             self._move(error)
 
     def _make_room(self, error: OutOfMemory) -> None:
@@ -241,7 +269,11 @@ class NamedPrimary(Following):
 
     def _move_on(self, error: PagelogError | None) -> None:
         before = -1 if self.place is None else self.place.generation
-        deadline, waits, may_stay = time.monotonic() + self.keepers.patience, Backoff(QUICKEST, SLOWEST), not isinstance(error, _DENIED)
+        deadline, waits, may_stay = (
+            time.monotonic() + self.keepers.patience,
+            Backoff(QUICKEST, SLOWEST),
+            not isinstance(error, _DENIED),
+        )
         newest = before
         while True:
             place = self.keepers.place() if self.place is None else self.keepers.after(self.place)
@@ -250,18 +282,30 @@ class NamedPrimary(Following):
                 self._leave()
                 return self._end_for(error)
             # Where its keeper has closed it, the next generation comes; if it does not, the keeper was killed, and its next life opens it.
-            if (is_next or (may_stay and before != self._over)) and not self._is_of_another_run(place) and self._is_settled(place):
+            if (
+                (is_next or (may_stay and before != self._over))
+                and not self._is_of_another_run(place)
+                and self._is_settled(place)
+            ):
                 return
             may_stay = True
             if time.monotonic() > deadline:
-                raise error or TimedOut(f"in {self.keepers.patience} s no generation of {self.keepers.name} could be used{self._insecure}")
+                raise error or TimedOut(
+                    f"in {self.keepers.patience} s no generation of {self.keepers.name} could be used{self._insecure}"
+                )
             # Another keeper may have seen the take, and told of it, before the one that took has let anybody in.
-            self.keepers.wait_for(place.generation + 1, waits.next(), place if place.generation > newest else None)
+            self.keepers.wait_for(
+                place.generation + 1, waits.next(), place if place.generation > newest else None
+            )
             newest = max(newest, place.generation)
 
     def _is_of_another_run(self, place: Place) -> bool:
         """Whether another run has the number of this writer's generation: PostgreSQL went back. Raises `Lost` where it went on with that."""
-        if self.place is None or place.generation != self.place.generation or place.run == self.place.run:
+        if (
+            self.place is None
+            or place.generation != self.place.generation
+            or place.run == self.place.run
+        ):
             return False
         self._fate(self.place, 0)
         return True
@@ -273,11 +317,15 @@ class NamedPrimary(Following):
                 return
             with Reader(self._connection(place), self._account.of(place)) as witness:
                 for block in [block for block in self._tail if block.lsn > self.end]:
-                    if block.lsn > witness.status().hard + place.shift or not self._is_there(place, witness, block):
+                    if block.lsn > witness.status().hard + place.shift or not self._is_there(
+                        place, witness, block
+                    ):
                         break
                     self.end = block.lsn
         except PagelogError as doubt:
-            raise InDoubt(f"another writer has gone on, and what is in the log above position {self.end} is not known") from doubt
+            raise InDoubt(
+                f"another writer has gone on, and what is in the log above position {self.end} is not known"
+            ) from doubt
 
     def _end_for(self, error: PagelogError) -> None:
         """Another writer has begun an epoch: what is not in the log now never will be, and this writer writes no more.
@@ -294,7 +342,8 @@ class NamedPrimary(Following):
 
     def _is_anothers(self, place: Place) -> bool:
         """Whether another client's failover is what denied; it may have been the keeper, who closes the generation. Another run that has
-        the number says nothing of it. A service that is being killed is not asked: it would be silent until all its memory is freed."""
+        the number says nothing of it. A service that is being killed is not asked: it would be silent until all its memory is freed.
+        """
         if self.place is not None and place.run != self.place.run or self.keepers.has_left(place):
             return False
         try:
@@ -335,7 +384,9 @@ class NamedPrimary(Following):
             return True
         except GONE as error:
             if isinstance(error, UnknownPrincipal):
-                self._see_refused(place, f"principal {self._account.id} or operator {self._operator.id}")
+                self._see_refused(
+                    place, f"principal {self._account.id} or operator {self._operator.id}"
+                )
             self._insecure = f": {error}" if isinstance(error.__cause__, SecurityError) else ""
             return False
         except UnlistedPrimary:
@@ -351,7 +402,9 @@ class NamedPrimary(Following):
             self.keepers.full(place)
             return False
         finally:
-            if self._primary is None:  # whatever has ended it, nothing is written before what became of the tail is settled
+            if (
+                self._primary is None
+            ):  # whatever has ended it, nothing is written before what became of the tail is settled
                 for client in (primary, witness):
                     if client is not None:
                         client.close()
@@ -380,7 +433,11 @@ class NamedPrimary(Following):
         assert self.place is not None
         if place.run == self.place.run:
             return  # it continues, as PostgreSQL went back: its log is the same, and is archived again
-        end = place.kept if place.after == self.place.run else self._fate(self.place, self.end, place.lines).end
+        end = (
+            place.kept
+            if place.after == self.place.run
+            else self._fate(self.place, self.end, place.lines).end
+        )
         if end < self.durable_end:
             lost = self._forget_from(end + 1)
             raise Lost(lost, "PostgreSQL went back, and has lost what was durable")
@@ -428,7 +485,11 @@ class NamedPrimary(Following):
     def _begin_epoch(self, place: Place, credentials: Credentials) -> None:
         """Begins an epoch. In the generation that it was in, it follows on the epoch that this writer has begun last: another writer
         that came since is not fenced."""
-        known = self._epoch if self.place is not None and self.place.generation == place.generation else None
+        known = (
+            self._epoch
+            if self.place is not None and self.place.generation == place.generation
+            else None
+        )
         with Operator(self._connection(place, 2), self._operator.of(place)) as operator:
             while True:
                 try:
@@ -441,8 +502,15 @@ class NamedPrimary(Following):
 
     def _begun(self, place: Place, credentials: Credentials, witness: Reader) -> Primary:
         """The primary of the epoch that was begun, if it is that still: a writer without one begins none in another's way."""
-        primary = Primary(self._connection(place, 2), credentials, epoch=self._epoch, alone=True, quorum=self._quorum, witness=witness,
-                          overwrite_sqlite=self._overwrite_sqlite)  # fmt: skip
+        primary = Primary(
+            self._connection(place, 2),
+            credentials,
+            epoch=self._epoch,
+            alone=True,
+            quorum=self._quorum,
+            witness=witness,
+            overwrite_sqlite=self._overwrite_sqlite,
+        )
         primary.connection.when_sent = self._ring
         try:
             primary.begin()
@@ -460,14 +528,20 @@ class NamedPrimary(Following):
             self.durable_end = min(hard, place.archived)
         lost = self._lost_below(place)
         if lost is None:
-            lost = self._first_other(place, witness, [block for block in self._tail if known < block.lsn <= hard])
+            lost = self._first_other(
+                place, witness, [block for block in self._tail if known < block.lsn <= hard]
+            )
         if lost is None and self._tail and hard < self._tail[0].lsn - 1:
             lost = hard + 1  # what was durable is missing: the archive went back
         if lost is not None:
-            self._tail = [block for block in self._tail if block.lsn < lost]  # it is not durable yet
+            self._tail = [
+                block for block in self._tail if block.lsn < lost
+            ]  # it is not durable yet
             self.end, self.place, self._epoch = hard, place, None
             self.keepers.is_of(place)
-            self._told, self.durable_end = min(self._told, lost - 1), min(self.durable_end, lost - 1)
+            self._told, self.durable_end = min(self._told, lost - 1), min(
+                self.durable_end, lost - 1
+            )
             self._leave()
             raise Lost(lost)
 
@@ -477,7 +551,9 @@ class NamedPrimary(Following):
         for block in [block for block in self._tail if block.lsn <= place.base]:
             digest = self.keepers.block(block.lsn)
             if digest is None:
-                raise _NotToBeKnown(f"whether position {block.lsn} is this writer's is not known: the archive has its block no more")
+                raise _NotToBeKnown(
+                    f"whether position {block.lsn} is this writer's is not known: the archive has its block no more"
+                )
             if digest != hashlib.sha256(block.data).hexdigest():
                 return block.lsn
             self.end = max(self.end, block.lsn)
@@ -493,9 +569,14 @@ class NamedPrimary(Following):
         at = 0
         while at < len(blocks):
             try:
-                span = witness.span(blocks[at].lsn - place.shift, pulls=min(PULLS, -(-(len(blocks) - at) // PULL_MAX)))
+                span = witness.span(
+                    blocks[at].lsn - place.shift,
+                    pulls=min(PULLS, -(-(len(blocks) - at) // PULL_MAX)),
+                )
             except (TableRow, NoRowMatches) as error:
-                raise _NotToBeKnown(f"whether position {blocks[at].lsn} is this writer's is not known: its table lets it pull nothing") from error
+                raise _NotToBeKnown(
+                    f"whether position {blocks[at].lsn} is this writer's is not known: its table lets it pull nothing"
+                ) from error
             found = {served.lsn: served for served in span.blocks}
             for block in blocks[at : at + max(1, span.last + 1 - span.first)]:
                 lsn = block.lsn - place.shift

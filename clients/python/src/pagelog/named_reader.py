@@ -9,12 +9,14 @@ from pagelog.block import Block
 from pagelog.errors import TimedOut
 from pagelog.following import GONE, Following
 from pagelog.page_copies import PageCopies
+from pagelog.page_tail import Tail
 from pagelog.place import QUICKEST, SLOWEST, BelowBase, Place
 from pagelog.polling import HolderPoll, poll_of
 from pagelog.reader import Reader, Span
 from pagelog.repeating import Backoff
 from pagelog.reply import Page
-from pagelog.rules import AboveTheEnd, Section, UnknownPrincipal
+from pagelog.request import PULL_MAX
+from pagelog.rules import AboveTheEnd, Denial, Section, UnknownPrincipal
 from pagelog.secure import Trust
 
 Result = TypeVar("Result")
@@ -36,20 +38,38 @@ class NamedReader(Following):
     readers of the process together. With `durable_only` it sees what is durable, at a standby where there is one, and its
     `end` never falls. docs/KEEPERS.md says how old each may be.
 
-    Where the database has page servers, pages at positions that are known to be durable come from them, over all generations back to
-    the oldest position that is kept; with `pages="never"` from services alone. With `pages="only"` no service is asked: its `end` is
-    that of a page server, which is durable.
+    Where the database has page servers, pages come from the nearest one that has the history of the run that is read, over all
+    generations back to the oldest position that is kept, with the newest blocks laid over them, and else from a service, which says what
+    is newest; with `pages="never"` from services alone. With `pages="only"` no service is asked: its `end` is that of a page server,
+    which is durable.
     """
 
     def __init__(
-        self, name: str, keepers: Sequence[str], principal: int, token: str, *, durable_only: bool = False, pages: str = "prefer",
-        patience: float = 60.0, timeout: float = 10.0, trust: Trust | None = None,
-    ) -> None:  # fmt: skip
-        super().__init__(name, keepers, principal, token, patience=patience, timeout=timeout, trust=trust)
+        self,
+        name: str,
+        keepers: Sequence[str],
+        principal: int,
+        token: str,
+        *,
+        durable_only: bool = False,
+        pages: str = "prefer",
+        patience: float = 60.0,
+        timeout: float = 10.0,
+        trust: Trust | None = None,
+    ) -> None:
+        super().__init__(
+            name, keepers, principal, token, patience=patience, timeout=timeout, trust=trust
+        )
         if pages not in ("prefer", "never", "only"):
             raise ValueError('pages is "prefer", "never" or "only"')
-        self._copies = None if pages == "never" else PageCopies(self.keepers, self._account.in_run, trust)
         self._only_copies = pages == "only"
+        self._copies = (
+            None
+            if pages == "never"
+            else PageCopies(self.keepers, self._account.in_run, trust, is_alone=self._only_copies)
+        )
+        self._tail = Tail()
+        self._page_servers = 0
         self.durable_only = durable_only
         self._reader: Reader | None = None
         self._least = self._durable = self._returned = 0
@@ -76,7 +96,8 @@ class NamedReader(Following):
 
     def end(self) -> int:
         """The position up to which it can be read now: of the log, or with `durable_only` what is durable, which never falls. Raises
-        `TimedOut` where the keepers name another run than the one that they led to, again and again, or one that lacks what was durable."""
+        `TimedOut` where the keepers name another run than the one that they led to, again and again, or one that lacks what was durable.
+        """
         if self._only_copies:
             return self._end_of_copies()
         deadline, waits = time.monotonic() + self.keepers.patience, Backoff(QUICKEST, SLOWEST)
@@ -91,10 +112,16 @@ class NamedReader(Following):
                 self._returned = min(hard, self._durable)
                 return self._returned
             if is_confirmed:
-                self._shunned = self._run  # it has less than another had, or its keeper knows of less
+                self._shunned = (
+                    self._run
+                )  # it has less than another had, or its keeper knows of less
             self._leave()
             if time.monotonic() > deadline:
-                lacks = f"that has position {self._returned}, which was durable" if is_confirmed else f"where {self.keepers.name} is read"
+                lacks = (
+                    f"that has position {self._returned}, which was durable"
+                    if is_confirmed
+                    else f"where {self.keepers.name} is read"
+                )
                 raise TimedOut(f"no keeper has confirmed in {self.keepers.patience} s {lacks}")
             time.sleep(waits.next())
 
@@ -104,13 +131,15 @@ class NamedReader(Following):
         while True:
             self._find_place()
             assert self._copies is not None
-            found = self._copies.end()
-            if found is not None and found >= self._returned:
+            found = self._copies.end(self._returned)
+            if found is not None:
                 self._returned = found
                 return found
             if time.monotonic() > deadline:
-                lacks = "" if found is None else f" that has position {self._returned}, which was durable"
-                raise TimedOut(f"no page server of {self.keepers.name}{lacks} has answered in {self.keepers.patience} s")
+                raise TimedOut(
+                    f"no page server of {self.keepers.name} that has position {self._returned}, which was durable, has answered in "
+                    f"{self.keepers.patience} s"
+                )
             time.sleep(waits.next())
 
     def _find_place(self) -> None:
@@ -125,15 +154,23 @@ class NamedReader(Following):
 
     def _is_confirmed(self, hard: int) -> bool:
         """Whether the run that is read from, whose log ends at `hard`, is the holder's or a standby's still. How far its blocks are the
-        archive's is known then: those of a run that is over may be others, and a standby becomes a holder when it takes over."""
+        archive's is known then: those of a run that is over may be others, and a standby becomes a holder when it takes over.
+        """
         assert self.place is not None
-        told = [place for place in (self.keepers.where(), self.keepers.standby()) if place is not None]
+        told = [
+            place for place in (self.keepers.where(), self.keepers.standby()) if place is not None
+        ]
+        self._page_servers = max((place.pages for place in told), default=self._page_servers)
         same = [place for place in told if place.run == self.place.run]
         self._durable = max(self._durable, *(place.archived for place in same), 0)
         is_at_holder = any(place.generation > 0 for place in same)
         if is_at_holder:
             self._have_archived(hard)
-        self._holder = None if is_at_holder or not same else next((place for place in told if place.generation > 0), None)
+        self._holder = (
+            None
+            if is_at_holder or not same
+            else next((place for place in told if place.generation > 0), None)
+        )
         return bool(same) or not told
 
     def _followed(self, hard: int, holder: Place) -> tuple[int, bool]:
@@ -193,14 +230,43 @@ class NamedReader(Following):
                 return found  # else it was read from another run than the one that the end is of
 
     def _copied(self, numbers: Sequence[int], at: int) -> list[Page] | None:
-        """Pages of a page server, where there is one, and the position is known to be durable."""
+        """Pages of a page server that has the history of the run that is read; None where none has them and answers soon."""
         if self._copies is None:
             return None
         if self._only_copies:
             return self._copied_at_last(self._copies, numbers, at)
-        if self.place is None or not self.place.pages or at > max(self._durable, self.place.archived):
+        if self.place is None or not self._has_page_servers(self.place):
             return None
-        return self._copies.pages(numbers, at)
+        run, durable = self._run, self._hold_tail(self._copies, self.place, at)
+        if run != self._run:
+            return None
+        return self._copies.pages(numbers, at, self._tail, durable)
+
+    def _has_page_servers(self, place: Place) -> bool:
+        """As keepers said last."""
+        told = 0 if self._poll is None else self._poll.page_servers
+        return max(place.pages, self._page_servers, told) > 0
+
+    def _hold_tail(self, copies: PageCopies, place: Place, at: int) -> int:
+        """Pulls the blocks before a position that are lacking, by which page servers are compared with the run, 16 at most. Returns up to
+        which position they are believed without: where there are none to be had, up to what is durable as keepers say.
+        """
+        tail = self._tail
+        if tail.run != place.run:
+            tail.begin(place.run)
+            copies.doubt()
+        if at > tail.last and not tail.is_denied:
+            first = max(at - PULL_MAX, place.base, tail.last) + 1
+            try:
+                span = self._asked(lambda reader: self._span_at(reader, first, 1), first - 1)
+            except AboveTheEnd:
+                return 0  # the service says so
+            except Denial:
+                tail.is_denied = True
+            else:
+                if self._run == tail.run:
+                    tail.add(first, span.last, span.blocks)
+        return max(self._durable, place.archived) if tail.is_denied or tail.is_empty else 0
 
     def _copied_at_last(self, copies: PageCopies, numbers: Sequence[int], at: int) -> list[Page]:
         """The same, where no service is asked. Raises `AboveTheEnd`, `BelowBase` and `TimedOut`."""
@@ -212,11 +278,20 @@ class NamedReader(Following):
             if (oldest := copies.oldest()) is not None and at < oldest:
                 raise BelowBase(at, oldest)
             if time.monotonic() > deadline:
-                raise TimedOut(f"no page server of {self.keepers.name} that has position {at} has answered in {self.keepers.patience} s")
+                raise TimedOut(
+                    f"no page server of {self.keepers.name} that has position {at} has answered in {self.keepers.patience} s"
+                )
             time.sleep(waits.next())
         return found
 
-    def blocks(self, position: int = 1, *, follow: bool = True, idle: float = 0.5, stop: Callable[[], bool] = lambda: False) -> Iterator[Block]:
+    def blocks(
+        self,
+        position: int = 1,
+        *,
+        follow: bool = True,
+        idle: float = 0.5,
+        stop: Callable[[], bool] = lambda: False,
+    ) -> Iterator[Block]:
         """The blocks from this position on, in order, each once, as of a `Reader`."""
         waits = Backoff(QUICKEST, idle)
         while not stop():
@@ -248,8 +323,8 @@ class NamedReader(Following):
             raise AboveTheEnd(error.section, error.row, error.value + self._shift) from error
         return [Page(page.at + self._shift, page.data) for page in found] if self._shift else found
 
-    def _span_at(self, reader: Reader, first: int) -> Span:
-        shift, span = self._shift, reader.span(first - self._shift, pulls=64)
+    def _span_at(self, reader: Reader, first: int, pulls: int = 64) -> Span:
+        shift, span = self._shift, reader.span(first - self._shift, pulls=pulls)
         blocks = tuple(block.at(block.lsn + shift) for block in span.blocks)
         return Span(span.first + shift, span.last + shift, blocks, span.connection)
 
@@ -270,7 +345,11 @@ class NamedReader(Following):
         deadline, waits = time.monotonic() + self.keepers.patience, Backoff(QUICKEST, SLOWEST)
         while True:
             try:
-                found = call((self._reader or self._opened()) if position is None else self._reaching(position))
+                found = call(
+                    (self._reader or self._opened())
+                    if position is None
+                    else self._reaching(position)
+                )
                 self._see_accepted(self._run)
                 return found
             except GONE as error:
@@ -296,7 +375,9 @@ class NamedReader(Following):
     def _opened(self) -> Reader:
         standby = self.keepers.standby() if self.durable_only else None
         if standby is not None and standby.run == self._shunned:
-            standby = None  # it did not answer just now: the keepers may have no better word of it yet
+            standby = (
+                None  # it did not answer just now: the keepers may have no better word of it yet
+            )
         was = self.place
         if standby is not None:
             self.place = standby

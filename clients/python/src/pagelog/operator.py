@@ -9,7 +9,18 @@ from pagelog.audit_list import AuditFollower
 from pagelog.client import MOST_EPOCHS, Client, reported_epoch
 from pagelog.errors import UnexpectedReply
 from pagelog.reply import Done, Entries, Entry, State, expect
-from pagelog.request import AUDIT_MAX, Act, Audit, Failover, Head, Request, Role, SetTable, Status, Tidy
+from pagelog.request import (
+    AUDIT_MAX,
+    Act,
+    Audit,
+    Failover,
+    Head,
+    Request,
+    Role,
+    SetTable,
+    Status,
+    Tidy,
+)
 
 
 class Operator(Client):
@@ -48,7 +59,11 @@ class Operator(Client):
         table = SetTable(text.encode() if isinstance(text, str) else text)
         for _ in range(MOST_EPOCHS):
             epoch = self.epoch
-            asked = (self._request(table), self._request(Failover(to)), self._request_in(epoch + 1, Status()))
+            asked = (
+                self._request(table),
+                self._request(Failover(to)),
+                self._request_in(epoch + 1, Status()),
+            )
             done, fenced, state = self.connection.exchange(asked)
             told = reported_epoch(done)
             if told is None:
@@ -60,7 +75,9 @@ class Operator(Client):
         raise UnexpectedReply(f"{MOST_EPOCHS} epochs ended while it was asked")
 
     def _request_in(self, epoch: int, act: Act) -> Request:
-        return Request(Head(self.credentials.id, self.credentials.token, self.role, self.database, epoch), act)
+        return Request(
+            Head(self.credentials.id, self.credentials.token, self.role, self.database, epoch), act
+        )
 
     def tidy(self) -> None:
         """Moves all but the 64 newest blocks to the segments, where they take less memory."""
@@ -97,9 +114,14 @@ class Operator(Client):
         return low
 
     def entries(
-        self, first: int = 1, *, follow: bool = False, idle: float = 1.0, stop: Callable[[], bool] = lambda: False,
+        self,
+        first: int = 1,
+        *,
+        follow: bool = False,
+        idle: float = 1.0,
+        stop: Callable[[], bool] = lambda: False,
         renewed: Callable[[], None] = lambda: None,
-    ) -> Iterator[Entry]:  # fmt: skip
+    ) -> Iterator[Entry]:
         """The entries from number `first` on. With `follow` it waits for more, asking each `idle` seconds.
 
         Each question is an entry itself. One who follows does not take its own questions for news: it waits where

@@ -30,7 +30,11 @@ class PageServer(Client):
     role = Role.PAGE_SERVER
 
     def __init__(
-        self, connection: Connection, credentials: Credentials, database: int = 0, partitions: Sequence[int] = (0,)
+        self,
+        connection: Connection,
+        credentials: Credentials,
+        database: int = 0,
+        partitions: Sequence[int] = (0,),
     ) -> None:
         super().__init__(connection, credentials, database)
         self.partitions = tuple(partitions)
@@ -48,7 +52,11 @@ class PageServer(Client):
             self.applied, self._connects = 0, self.connection.connects
         moved = min(hard - self.applied, _MOST_LSNS)
         if moved:
-            acts = [Advance(partition, steps) for partition in self.partitions for steps in _steps(moved)]
+            acts = [
+                Advance(partition, steps)
+                for partition in self.partitions
+                for steps in _steps(moved)
+            ]
             try:
                 for reply in self._ask_all(acts):
                     expect(Done, reply)

@@ -74,7 +74,8 @@ class Lost(PagelogError):
 
 class Dropped(Lost):
     """The database that was opened is no more: it was dropped, or the keepers have another of its name. All of it is lost to this
-    client, which reads and writes nothing any more. One that is opened anew finds what has the name now."""
+    client, which reads and writes nothing any more. One that is opened anew finds what has the name now.
+    """
 
     def __init__(self, name: str, why: str) -> None:
         self.name = name
@@ -96,7 +97,8 @@ class BelowBase(PagelogError):
 class Place:
     """Where a generation is served; a standby has none, 0. A position is an LSN of its service plus `shift`; the service began with
     the images of the pages at position `base`, or where that is 0 with the first block. The generation directly before this one
-    ended at position `kept`. `database` is what no other one ever has, also one of the same name; an older keeper says none."""
+    ended at position `kept`. `database` is what no other one ever has, also one of the same name; an older keeper says none.
+    """
 
     generation: int
     run: str
@@ -132,7 +134,8 @@ class PageServerPlace:
 class Fate:
     """How far a generation is durable. If it `is_over`, nothing above `end` will ever be. If it `is_lost` PostgreSQL has lost its run, and
     went on without it: what it had above its durable blocks is nowhere, and of those nothing is known; `why` says so. If the run `continues`
-    under a later number, as PostgreSQL went back, the generation is over, and what its log has above `end` is archived again."""
+    under a later number, as PostgreSQL went back, the generation is over, and what its log has above `end` is archived again.
+    """
 
     end: int
     is_over: bool
@@ -221,7 +224,11 @@ class _Line:
                 return None
             self._left, words = rest, line.decode(errors="replace").split()
             if self.version == 0:
-                self.version = int(words[1]) if words[:1] == ["hello"] and words[1:2] and words[1].isdecimal() else 1
+                self.version = (
+                    int(words[1])
+                    if words[:1] == ["hello"] and words[1:2] and words[1].isdecimal()
+                    else 1
+                )
                 nonce = _parted(words)[1].get("nonce", "")
                 self._nonce = nonce if _NONCE.fullmatch(nonce) else ""
             elif words not in _NO_ANSWER:
@@ -236,7 +243,12 @@ class Keepers:
     """The keepers of a named database. Any of them answers; those that do not are left out, as long as one does."""
 
     def __init__(
-        self, name: str, addresses: Sequence[str], patience: float = 60.0, trust: Trust | None = None, prover: Prover | None = None
+        self,
+        name: str,
+        addresses: Sequence[str],
+        patience: float = 60.0,
+        trust: Trust | None = None,
+        prover: Prover | None = None,
     ) -> None:
         """`patience` is in seconds, for a place or an answer. With `trust` all lines are by TLS. Without a `prover` keepers may refuse what
         costs them something."""
@@ -274,7 +286,9 @@ class Keepers:
         """Whoever uses these is a client of the database of this place from now on, in its run."""
         self._own = place
 
-    def _ask(self, address: str, words: Sequence[object], timeout: float = _ANSWER, of: str = "") -> list[str]:
+    def _ask(
+        self, address: str, words: Sequence[object], timeout: float = _ANSWER, of: str = ""
+    ) -> list[str]:
         """The answer of one keeper; of no words where it does not answer. Its connection is made anew then.
 
         `of` says which database and run is meant. An older keeper is asked without, once that is known.
@@ -316,7 +330,9 @@ class Keepers:
         if is_unknown and (self._own is None or is_told):
             raise UnknownName(f"the keepers know of no database {self.name}")
         if len(told) == len(self._addresses) and not any(place.database for place in told):
-            raise OlderKeepers(f"all keepers of {self.name} are of version 1: they are upgraded before their clients")
+            raise OlderKeepers(
+                f"all keepers of {self.name} are of version 1: they are upgraded before their clients"
+            )
         return None
 
     def _is_own(self, place: Place) -> bool:
@@ -325,7 +341,8 @@ class Keepers:
 
     def _check_own(self) -> bool:
         """Some keepers have another database of the name, or none. Raises `Dropped` where one says that this is so for good: a keeper that
-        is cut off may only know less. Returns whether one has answered, which has to ask PostgreSQL before."""
+        is cut off may only know less. Returns whether one has answered, which has to ask PostgreSQL before.
+        """
         own, has_answered = self._own, False
         for address in self._asks() if own is not None else []:
             assert own is not None
@@ -336,16 +353,26 @@ class Keepers:
 
     def place(self, least: int = 0) -> Place:
         """The place, of generation `least` or a later one, once there is one. Raises `TimedOut`, and `NoKeeper` for who opens the database."""
-        deadline, waits, gone = time.monotonic() + self.patience, Backoff(QUICKEST, SLOWEST), float("inf")
+        deadline, waits, gone = (
+            time.monotonic() + self.patience,
+            Backoff(QUICKEST, SLOWEST),
+            float("inf"),
+        )
         seconds = _ANSWER
         while True:
             found = self.where(seconds)
             seconds = _ANSWER if self._is_heard else min(2 * seconds, _SLOWEST_ANSWER)
             if found is not None and found.generation >= least:
                 return found
-            gone = min(gone, time.monotonic()) if self._refused.issuperset(self._addresses) else float("inf")
+            gone = (
+                min(gone, time.monotonic())
+                if self._refused.issuperset(self._addresses)
+                else float("inf")
+            )
             if self.opens and self._own is None and time.monotonic() - gone >= _GONE:
-                raise NoKeeper(f"no keeper answers: {self._insecure or 'all connections are refused'}")
+                raise NoKeeper(
+                    f"no keeper answers: {self._insecure or 'all connections are refused'}"
+                )
             if time.monotonic() > deadline:
                 why = f": {self._insecure}" if self._insecure else ""
                 raise TimedOut(f"no keeper has said in {self.patience} s where {self.name} is{why}")
@@ -365,7 +392,9 @@ class Keepers:
         poll = select.poll()
         try:
             for address in wanted:
-                if (line := self._asked(address, ("next", self.name, wanted[address]), _ANSWER)) is not None:
+                if (
+                    line := self._asked(address, ("next", self.name, wanted[address]), _ANSWER)
+                ) is not None:
                     waiting[line.fileno()] = address, line
                     poll.register(line, select.POLLIN)
             deadline = time.monotonic() + _HELD
@@ -380,7 +409,11 @@ class Keepers:
                     if words:
                         self._lines[address] = line
                     place = _place(words)
-                    if place is not None and place.generation >= wanted[address] and self._is_own(place):
+                    if (
+                        place is not None
+                        and place.generation >= wanted[address]
+                        and self._is_own(place)
+                    ):
                         return
         finally:
             for _, line in waiting.values():
@@ -388,7 +421,9 @@ class Keepers:
         if not waiting:
             time.sleep(seconds)
 
-    def _asked(self, address: str, words: Sequence[object], timeout: float, of: str = "") -> _Line | None:
+    def _asked(
+        self, address: str, words: Sequence[object], timeout: float, of: str = ""
+    ) -> _Line | None:
         """The line of a keeper, over which this was asked; None where it does not listen. It is put back with its answer: where that is
         interrupted, it would be taken for the answer to the next question."""
         line = self._lines.pop(address, None)
@@ -424,7 +459,9 @@ class Keepers:
     def _asks(self) -> list[str]:
         """Those to ask: of a machine that is gone each question would take a second."""
         now = time.monotonic()
-        return [address for address in self._addresses if self._left_out.get(address, 0.0) <= now] or self._addresses
+        return [
+            address for address in self._addresses if self._left_out.get(address, 0.0) <= now
+        ] or self._addresses
 
     def _forget_parent(self) -> None:
         """A child that a fork made would read answers to its parent."""
@@ -440,7 +477,15 @@ class Keepers:
         try:
             if line.version > 1 and self._prover is not None:
                 line.prove(place.of, self._prover, _ANSWER)
-            line.send(("ring", self.name, place.generation, *([f"of={place.of}"] if line.version > 1 else [])), _ANSWER)
+            line.send(
+                (
+                    "ring",
+                    self.name,
+                    place.generation,
+                    *([f"of={place.of}"] if line.version > 1 else []),
+                ),
+                _ANSWER,
+            )
         except OSError:
             del self._lines[place.lines]
             line.close()
@@ -448,13 +493,21 @@ class Keepers:
     def full(self, place: Place) -> None:
         """Tells the holder that its service has no memory for a writer: it begins the next generation, if it may."""
         self._ask(place.lines, ("where", self.name))  # so that its version is known
-        if (line := self._asked(place.lines, ("full", self.name, place.generation), _ANSWER, place.of)) is not None:
+        if (
+            line := self._asked(
+                place.lines, ("full", self.name, place.generation), _ANSWER, place.of
+            )
+        ) is not None:
             self._lines[place.lines] = line
 
     def after(self, place: Place) -> Place:
         """The place of a later generation, if its keeper is about to publish one; else as `place`."""
         found = _place(self._ask(place.lines, ("where", self.name, place.generation + 1), _SILENCE))
-        is_next = found is not None and found.generation > place.generation and found.database == place.database
+        is_next = (
+            found is not None
+            and found.generation > place.generation
+            and found.database == place.database
+        )
         return found if found is not None and is_next else self.place(place.generation)
 
     def has_left(self, place: Place) -> bool:
@@ -476,7 +529,11 @@ class Keepers:
         for address in self._asks():
             fixed, keys = _parted(self._ask(address, ("pages", self.name), of=of))
             is_heard |= fixed[:1] == ["pages"]
-            if fixed[:1] == ["pages"] and keys.get("of", of) == of and (found := _page_servers(fixed[2:])):
+            if (
+                fixed[:1] == ["pages"]
+                and keys.get("of", of) == of
+                and (found := _page_servers(fixed[2:]))
+            ):
                 return found
         return [] if is_heard else None
 
@@ -490,7 +547,9 @@ class Keepers:
                     case ["block", _, _, digest]:
                         return None if digest == "-" else digest
             if time.monotonic() > deadline:
-                raise TimedOut(f"no keeper has said in {self.patience} s which block of {self.name} is at position {position}")
+                raise TimedOut(
+                    f"no keeper has said in {self.patience} s which block of {self.name} is at position {position}"
+                )
             time.sleep(waits.next())
 
     def fate(self, place: Place, position: int, lines: str | None = None) -> Fate:
@@ -503,12 +562,18 @@ class Keepers:
         while True:
             for address in (*asked, *(address for address in self._asks() if address not in asked)):
                 left = min(_SILENCE, max(0.1, deadline - time.monotonic()))
-                answer = self._ask(address, ("durable", self.name, place.generation, position), left, place.of)
-                found = self._fate(answer, place, position) or self._fate_of_older(address, answer, place, position)
+                answer = self._ask(
+                    address, ("durable", self.name, place.generation, position), left, place.of
+                )
+                found = self._fate(answer, place, position) or self._fate_of_older(
+                    address, answer, place, position
+                )
                 if found is not None:
                     return found
             if time.monotonic() > deadline:
-                raise TimedOut(f"no keeper has said in {self.patience} s what became of position {position} of {self.name}")
+                raise TimedOut(
+                    f"no keeper has said in {self.patience} s what became of position {position} of {self.name}"
+                )
             now = self.where()
             if now is not None and now.of == place.of and now.generation > place.generation:
                 return Fate(now.archived, True, continues=now)
@@ -517,23 +582,31 @@ class Keepers:
 
     def fate_at_once(self, place: Place, position: int, seconds: float) -> Fate | None:
         """As `fate`, of its holder alone; None where that does not answer within so many seconds. Raises `Dropped`."""
-        answer = self._ask(place.lines, ("durable", self.name, place.generation, position), seconds, place.of)
+        answer = self._ask(
+            place.lines, ("durable", self.name, place.generation, position), seconds, place.of
+        )
         return self._fate(answer, place, position)
 
     def archived_at_once(self, place: Place, known: int, seconds: float) -> int | None:
         """How far its holder has archived all that is in its log when this is asked: `known` or further; None where that does not answer
         within so many seconds. Raises `Dropped`."""
-        answer = self._ask(place.lines, ("durable", self.name, place.generation, known + 1), seconds, place.of)
+        answer = self._ask(
+            place.lines, ("durable", self.name, place.generation, known + 1), seconds, place.of
+        )
         fixed, keys = _parted(answer)
         match fixed:
-            case ["above", _, generation, end] if generation == str(place.generation) and keys.get("of") == place.of and end.isdecimal():
+            case ["above", _, generation, end] if generation == str(place.generation) and keys.get(
+                "of"
+            ) == place.of and end.isdecimal():
                 return max(known, int(end))
         fate = self._fate(answer, place, known + 1)
         return None if fate is None or fate.is_lost else fate.end
 
     def follow(self, standby: Place) -> None:
         """Tells the keeper of a standby that more is archived than that has."""
-        if (line := self._asked(standby.lines, ("ring", self.name, 0), _ANSWER, standby.of)) is not None:
+        if (
+            line := self._asked(standby.lines, ("ring", self.name, 0), _ANSWER, standby.of)
+        ) is not None:
             self._lines[standby.lines] = line
 
     def _fate(self, words: list[str], place: Place, position: int) -> Fate | None:
@@ -551,15 +624,25 @@ class Keepers:
                 return Fate(0, True, is_lost=True, why=by)
         return _fate(fixed, place.generation, position)
 
-    def _fate_of_older(self, address: str, words: list[str], place: Place, position: int) -> Fate | None:
+    def _fate_of_older(
+        self, address: str, words: list[str], place: Place, position: int
+    ) -> Fate | None:
         """What a keeper of version 1 says of the number of a generation: it is of this run if that keeper has this run now. Of one that is
         over it may be of another run, or another database."""
         line = self._lines.get(address)
-        found = _fate(words, place.generation, position) if line is not None and line.version == 1 else None
+        found = (
+            _fate(words, place.generation, position)
+            if line is not None and line.version == 1
+            else None
+        )
         if found is None or found.is_over:
             return None
         now = _place(self._ask(address, ("where", self.name)))
-        return found if now is not None and (now.generation, now.run) == (place.generation, place.run) else None
+        return (
+            found
+            if now is not None and (now.generation, now.run) == (place.generation, place.run)
+            else None
+        )
 
 
 def _taken(line: _Line) -> list[str] | None:
@@ -591,7 +674,9 @@ def _standby(words: list[str], lines: str) -> Place | None:
     fixed, keys = _parted(words)
     match fixed:
         case ["standby", _, address, run, reached, base, shift, *_]:
-            return _read("0", run, address, reached, keys.get("lines", lines), base, shift, "0", keys)
+            return _read(
+                "0", run, address, reached, keys.get("lines", lines), base, shift, "0", keys
+            )
         case _:
             return None
 
@@ -599,7 +684,10 @@ def _standby(words: list[str], lines: str) -> Place | None:
 def _page_servers(words: list[str]) -> list[PageServerPlace]:
     """Four words each; none where one is none of its kind."""
     try:
-        found = [PageServerPlace(address, run, int(position), int(oldest)) for address, run, position, oldest in zip(*[iter(words)] * 4)]
+        found = [
+            PageServerPlace(address, run, int(position), int(oldest))
+            for address, run, position, oldest in zip(*[iter(words)] * 4)
+        ]
         for each in found:
             Address.parse(each.address)
         return found
@@ -608,14 +696,33 @@ def _page_servers(words: list[str]) -> list[PageServerPlace]:
 
 
 def _read(
-    generation: str, run: str, address: str, archived: str, lines: str, base: str, shift: str, kept: str, keys: Mapping[str, str]
+    generation: str,
+    run: str,
+    address: str,
+    archived: str,
+    lines: str,
+    base: str,
+    shift: str,
+    kept: str,
+    keys: Mapping[str, str],
 ) -> Place | None:
     """The place of these words; None where one of them is none of its kind."""
     try:
         Address.parse(address)
         database = keys.get("of", "").partition("/")[0]
-        return Place(int(generation), run, address, int(archived), lines, int(base), int(shift), int(kept), database, keys.get("after", ""),
-                     int(keys.get("pages", "0")))  # fmt: skip
+        return Place(
+            generation=int(generation),
+            run=run,
+            address=address,
+            archived=int(archived),
+            lines=lines,
+            base=int(base),
+            shift=int(shift),
+            kept=int(kept),
+            database=database,
+            after=keys.get("after", ""),
+            pages=int(keys.get("pages", "0")),
+        )
     except ValueError:
         return None
 

@@ -29,7 +29,9 @@ _ANSWER = 3.0
 class HolderPoll:
     """Asks all keepers of one database in a thread of its own, while `superseding` is called."""
 
-    def __init__(self, name: str, addresses: Sequence[str], place: Place, trust: Trust | None = None) -> None:
+    def __init__(
+        self, name: str, addresses: Sequence[str], place: Place, trust: Trust | None = None
+    ) -> None:
         self._keepers = Keepers(name, addresses, trust=trust)
         self._keepers.is_of(place)
         self._told = threading.Condition()
@@ -43,15 +45,20 @@ class HolderPoll:
 
     def superseding(self, place: Place, known: float) -> Place | None:
         """The place of a later generation than this one, which keepers named at the time `known`; None where there is none, as far as
-        they said last. It waits for them only where nobody has read for a while. Raises `Dropped`."""
+        they said last. It waits for them only where nobody has read for a while. Raises `Dropped`.
+        """
         with self._told:
             now = time.monotonic()
-            if now - self._read >= _IDLE:  # also where this process stood still, and its thread with it
+            if (
+                now - self._read >= _IDLE
+            ):  # also where this process stood still, and its thread with it
                 self._since = now
                 self._told.notify_all()
             self._read = now
             if self._thread is None:
-                self._thread = threading.Thread(target=self._poll, name="pagelog-holder", daemon=True)
+                self._thread = threading.Thread(
+                    target=self._poll, name="pagelog-holder", daemon=True
+                )
                 self._thread.start()
             if known < now - _IDLE:
                 self._told.wait_for(lambda: self._asked >= self._since, _ANSWER)
@@ -59,8 +66,17 @@ class HolderPoll:
                 raise self._dropped
             return self._newest if self._newest.generation > place.generation else None
 
+    @property
+    def page_servers(self) -> int:
+        """How many page servers the database has, as keepers said last."""
+        with self._told:
+            return self._newest.pages
+
     def _poll(self) -> None:
-        silence, is_wanted = Backoff(2 * EACH, SLOWEST), True  # who has begun it waits for a round, however late this comes to it
+        silence, is_wanted = (
+            Backoff(2 * EACH, SLOWEST),
+            True,
+        )  # who has begun it waits for a round, however late this comes to it
         while is_wanted:
             began, found, dropped = time.monotonic(), None, None
             try:
@@ -72,7 +88,9 @@ class HolderPoll:
             with self._told:
                 self._asked = began
                 self._newest = found or self._newest
-                self._dropped = dropped or (self._dropped if found is None else None)  # a PostgreSQL that went back undoes a drop
+                self._dropped = dropped or (
+                    self._dropped if found is None else None
+                )  # a PostgreSQL that went back undoes a drop
                 self._told.notify_all()
             if found is not None:
                 silence.reset()
@@ -92,7 +110,9 @@ class HolderPoll:
 _polls: WeakValueDictionary[tuple[object, ...], HolderPoll] = WeakValueDictionary()
 
 
-def poll_of(name: str, addresses: Sequence[str], place: Place, trust: Trust | None = None) -> HolderPoll:
+def poll_of(
+    name: str, addresses: Sequence[str], place: Place, trust: Trust | None = None
+) -> HolderPoll:
     """The one of this process, of who believes the same. A child that a fork made begins its own."""
     key = (os.getpid(), name, tuple(sorted(addresses)), place.database, trust and trust.files)
     return _polls.get(key) or _polls.setdefault(key, HolderPoll(name, addresses, place, trust))

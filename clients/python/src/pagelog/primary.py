@@ -13,17 +13,42 @@ from pagelog.client import PageClient, reported_epoch
 from pagelog.connection import Answer, Connection
 from pagelog.credentials import Credentials
 from pagelog.end_mark import sqlite_in
-from pagelog.errors import ConnectionLost, InDoubt, LogWentBack, PagelogError, Refusal, UnexpectedReply
-from pagelog.in_flight import Sent, Step, Turn, checked_copies, gets_of, groups_of, is_in_log, pages_show
+from pagelog.errors import (
+    ConnectionLost,
+    InDoubt,
+    LogWentBack,
+    PagelogError,
+    Refusal,
+    UnexpectedReply,
+)
+from pagelog.in_flight import (
+    Sent,
+    Step,
+    Turn,
+    checked_copies,
+    gets_of,
+    groups_of,
+    is_in_log,
+    pages_show,
+)
 from pagelog.operator import Operator
 from pagelog.packing import Packer
 from pagelog.reader import Reader
 from pagelog.reply import Done, State, expect, refusal_of
 from pagelog.request import COPIES_OF_QUORUM, QUORUM, Report, Request, Role, Status, Write
 from pagelog.rules import (
-    AboveTheWindow, BelowQuorum, HardenedAlready, NewerEpoch, NoRowMatches, OlderEpoch, OtherContent, OtherPrimary, Section, TableRow,
+    AboveTheWindow,
+    BelowQuorum,
+    HardenedAlready,
+    NewerEpoch,
+    NoRowMatches,
+    OlderEpoch,
+    OtherContent,
+    OtherPrimary,
+    Section,
+    TableRow,
     UnknownPrincipal,
-)  # fmt: skip
+)
 from pagelog.secure import Trust
 
 if TYPE_CHECKING:
@@ -114,21 +139,50 @@ class Primary(PageClient):
         """The primary of a new epoch, which the operator begins for it. Whoever wrote before is denied from then on."""
         checked_copies(quorum, copies)
         epoch = operator.failover(credentials.id)
-        made = cls(connection, credentials, operator.database, epoch=epoch, alone=True, quorum=quorum, copies=copies, witness=witness,
-                   overwrite_sqlite=overwrite_sqlite)  # fmt: skip
+        made = cls(
+            connection,
+            credentials,
+            operator.database,
+            epoch=epoch,
+            alone=True,
+            quorum=quorum,
+            copies=copies,
+            witness=witness,
+            overwrite_sqlite=overwrite_sqlite,
+        )
         made.begin()
         return made
 
     @classmethod
     def named(
-        cls, name: str, *, keepers: Sequence[str], principal: int, token: str, operator: tuple[int, str], quorum: int = QUORUM,
-        patience: float = 60.0, timeout: float = 10.0, overwrite_sqlite: bool = False, trust: Trust | None = None,
-    ) -> NamedPrimary:  # fmt: skip
+        cls,
+        name: str,
+        *,
+        keepers: Sequence[str],
+        principal: int,
+        token: str,
+        operator: tuple[int, str],
+        quorum: int = QUORUM,
+        patience: float = 60.0,
+        timeout: float = 10.0,
+        overwrite_sqlite: bool = False,
+        trust: Trust | None = None,
+    ) -> NamedPrimary:
         """The writer of a named database, which its keepers have somewhere, as `host:port`; `operator` is an id and a token."""
         from pagelog.named import NamedPrimary
 
-        return NamedPrimary(name, keepers, principal, token, operator, quorum=quorum, patience=patience, timeout=timeout,
-                            overwrite_sqlite=overwrite_sqlite, trust=trust)  # fmt: skip
+        return NamedPrimary(
+            name,
+            keepers,
+            principal,
+            token,
+            operator,
+            quorum=quorum,
+            patience=patience,
+            timeout=timeout,
+            overwrite_sqlite=overwrite_sqlite,
+            trust=trust,
+        )
 
     def begin(self) -> State:
         """Learns the epoch and the end of the log, once; append and commit do it by themselves.
@@ -186,11 +240,15 @@ class Primary(PageClient):
             return self.durable
         self._hardened(self.durable)  # what an interrupt has left of the commit before
         left = [sent.block for sent in self._unhardened]
-        for _ in self._harden((left[at : at + WINDOW] for at in range(0, len(left), WINDOW)), 2 * WINDOW):
+        for _ in self._harden(
+            (left[at : at + WINDOW] for at in range(0, len(left), WINDOW)), 2 * WINDOW
+        ):
             pass
         return self.durable
 
-    def stream(self, transactions: Iterable[Sequence[Record]], *, in_flight: int = 64) -> Iterator[int]:
+    def stream(
+        self, transactions: Iterable[Sequence[Record]], *, in_flight: int = 64
+    ) -> Iterator[int]:
         """Commits each transaction as a block of its own, with `in_flight` requests in flight at most, and yields its LSN
         once it is hardened.
 
@@ -200,7 +258,9 @@ class Primary(PageClient):
         self.commit()
         return self._harden(([block] for block in self._blocks_of(transactions)), in_flight)
 
-    def harden(self, blocks: Iterable[Block], *, group: int = WINDOW, in_flight: int = 2 * WINDOW) -> Iterator[int]:
+    def harden(
+        self, blocks: Iterable[Block], *, group: int = WINDOW, in_flight: int = 2 * WINDOW
+    ) -> Iterator[int]:
         """Writes blocks that have their LSNs, which follow on the log's end, with a report after each `group`, 1 to 64.
 
         Yields the LSN of each group's last block once it is hardened. A `ValueError` for an LSN that is not the next, and
@@ -260,7 +320,9 @@ class Primary(PageClient):
             again = [lsn for lsn in turn.doubtful if lsn > self.durable]
             tries = tries + 1 if again and self.durable == before else 0
             if tries > self.connection.attempts:
-                raise ConnectionLost(f"no connection lasted until LSN {self.durable + 1} was looked up")
+                raise ConnectionLost(
+                    f"no connection lasted until LSN {self.durable + 1} was looked up"
+                )
             left = chain(self._groups_to(again), left)
 
     def _check_sqlite(self) -> None:
@@ -278,11 +340,15 @@ class Primary(PageClient):
             raise found
         self.overwrite_sqlite = True
 
-    def _take_turn(self, left: Iterator[Sequence[Block]], in_flight: int, turn: Turn) -> Iterator[int]:
+    def _take_turn(
+        self, left: Iterator[Sequence[Block]], in_flight: int, turn: Turn
+    ) -> Iterator[int]:
         """Sends groups until there are none, or until a reply is a refusal, or leaves a doubt. What is in flight then is
         read, so that it is known which copies each block is in.
         """
-        for answer in self.connection.answers(self._requests(left, turn.plan, turn.ended), in_flight):
+        for answer in self.connection.answers(
+            self._requests(left, turn.plan, turn.ended), in_flight
+        ):
             step, connection = turn.plan.popleft(), self.connection.connects
             refusal = self._refusal(answer)
             if step.copy is not None:
@@ -295,7 +361,9 @@ class Primary(PageClient):
                 self._is_quorum_shown |= self.quorum == QUORUM
                 yield self._hardened(step.sent.block.lsn)
 
-    def _note_write(self, sent: Sent, copy: int, refusal: Refusal | None, repeated: bool, turn: Turn) -> None:
+    def _note_write(
+        self, sent: Sent, copy: int, refusal: Refusal | None, repeated: bool, turn: Turn
+    ) -> None:
         """That a repeated write finds its LSN hardened is no refusal: whose block it is is looked up."""
         connection = self.connection.connects
         if refusal is None:
@@ -303,7 +371,10 @@ class Primary(PageClient):
             # Only with a quorum of 4 there is such a copy.
             self._is_quorum_shown |= copy >= COPIES_OF_QUORUM[QUORUM]
             return
-        is_hardened, is_repeated = isinstance(refusal, HardenedAlready), repeated or sent.attempts > 1
+        is_hardened, is_repeated = (
+            isinstance(refusal, HardenedAlready),
+            repeated or sent.attempts > 1,
+        )
         if is_hardened and is_repeated and not sent.is_anothers:
             if not sent.came_over(connection):
                 turn.ended.append(refusal)
@@ -344,7 +415,10 @@ class Primary(PageClient):
 
     def _are_ours(self, lsn: int, connection: int) -> bool:
         """Whether the service of this connection took each block up to this LSN. A report hardens another's too."""
-        return all(sent.came_over(connection) for sent in takewhile(lambda sent: sent.block.lsn <= lsn, self._unhardened))
+        return all(
+            sent.came_over(connection)
+            for sent in takewhile(lambda sent: sent.block.lsn <= lsn, self._unhardened)
+        )
 
     def _hardened(self, lsn: int) -> int:
         self.durable = max(self.durable, lsn)
@@ -366,7 +440,9 @@ class Primary(PageClient):
         """What is not known to be hardened, in groups that end at these LSNs."""
         groups, first = [], self.durable + 1
         for end in ends:
-            groups.append([sent.block for sent in self._unhardened if first <= sent.block.lsn <= end])
+            groups.append(
+                [sent.block for sent in self._unhardened if first <= sent.block.lsn <= end]
+            )
             first = end + 1
         return groups
 
@@ -386,7 +462,11 @@ class Primary(PageClient):
             is_ours = sent.came_over(connection) or self._is_ours(sent, connection)
             if is_ours is None:
                 break
-            _logger.info("LSN %d, whose connection was lost, is %s", sent.block.lsn, "ours" if is_ours else "another's")
+            _logger.info(
+                "LSN %d, whose connection was lost, is %s",
+                sent.block.lsn,
+                "ours" if is_ours else "another's",
+            )
             if not is_ours:
                 sent.is_anothers = True
                 sent.copies.clear()
@@ -403,9 +483,13 @@ class Primary(PageClient):
         if self.witness is not None:
             return is_in_log(self.witness, sent.block)
         if not self._alone and not sent.copies:
-            raise InDoubt(f"LSN {sent.block.lsn} is hardened, and the connection was lost before the reply")
+            raise InDoubt(
+                f"LSN {sent.block.lsn} is hardened, and the connection was lost before the reply"
+            )
         asked = gets_of(sent.block)
-        with closing(self.connection.exchange(map(self._request, asked), 64, connection)) as exchange:
+        with closing(
+            self.connection.exchange(map(self._request, asked), 64, connection)
+        ) as exchange:
             replies = list(exchange)
         if len(replies) < len(asked) or any(reported_epoch(reply) is not None for reply in replies):
             return None
@@ -414,25 +498,40 @@ class Primary(PageClient):
     def _settle(self, refusal: Refusal, was_repeated: bool) -> Exception | None:
         """What is to be raised; None where all that was sent is in the log all the same."""
         if isinstance(refusal, (AboveTheWindow, BelowQuorum)) and refusal.value < self.durable:
-            return LogWentBack(f"{refusal.value} blocks where {self.durable} were seen: the service was restarted")
+            return LogWentBack(
+                f"{refusal.value} blocks where {self.durable} were seen: the service was restarted"
+            )
         if isinstance(refusal, NewerEpoch):
-            return LogWentBack(f"epoch {refusal.value} where {self.epoch} was seen: the service was restarted")
+            return LogWentBack(
+                f"epoch {refusal.value} where {self.epoch} was seen: the service was restarted"
+            )
         if isinstance(refusal, (OlderEpoch, OtherPrimary, UnknownPrincipal)):
             self._ended = refusal
         if not isinstance(refusal, OlderEpoch):
             return refusal
         return self._count_what_the_failover_kept(refusal, was_repeated)
 
-    def _count_what_the_failover_kept(self, refusal: OlderEpoch, was_repeated: bool) -> Exception | None:
+    def _count_what_the_failover_kept(
+        self, refusal: OlderEpoch, was_repeated: bool
+    ) -> Exception | None:
         """A failover hardens what was in a quorum of copies. What became of a write without a reply only the log shows."""
         connection = self.connection.connects
-        while self._is_quorum_shown and self._unhardened and self._unhardened[0].stands(connection, self.quorum):
+        while (
+            self._is_quorum_shown
+            and self._unhardened
+            and self._unhardened[0].stands(connection, self.quorum)
+        ):
             self._hardened(self._unhardened[0].block.lsn)
         doubtful = self.quorum if self._is_quorum_shown else QUORUM
-        if any(was_repeated or sent.attempts > 1 or len(sent.copies) >= doubtful for sent in self._unhardened):
+        if any(
+            was_repeated or sent.attempts > 1 or len(sent.copies) >= doubtful
+            for sent in self._unhardened
+        ):
             if self.witness is None:
                 lsn = self._unhardened[0].block.lsn
-                return InDoubt(f"epoch {self.epoch} ended, and whether LSN {lsn} is in the log was not told")
+                return InDoubt(
+                    f"epoch {self.epoch} ended, and whether LSN {lsn} is in the log was not told"
+                )
             while self._unhardened and is_in_log(self.witness, self._unhardened[0].block):
                 self._hardened(self._unhardened[0].block.lsn)
         return refusal if self._unhardened else None

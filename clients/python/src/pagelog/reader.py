@@ -64,15 +64,33 @@ class Reader(PageClient):
 
     @classmethod
     def named(
-        cls, name: str, *, keepers: Sequence[str], principal: int, token: str, durable_only: bool = False, pages: str = "prefer",
-        patience: float = 60.0, timeout: float = 10.0, trust: Trust | None = None,
-    ) -> NamedReader:  # fmt: skip
+        cls,
+        name: str,
+        *,
+        keepers: Sequence[str],
+        principal: int,
+        token: str,
+        durable_only: bool = False,
+        pages: str = "prefer",
+        patience: float = 60.0,
+        timeout: float = 10.0,
+        trust: Trust | None = None,
+    ) -> NamedReader:
         """The reader of a named database, which its keepers have somewhere; with `durable_only` of what cannot be lost. `pages` is whether
         page servers are asked: "prefer", "never" or "only"."""
         from pagelog.named_reader import NamedReader
 
-        return NamedReader(name, keepers, principal, token, durable_only=durable_only, pages=pages, patience=patience, timeout=timeout,
-                           trust=trust)  # fmt: skip
+        return NamedReader(
+            name,
+            keepers,
+            principal,
+            token,
+            durable_only=durable_only,
+            pages=pages,
+            patience=patience,
+            timeout=timeout,
+            trust=trust,
+        )
 
     def answers(self, acts: Sequence[Act]) -> list[Reply]:
         """The replies to gets, pulls and statuses that are asked together. None is turned into an exception."""
@@ -83,7 +101,9 @@ class Reader(PageClient):
         super().forget()
         self._seen = None
 
-    def _ask_all(self, acts: Sequence[Act], in_flight: int = 64, over: int | None = None) -> list[Reply]:
+    def _ask_all(
+        self, acts: Sequence[Act], in_flight: int = 64, over: int | None = None
+    ) -> list[Reply]:
         """As every client, and compares a block where the connection is another than before."""
         for _ in range(max(2, self.connection.attempts)):
             replies = super()._ask_all(acts, in_flight, over)
@@ -91,7 +111,9 @@ class Reader(PageClient):
                 return replies
             if over is not None:
                 return []
-        raise ConnectionLost("no connection lasted until the log was compared with what was seen of it")
+        raise ConnectionLost(
+            "no connection lasted until the log was compared with what was seen of it"
+        )
 
     def _is_log_that_was_seen(self) -> bool:
         """Whether the service of this connection has the block that was seen; False where the connection was lost again.
@@ -102,12 +124,16 @@ class Reader(PageClient):
         if self._seen is None or connects == self._seen_over or not self.compares_logs:
             return True
         block, partitions = self._seen
-        for reply in self.connection.exchange((self._request(Pull(block.lsn, 1, *partitions)),), 1, connects):
+        for reply in self.connection.exchange(
+            (self._request(Pull(block.lsn, 1, *partitions)),), 1, connects
+        ):
             if reported_epoch(reply) is not None:
                 return False
             is_above = isinstance(reply, Denied) and (reply.section, reply.row) == (Section.C, 1)
             if is_above or (isinstance(reply, Blocks) and reply.blocks != (block,)):
-                raise LogWentBack(f"the block at LSN {block.lsn} is not the one that was seen: the service has another log")
+                raise LogWentBack(
+                    f"the block at LSN {block.lsn} is not the one that was seen: the service has another log"
+                )
             if not isinstance(reply, NoMemory):  # then it is compared with the next request
                 self._seen_over = connects
             return True
@@ -121,7 +147,9 @@ class Reader(PageClient):
         """The applied LSN of a partition, 0 where no page server has advanced it."""
         return self.page(partition * 65536, 0, exact=False).at
 
-    def pull(self, lsn: int, *, max: int = PULL_MAX, partitions: tuple[int, int] = ALL_PARTITIONS) -> Blocks:
+    def pull(
+        self, lsn: int, *, max: int = PULL_MAX, partitions: tuple[int, int] = ALL_PARTITIONS
+    ) -> Blocks:
         """One pull: at most `max` blocks, 1 to 16, from this LSN on that touch one of the partitions, both included.
 
         Raises `AboveTheEnd` where the LSN is above the hardened end.
@@ -131,7 +159,9 @@ class Reader(PageClient):
         self._remember(blocks.blocks, partitions)
         return blocks
 
-    def span(self, lsn: int, *, pulls: int = 64, partitions: tuple[int, int] = ALL_PARTITIONS) -> Span:
+    def span(
+        self, lsn: int, *, pulls: int = 64, partitions: tuple[int, int] = ALL_PARTITIONS
+    ) -> Span:
         """All that is hardened from this LSN on, as far as `pulls` pulls (1 or more) reach, all in flight together.
 
         A span that ends below its beginning says that nothing new is hardened. What a later pull of it is refused for is
@@ -146,7 +176,11 @@ class Reader(PageClient):
         if pulls == 1 or self.hard_seen <= first.last or self._most < PULL_MAX:
             return first
         # Each serves at least the blocks of the sixteen LSNs from its own on, so that the next may begin after them.
-        starts = range(first.last + 1, min(first.last + 1 + PULL_MAX * (pulls - 1), self.hard_seen + 1), PULL_MAX)
+        starts = range(
+            first.last + 1,
+            min(first.last + 1 + PULL_MAX * (pulls - 1), self.hard_seen + 1),
+            PULL_MAX,
+        )
         starts = starts[: self._at_once]
         rest = self._span_of(starts, partitions, behind=first, over=over)
         return Span(lsn, rest.last, first.blocks + rest.blocks, over)
@@ -163,15 +197,22 @@ class Reader(PageClient):
                     raise
                 self._most, self._whole = self._most // 2, 0
                 continue
-            self._whole = self._whole + len(span.blocks) if connects == self.connection.connects else 0
+            self._whole = (
+                self._whole + len(span.blocks) if connects == self.connection.connects else 0
+            )
             if self._whole > 4 * PULL_MAX:
                 self._most = PULL_MAX
             return span
 
     def _span_of(
-        self, starts: Sequence[int], partitions: tuple[int, int], *, behind: Span | None = None, over: int | None = None,
+        self,
+        starts: Sequence[int],
+        partitions: tuple[int, int],
+        *,
+        behind: Span | None = None,
+        over: int | None = None,
         most: int = PULL_MAX,
-    ) -> Span:  # fmt: skip
+    ) -> Span:
         blocks: list[Block] = []
         last = starts[0] - 1
         replies = self._ask_all([Pull(start, most, *partitions) for start in starts], 64, over)
@@ -198,7 +239,9 @@ class Reader(PageClient):
         if not isinstance(reply, Denied) or (reply.section, reply.row) != (Section.C, 1):
             return False
         if reply.value < self.hard_seen:
-            raise LogWentBack(f"{reply.value} blocks where {self.hard_seen} were seen: the service was restarted")
+            raise LogWentBack(
+                f"{reply.value} blocks where {self.hard_seen} were seen: the service was restarted"
+            )
         if reply.value < lsn - 1:
             raise AboveTheEnd(reply.section, reply.row, reply.value)
         return True
@@ -246,5 +289,7 @@ class Reader(PageClient):
                 return
             else:
                 wait = waits.next()
-                _logger.debug("nothing is hardened from LSN %d on; asking again in %.3f s", lsn, wait)
+                _logger.debug(
+                    "nothing is hardened from LSN %d on; asking again in %.3f s", lsn, wait
+                )
                 time.sleep(wait)

@@ -34,7 +34,13 @@ class Repeats:
     """What comes again and again is said at once, and then once a minute, with how often it came meanwhile. Sentences of one subject that
     differ by numbers alone, as by a position, are one."""
 
-    def __init__(self, say: Callable[[str, str], None], *, every: float = EVERY, clock: Callable[[], float] = time.monotonic) -> None:
+    def __init__(
+        self,
+        say: Callable[[str, str], None],
+        *,
+        every: float = EVERY,
+        clock: Callable[[], float] = time.monotonic,
+    ) -> None:
         self._say, self._every, self._clock = say, every, clock
         self._said: dict[tuple[str, str], tuple[float, int]] = {}
         """When each was said last, and how often it came since."""

@@ -9,9 +9,15 @@ from typing import ClassVar, Union, get_args
 
 from pagelog.block import HIGHEST_LSN, HIGHEST_PAGE, HIGHEST_PARTITION, Block
 from pagelog.faults import (
-    ArgumentOutOfRange, BlockFault, BodyEndsInArgument, BodyTooShort, BytesAfterArguments, FaultyBlock, UnknownOperation,
+    ArgumentOutOfRange,
+    BlockFault,
+    BodyEndsInArgument,
+    BodyTooShort,
+    BytesAfterArguments,
+    FaultyBlock,
+    UnknownOperation,
     UnknownRole,
-)  # fmt: skip
+)
 
 HEAD_SIZE = 30
 """Bytes of a body before its arguments."""
@@ -131,7 +137,11 @@ class Get:
     def arguments(self) -> bytes:
         """Its bytes after the head. Raises `ArgumentOutOfRange`."""
         exact = bytes([1 if self.exact else 0])
-        return _number("page", self.page, 0, HIGHEST_PAGE, 4) + _number("LSN", self.lsn, 0, HIGHEST_LSN, 8) + exact
+        return (
+            _number("page", self.page, 0, HIGHEST_PAGE, 4)
+            + _number("LSN", self.lsn, 0, HIGHEST_LSN, 8)
+            + exact
+        )
 
 
 @dataclass(frozen=True, slots=True)
@@ -150,7 +160,12 @@ class Pull:
         """Its bytes after the head. Raises `ArgumentOutOfRange`."""
         hi = _number("hi", self.hi, 0, HIGHEST_PARTITION, 2)
         lo = _number("lo", self.lo, 0, self.hi, 2)
-        return lo + hi + _number("LSN", self.lsn, 1, HIGHEST_LSN, 8) + _number("max", self.max, 1, PULL_MAX, 2)
+        return (
+            lo
+            + hi
+            + _number("LSN", self.lsn, 1, HIGHEST_LSN, 8)
+            + _number("max", self.max, 1, PULL_MAX, 2)
+        )
 
 
 @dataclass(frozen=True, slots=True)
@@ -174,7 +189,12 @@ class Status:
     """Epoch, primary and hardened end."""
 
     operation: ClassVar[Operation] = Operation.STATUS
-    roles: ClassVar[tuple[Role, ...]] = (Role.OPERATOR, Role.PRIMARY, Role.SECONDARY, Role.PAGE_SERVER)
+    roles: ClassVar[tuple[Role, ...]] = (
+        Role.OPERATOR,
+        Role.PRIMARY,
+        Role.SECONDARY,
+        Role.PAGE_SERVER,
+    )
     repeatable: ClassVar[bool] = True
 
     def arguments(self) -> bytes:
@@ -227,7 +247,9 @@ class Audit:
 
     def arguments(self) -> bytes:
         """Its bytes after the head. Raises `ArgumentOutOfRange`."""
-        return _number("first", self.first, 1, (1 << 64) - 1, 8) + _number("max", self.max, 1, AUDIT_MAX, 2)
+        return _number("first", self.first, 1, (1 << 64) - 1, 8) + _number(
+            "max", self.max, 1, AUDIT_MAX, 2
+        )
 
 
 @dataclass(frozen=True, slots=True)
@@ -247,7 +269,9 @@ Act = Union[Write, Offer, Report, Get, Pull, Advance, Status, Failover, SetTable
 """What is asked for. Of the roles that have it, the first is the one that mostly asks for it."""
 ACTS: dict[Operation, type[Act]] = {act.operation: act for act in get_args(Act)}
 """The class of each operation."""
-WITHOUT_ARGUMENTS: dict[Operation, Act] = {act.operation: act() for act in get_args(Act) if not fields(act)}
+WITHOUT_ARGUMENTS: dict[Operation, Act] = {
+    act.operation: act() for act in get_args(Act) if not fields(act)
+}
 """The act of each operation that has no arguments."""
 
 
@@ -268,7 +292,9 @@ class Head:
         principal = _number("principal", self.principal, 0, HIGHEST_EPOCH, 4)
         database = _number("database", self.database, 0, HIGHEST_EPOCH, 4)
         epoch = _number("epoch", self.epoch, 0, HIGHEST_EPOCH, 4)
-        object.__setattr__(self, "prefix", principal + self.token + bytes([Role(self.role)]) + database + epoch)
+        object.__setattr__(
+            self, "prefix", principal + self.token + bytes([Role(self.role)]) + database + epoch
+        )
 
 
 @dataclass(frozen=True, slots=True)
@@ -325,8 +351,14 @@ def _decode_block(data: bytes) -> Block:
 
 
 def _decode_numbers(operation: Operation, rest: bytes) -> Act:
-    sizes = {Operation.REPORT: 8, Operation.GET: 13, Operation.PULL: 14, Operation.ADVANCE: 4, Operation.FAILOVER: 4,
-             Operation.AUDIT: 10}  # fmt: skip
+    sizes = {
+        Operation.REPORT: 8,
+        Operation.GET: 13,
+        Operation.PULL: 14,
+        Operation.ADVANCE: 4,
+        Operation.FAILOVER: 4,
+        Operation.AUDIT: 10,
+    }
     size = sizes.get(operation, 0)
     if len(rest) < size:
         raise BodyEndsInArgument()

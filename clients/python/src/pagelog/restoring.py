@@ -40,9 +40,14 @@ def raise_epoch(operator: Operator, to: int, least: int) -> int:
 
 
 def restore(
-    archive: Archive, primary: Primary, reader: Reader, *, operator: Operator | None = None, last: int = HIGHEST_LSN,
+    archive: Archive,
+    primary: Primary,
+    reader: Reader,
+    *,
+    operator: Operator | None = None,
+    last: int = HIGHEST_LSN,
     told: Progress = no_progress,
-) -> Verified:  # fmt: skip
+) -> Verified:
     """Fills a fresh service from an archive up to LSN `last`, LSN for LSN, and compares both in the end.
 
     With an operator the service's epoch is raised above all that were archived first, so that writers of the time before
@@ -54,7 +59,9 @@ def restore(
     archive.check(last, told=told)
     if operator is not None and archive.epoch:
         raise_epoch(operator, primary.credentials.id, archive.epoch + EPOCHS_ABOVE)
-    return verify(archive, reader, last=fill(archive, primary, reader, last=last, told=told), told=told)
+    return verify(
+        archive, reader, last=fill(archive, primary, reader, last=last, told=told), told=told
+    )
 
 
 def set_real_table(operator: Operator, text: str) -> None:
@@ -69,7 +76,12 @@ def set_real_table(operator: Operator, text: str) -> None:
 
 
 def fill(
-    archive: Archive, primary: Primary, reader: Reader, *, last: int = HIGHEST_LSN, told: Progress = no_progress
+    archive: Archive,
+    primary: Primary,
+    reader: Reader,
+    *,
+    last: int = HIGHEST_LSN,
+    told: Progress = no_progress,
 ) -> int:
     """Writes what the service has not from the archive, up to LSN `last`, and returns the hardened end.
 
@@ -81,12 +93,17 @@ def fill(
     while True:
         hard = _common_end(primary, reader)
         if hard > archived:
-            raise OtherLog(archived + 1, f"the service is not fresh: it has {hard} blocks, {archived} are archived, and there is one")
+            raise OtherLog(
+                archived + 1,
+                f"the service is not fresh: it has {hard} blocks, {archived} are archived, and there is one",
+            )
         if refusal is not None and hard <= alike:
             raise refusal
         compare(all_blocks(reader, alike + 1, hard), archive.blocks(alike + 1, hard))
         alike = hard
-        primary.overwrite_sqlite = True  # what it goes on with is the archive's log, as far as that is there
+        primary.overwrite_sqlite = (
+            True  # what it goes on with is the archive's log, as far as that is there
+        )
         try:
             for lsn in primary.harden(archive.blocks(hard + 1, archived)):
                 told(lsn, archived)
@@ -106,6 +123,8 @@ def _common_end(primary: Primary, reader: Reader) -> int:
     """The end of the log that both see, and at which the primary goes on. Raises `OtherService`."""
     before, seen, state = primary.drop(), reader.status(), primary.drop()
     if not (before.hard <= seen.hard <= state.hard and before.epoch <= seen.epoch <= state.epoch):
-        raise OtherService(f"the primary's service has {state.hard} blocks in epoch {state.epoch}, and the reader's {seen.hard} in "
-                           f"epoch {seen.epoch}")  # fmt: skip
+        raise OtherService(
+            f"the primary's service has {state.hard} blocks in epoch {state.epoch}, and the reader's {seen.hard} in "
+            f"epoch {seen.epoch}"
+        )
     return state.hard

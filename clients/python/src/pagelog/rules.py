@@ -47,7 +47,9 @@ class Denial(Refusal):
         self.section = Section(section)
         self.row = row
         self.value = value
-        super().__init__(f"denied {self.section.name}{row} {self.rule}: {self.sentence} (value {value})")
+        super().__init__(
+            f"denied {self.section.name}{row} {self.rule}: {self.sentence} (value {value})"
+        )
 
 
 class UnknownPrincipal(Denial):

@@ -9,6 +9,7 @@ The words are libpq's: `sslmode`, `sslrootcert`, `sslcert`, `sslkey`.
 from __future__ import annotations
 
 import os
+import select
 import socket
 import ssl
 import stat
@@ -46,9 +47,16 @@ class Trust:
     changed cannot be used, what was read before stays in force. It may be shared by threads.
     """
 
-    def __init__(self, sslrootcert: str | Path, sslcert: str | Path | None = None, sslkey: str | Path | None = None) -> None:
+    def __init__(
+        self,
+        sslrootcert: str | Path,
+        sslcert: str | Path | None = None,
+        sslkey: str | Path | None = None,
+    ) -> None:
         """Raises `CredentialsError`, which begins with the name of the word that is wrong."""
-        self._paths = tuple(None if path is None else str(path) for path in (sslrootcert, sslcert, sslkey))
+        self._paths = tuple(
+            None if path is None else str(path) for path in (sslrootcert, sslcert, sslkey)
+        )
         if (sslcert is None) != (sslkey is None):
             raise CredentialsError(f"{'sslkey' if sslkey is None else 'sslcert'}: it is missing")
         self._lock = threading.Lock()
@@ -66,18 +74,30 @@ class Trust:
         that fails. Raises `SecurityError`, a `TimeoutError`, or another `OSError`."""
         try:
             made.settimeout(timeout)
-            peer = host, int(made.getpeername()[1])
-            context, session = self._current(peer)
-            found = context.wrap_socket(made, server_hostname=host, do_handshake_on_connect=False, session=session)
-        except BaseException as error:
+        except BaseException:
             made.close()
-            raise _told(error) from error
-        assert isinstance(found, Secured)
+            raise
+        found = self.begin(made, host)
         try:
             found.do_handshake()
         except BaseException as error:
             found.close()
             raise _told(error) from error
+        return found
+
+    def begin(self, made: socket.socket, host: str) -> Secured:
+        """The connected socket with TLS over it, once `shake` has shown that it leads to this host. It is closed where that cannot be begun.
+        Raises `SecurityError`, or another `OSError`."""
+        try:
+            peer = host, int(made.getpeername()[1])
+            context, session = self._current(peer)
+            found = context.wrap_socket(
+                made, server_hostname=host, do_handshake_on_connect=False, session=session
+            )
+        except BaseException as error:
+            made.close()
+            raise _told(error) from error
+        assert isinstance(found, Secured)
         found.keeps = lambda: self._keep(peer, found)
         return found
 
@@ -96,14 +116,22 @@ class Trust:
                 except CredentialsError:
                     pass  # as where the key of a new certificate has not been written yet
             known = self._sessions.get(peer)
-            return self._context, known.session if known is not None and known.ends > time.time() else None
+            return (
+                self._context,
+                known.session if known is not None and known.ends > time.time() else None,
+            )
 
     def _keep(self, peer: tuple[str, int], found: ssl.SSLSocket) -> None:
         """Keeps the session of a connection: one that is taken up again is not verified again, so it is of this host alone."""
         certificate: Mapping[str, Any] = found.getpeercert() or {}
         session, ends = found.session, certificate.get("notAfter")
         with self._lock:
-            if session is not None and session.has_ticket and ends is not None and found.context is self._context:
+            if (
+                session is not None
+                and session.has_ticket
+                and ends is not None
+                and found.context is self._context
+            ):
                 self._sessions.pop(peer, None)
                 self._sessions[peer] = _Session(session, ssl.cert_time_to_seconds(ends))
                 if len(self._sessions) > _PEERS:
@@ -116,14 +144,21 @@ def trust_of(*layers: Mapping[str, str]) -> Trust | None:
     Where a CA or a certificate is named the mode is verify-full. `disable` stands where it is nearer than each of these names, and is
     refused beside them: nothing takes TLS away silently.
     """
-    found = {word: (rank, layer[word]) for rank, layer in reversed(list(enumerate(layers))) for word in WORDS if word in layer}
+    found = {
+        word: (rank, layer[word])
+        for rank, layer in reversed(list(enumerate(layers)))
+        for word in WORDS
+        if word in layer
+    }
     files = {word: found[word][1] for word in _FILES if word in found}
     rank, mode = found.get("sslmode", (0, None))
     if mode not in (None, "disable", "verify-full"):
         raise CredentialsError(f"sslmode is disable or verify-full, and not {mode}")
     if mode == "disable":
         if any(found[word][0] <= rank for word in files):
-            raise CredentialsError("sslmode=disable contradicts a CA or a certificate that is named beside it")
+            raise CredentialsError(
+                "sslmode=disable contradicts a CA or a certificate that is named beside it"
+            )
         return None
     if mode is None and not files:
         return None
@@ -137,7 +172,11 @@ def trust_of(*layers: Mapping[str, str]) -> Trust | None:
 
 def of_environment(environment: Mapping[str, str]) -> dict[str, str]:
     """The words of PAGELOG_SSLMODE and the like."""
-    return {word: environment[name] for word in WORDS if (name := f"PAGELOG_{word.upper()}") in environment}
+    return {
+        word: environment[name]
+        for word in WORDS
+        if (name := f"PAGELOG_{word.upper()}") in environment
+    }
 
 
 class Secured(ssl.SSLSocket):
@@ -147,6 +186,18 @@ class Secured(ssl.SSLSocket):
     keeps: Any = None
     """Called once, with what has come first: by then the peer has given its sessions."""
     _failed: OSError | None = None
+
+    def shake(self) -> int:
+        """Goes on with the handshake, and waits for nothing: 0 once it is done, or else what of `select` is to be waited for. Raises `OSError`."""
+        try:
+            self.do_handshake()
+        except ssl.SSLWantReadError:
+            return select.POLLIN
+        except ssl.SSLWantWriteError:
+            return select.POLLOUT
+        except BaseException as error:
+            raise _told(error) from error
+        return 0
 
     def recv(self, buflen: int = _RECORD, flags: int = 0) -> bytes:
         """What has come, as far as `buflen` bytes, or one record: nothing is left that no poll tells of."""
@@ -252,13 +303,19 @@ def _context(sslrootcert: str | None, sslcert: str | None, sslkey: str | None) -
             word, path = "sslkey", sslkey
             _check_key(sslkey)
             word, path = "sslcert", sslcert
-            ssl.SSLContext(ssl.PROTOCOL_TLS_CLIENT).load_verify_locations(sslcert)  # that it has certificates
+            ssl.SSLContext(ssl.PROTOCOL_TLS_CLIENT).load_verify_locations(
+                sslcert
+            )  # that it has certificates
             word, path = "sslkey", sslkey
             context.load_cert_chain(sslcert, sslkey, _no_passphrase)
     except ssl.SSLError as error:
-        raise CredentialsError(f"{word}: {path}: {(error.reason or 'not readable').replace('_', ' ').lower()}") from error
+        raise CredentialsError(
+            f"{word}: {path}: {(error.reason or 'not readable').replace('_', ' ').lower()}"
+        ) from error
     except (OSError, ValueError) as error:
-        raise CredentialsError(f"{word}: {path}: {getattr(error, 'strerror', None) or error}") from error
+        raise CredentialsError(
+            f"{word}: {path}: {getattr(error, 'strerror', None) or error}"
+        ) from error
     return context
 
 

@@ -26,10 +26,17 @@ def document_of(text: str) -> dict[str, Any]:
 
 def text_of(document: dict[str, Any]) -> str:
     """A text that says this."""
-    lines = [f"{key} = {json.dumps(value)}" for key, value in document.items() if key not in ("principal", "row")]
+    lines = [
+        f"{key} = {json.dumps(value)}"
+        for key, value in document.items()
+        if key not in ("principal", "row")
+    ]
     for kind in ("principal", "row"):
         for table in document.get(kind, []):
-            lines += [f"[[{kind}]]", *(f"{key} = {json.dumps(value)}" for key, value in table.items())]
+            lines += [
+                f"[[{kind}]]",
+                *(f"{key} = {json.dumps(value)}" for key, value in table.items()),
+            ]
     return "\n".join(lines) + "\n"
 
 
@@ -50,14 +57,21 @@ def with_beside(text: str, id: int, other: int, token: str) -> str:
     wanted = document_of(text)
     at = wanted["principal"].index(principal_of(wanted, id))
     wanted["principal"].insert(at + 1, {"id": other, "token": token})
-    wanted["row"] = [each for row in wanted.get("row", []) for each in ([row, {**row, "who": other}] if row.get("who") == id else [row])]
+    wanted["row"] = [
+        each
+        for row in wanted.get("row", [])
+        for each in ([row, {**row, "who": other}] if row.get("who") == id else [row])
+    ]
     pieces = []
     for kind, table, piece in _pieces(text):
         pieces.append(piece)
         if kind == "principal" and table.get("id") == id:
             pieces.append(f'{_ended(pieces)}[[principal]]\nid = {other}\ntoken = "{token}"\n')
         elif kind == "row" and table.get("who") == id:
-            pieces.append(_ended(pieces) + re.sub(rf"(?m)^([ \t]*who[ \t]*=[ \t]*){id}\b", rf"\g<1>{other}", piece))
+            pieces.append(
+                _ended(pieces)
+                + re.sub(rf"(?m)^([ \t]*who[ \t]*=[ \t]*){id}\b", rf"\g<1>{other}", piece)
+            )
     made = "".join(pieces)
     return made if _says(made, wanted) else text_of(wanted)
 
@@ -71,7 +85,9 @@ def without_principal(text: str, id: int) -> str:
         if not wanted["row"]:
             del wanted["row"]
     gone = {"principal": "id", "row": "who"}
-    made = "".join(piece for kind, table, piece in _pieces(text) if kind == "" or table.get(gone[kind]) != id)
+    made = "".join(
+        piece for kind, table, piece in _pieces(text) if kind == "" or table.get(gone[kind]) != id
+    )
     return made if _says(made, wanted) else text_of(wanted)
 
 
@@ -86,7 +102,9 @@ def with_tokens_of(text: str, present: str) -> str:
     """The table with the present one's tokens where it says `same`. Raises `TableError` where there is no such principal."""
     for principal in principals_of(document_of(text)):
         if principal.get("token") == SAME:
-            text = with_token(text, principal["id"], principal_of(document_of(present), principal["id"])["token"])
+            text = with_token(
+                text, principal["id"], principal_of(document_of(present), principal["id"])["token"]
+            )
     return text
 
 
@@ -98,7 +116,9 @@ def principals_of(document: dict[str, Any]) -> list[dict[str, Any]]:
 
 def principal_of(document: dict[str, Any], id: int) -> dict[str, Any]:
     """That of this id. Raises `TableError`."""
-    found = next((each for each in principals_of(document) if each.get("id") == id and "token" in each), None)
+    found = next(
+        (each for each in principals_of(document) if each.get("id") == id and "token" in each), None
+    )
     if found is None:
         raise TableError(f"the table lists no principal {id}")
     return found
@@ -111,8 +131,14 @@ def unused_id(text: str) -> int:
 
 def changed_tokens(old: str, new: str) -> list[int]:
     """The principals that both list, with different tokens."""
-    before, now = ({each["id"]: str(each.get("token")).lower() for each in principals_of(document_of(text)) if isinstance(each.get("id"), int)}
-                   for text in (old, new))  # fmt: skip
+    before, now = (
+        {
+            each["id"]: str(each.get("token")).lower()
+            for each in principals_of(document_of(text))
+            if isinstance(each.get("id"), int)
+        }
+        for text in (old, new)
+    )
     return sorted(id for id in before.keys() & now.keys() if before[id] != now[id])
 
 
@@ -121,7 +147,9 @@ def _pieces(text: str) -> list[tuple[str, dict[str, Any], str]]:
     starts = [found.start() for found in _HEAD.finditer(text)]
     kinds = [found[1] for found in _HEAD.finditer(text)]
     left = copy.deepcopy(document_of(text))
-    pieces: list[tuple[str, dict[str, Any], str]] = [("", {}, text[: starts[0]] if starts else text)]
+    pieces: list[tuple[str, dict[str, Any], str]] = [
+        ("", {}, text[: starts[0]] if starts else text)
+    ]
     for kind, start, end in zip(kinds, starts, [*starts[1:], len(text)]):
         tables = left.get(kind, [])
         pieces.append((kind, tables.pop(0) if tables else {}, text[start:end]))

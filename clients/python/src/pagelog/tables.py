@@ -58,8 +58,12 @@ class TableText:
         """The table for these two alone. All others are denied `UnknownPrincipal`, which makes no entry of the audit list."""
         kept = [one for one in self.principals if one.get("id") in (operator, secondary)]
         if {one["id"] for one in kept} != {operator, secondary}:
-            raise TableError(f"the table does not list principal {operator} and principal {secondary}")
-        return self._made(kept, [_allow(operator, Role.OPERATOR), _allow(secondary, Role.SECONDARY)])
+            raise TableError(
+                f"the table does not list principal {operator} and principal {secondary}"
+            )
+        return self._made(
+            kept, [_allow(operator, Role.OPERATOR), _allow(secondary, Role.SECONDARY)]
+        )
 
     def waiting(self, ids: Mapping[Role, int], tokens: Mapping[int, str]) -> str:
         """The table of a database that waits: each role for one principal, with a token that nobody else has.
@@ -69,18 +73,29 @@ class TableText:
         principals = [{"id": id, "token": tokens[id]} for id in sorted(set(ids.values()))]
         return self._made(principals, [_allow(id, role) for role, id in ids.items()])
 
-    def _made(self, principals: Iterable[Mapping[str, Any]], rows: Iterable[Mapping[str, Any]]) -> str:
+    def _made(
+        self, principals: Iterable[Mapping[str, Any]], rows: Iterable[Mapping[str, Any]]
+    ) -> str:
         """The text of such a table, with this one's `copies` and `quorum`."""
         listed = list(rows)
         if len(listed) > MOST_ROWS:
-            raise TableError(f"the table has {MOST_ROWS} rows, and one more is needed: leave one out")
-        lines = [f"{key} = {self.document[key]}" for key in ("copies", "quorum") if key in self.document]
+            raise TableError(
+                f"the table has {MOST_ROWS} rows, and one more is needed: leave one out"
+            )
+        lines = [
+            f"{key} = {self.document[key]}" for key in ("copies", "quorum") if key in self.document
+        ]
         for kind, tables in (("principal", principals), ("row", listed)):
             for table in tables:
-                lines += [f"[[{kind}]]", *(f"{key} = {json.dumps(value)}" for key, value in table.items())]
+                lines += [
+                    f"[[{kind}]]",
+                    *(f"{key} = {json.dumps(value)}" for key, value in table.items()),
+                ]
         text = "\n".join(lines) + "\n"
         if len(text.encode()) > TEXT_SIZE:
-            raise TableError(f"the table that is made has {len(text.encode())} bytes, above {TEXT_SIZE}")
+            raise TableError(
+                f"the table that is made has {len(text.encode())} bytes, above {TEXT_SIZE}"
+            )
         return text
 
 

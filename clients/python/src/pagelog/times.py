@@ -29,7 +29,10 @@ def _moment(text: str, after: datetime | None, now: datetime) -> datetime:
     of_day = time.fromisoformat(text)
     zone = of_day.tzinfo or now.tzinfo
     base = (after or now).astimezone(zone)
-    near = [datetime.combine(base.date() + timedelta(days), of_day.replace(tzinfo=None)) for days in (-1, 0, 1)]
+    near = [
+        datetime.combine(base.date() + timedelta(days), of_day.replace(tzinfo=None))
+        for days in (-1, 0, 1)
+    ]
     if after is None:
         return max(found for found in (_in_zone(each, zone) for each in near) if found <= base)
     return min(found for found in (_in_zone(each, zone) for each in near) if found > base)

@@ -30,7 +30,7 @@ class Block:
         """Changes the image of a page as the records of that page say."""
         for changed, *put in self.records:
             if changed == page and put:
-                image[put[0]:put[0] + len(put[1])] = put[1]
+                image[put[0] : put[0] + len(put[1])] = put[1]
             elif changed == page:
                 image[:] = bytes(wire.PAGE_BYTES)
 
@@ -54,7 +54,7 @@ class Reader:
         if self.at + size > len(self.data):
             raise Malformed(self.fault)
         self.at += size
-        return self.data[self.at - size:self.at]
+        return self.data[self.at - size : self.at]
 
     def number(self, size: int) -> int:
         return int.from_bytes(self.take(size), "big")
@@ -104,8 +104,14 @@ def read_request(body: bytes) -> Request:
     if len(body) < 30:
         raise Malformed(1)
     fields = Reader(body, 4)
-    q = {"who": fields.number(4), "token": fields.take(16), "role": fields.number(1), "database": fields.number(4),
-         "epoch": fields.number(4), "op": fields.number(1)}  # fmt: skip
+    q = {
+        "who": fields.number(4),
+        "token": fields.take(16),
+        "role": fields.number(1),
+        "database": fields.number(4),
+        "epoch": fields.number(4),
+        "op": fields.number(1),
+    }
     if q["role"] not in ROLES:
         raise Malformed(2)
     if q["op"] not in OPS:
@@ -132,8 +138,12 @@ def read_arguments(q: Request, fields: Reader) -> bool:
         q.update(page=fields.number(4), lsn=fields.number(8), exact=fields.number(1))
         return bool(q["lsn"] <= LAST_LSN and q["exact"] <= 1)
     elif op == wire.PULL:
-        q.update(lo=fields.number(2), hi=fields.number(2), lsn=fields.number(8), most=fields.number(2))
-        return bool(q["lo"] <= q["hi"] and 1 <= q["lsn"] <= LAST_LSN and 1 <= q["most"] <= wire.MOST_PULLED)
+        q.update(
+            lo=fields.number(2), hi=fields.number(2), lsn=fields.number(8), most=fields.number(2)
+        )
+        return bool(
+            q["lo"] <= q["hi"] and 1 <= q["lsn"] <= LAST_LSN and 1 <= q["most"] <= wire.MOST_PULLED
+        )
     elif op == wire.ADVANCE:
         q.update(partition=fields.number(2), steps=fields.number(2))
         return bool(1 <= q["steps"] <= wire.MOST_STEPS)

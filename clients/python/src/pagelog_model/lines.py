@@ -32,6 +32,11 @@ class Line(NamedTuple):
         """Section, row and value: three zeros where it was allowed."""
         return self.section, self.row, self.value
 
+    @property
+    def spelled(self) -> bytes:
+        """Its 53 bytes."""
+        return _LINE.pack(*self)
+
 
 def read_lines(data: bytes) -> Iterator[Line]:
     """The lines that these bytes are. Raises `struct.error` where they are no whole lines."""
@@ -47,7 +52,11 @@ def request_of(line: Line) -> Optional[Request]:
     if line.op not in wire.OPS or line.role not in wire.ROLES:
         return None
     rest = _READERS.get(line.op, _nothing)(line.a, line.b)
-    return None if rest is None else {"who": line.who, "role": line.role, "epoch": line.epoch, "op": line.op, **rest}
+    return (
+        None
+        if rest is None
+        else {"who": line.who, "role": line.role, "epoch": line.epoch, "op": line.op, **rest}
+    )
 
 
 def _write(a: int, b: int) -> Optional[Request]:
@@ -93,6 +102,13 @@ def _nothing(a: int, b: int) -> Optional[Request]:
 
 # The other operations have no arguments.
 _READERS = {
-    wire.WRITE: _write, wire.OFFER: _offer, wire.REPORT: _report, wire.GET: _get, wire.PULL: _pull, wire.ADVANCE: _advance,
-    wire.FAILOVER: _failover, wire.SET_TABLE: _set_table, wire.AUDIT: _audit,
-}  # fmt: skip
+    wire.WRITE: _write,
+    wire.OFFER: _offer,
+    wire.REPORT: _report,
+    wire.GET: _get,
+    wire.PULL: _pull,
+    wire.ADVANCE: _advance,
+    wire.FAILOVER: _failover,
+    wire.SET_TABLE: _set_table,
+    wire.AUDIT: _audit,
+}

@@ -39,11 +39,16 @@ def read(text: bytes) -> Read | int:
         return 3
     if len(rows) > ROWS:
         return 4
-    fault = fault_of_principals(principals) or fault_of_rows(rows, [one.get("id") for one in principals])
+    fault = fault_of_principals(principals) or fault_of_rows(
+        rows, [one.get("id") for one in principals]
+    )
     if fault:
         return fault
-    table = Read({one["id"]: bytes.fromhex(one["token"]) for one in principals}, [row_of(row) for row in rows],
-                 zone_of(document))
+    table = Read(
+        {one["id"]: bytes.fromhex(one["token"]) for one in principals},
+        [row_of(row) for row in rows],
+        zone_of(document),
+    )
     if not any(may_set(table, who) for who in table.tokens):
         return 12
     return table if table.zone else 13
@@ -53,7 +58,7 @@ def has_small_integers(value: Any) -> bool:
     """Whether all integers have 64 bits: others are none of a TOML document."""
     if isinstance(value, (dict, list)):
         return all(map(has_small_integers, value.values() if isinstance(value, dict) else value))
-    return not isinstance(value, int) or -2 ** 63 <= value < 2 ** 63
+    return not isinstance(value, int) or -(2**63) <= value < 2**63
 
 
 def is_tables(value: Any) -> bool:
@@ -69,7 +74,14 @@ def zone_of(document: Mapping[str, Any]) -> Optional[Zone]:
     if "copies" not in document and "quorum" not in document:
         return THREE
     said = [document.get("copies"), document.get("quorum")]
-    return next((zone for zone in (THREE, SIX) if list(zone) == said and all(type(one) is int for one in said)), None)
+    return next(
+        (
+            zone
+            for zone in (THREE, SIX)
+            if list(zone) == said and all(type(one) is int for one in said)
+        ),
+        None,
+    )
 
 
 def fault_of_principals(principals: list[Any]) -> int:
@@ -87,8 +99,12 @@ def is_token(token: Any) -> bool:
 
 
 def fault_of_rows(rows: list[Any], ids: list[Any]) -> int:
-    if not all("verdict" in row and set(row) <= {"verdict", "who", "role", "op", "from", "to", "through"}
-               and ("from" in row) == ("to" in row) for row in rows):
+    if not all(
+        "verdict" in row
+        and set(row) <= {"verdict", "who", "role", "op", "from", "to", "through"}
+        and ("from" in row) == ("to" in row)
+        for row in rows
+    ):
         return 9
     if not all(map(has_words, rows)):
         return 10
@@ -97,8 +113,13 @@ def fault_of_rows(rows: list[Any], ids: list[Any]) -> int:
 
 def has_words(row: Row) -> bool:
     ops = row.get("op", ["write"])
-    return (row["verdict"] in ("allow", "deny") and is_word(row.get("role", "primary"), ROLE_NUMBERS)
-            and isinstance(ops, list) and bool(ops) and all(is_word(op, OP_NUMBERS) for op in ops))
+    return (
+        row["verdict"] in ("allow", "deny")
+        and is_word(row.get("role", "primary"), ROLE_NUMBERS)
+        and isinstance(ops, list)
+        and bool(ops)
+        and all(is_word(op, OP_NUMBERS) for op in ops)
+    )
 
 
 def is_word(value: Any, words: Iterable[str]) -> bool:

@@ -50,7 +50,11 @@ class Shown:
 
 def iso(at: float) -> str:
     """A time as text, in UTC."""
-    return datetime.fromtimestamp(at, timezone.utc).isoformat(timespec="milliseconds").replace("+00:00", "Z")
+    return (
+        datetime.fromtimestamp(at, timezone.utc)
+        .isoformat(timespec="milliseconds")
+        .replace("+00:00", "Z")
+    )
 
 
 class Board:
@@ -85,7 +89,9 @@ class Board:
         self.number += 1
         if self._away is None:
             self._away = (at, why)
-            self._say([Event(at, f"PostgreSQL is away: {why.removeprefix('PostgreSQL: ')}", None, "bad")])
+            self._say(
+                [Event(at, f"PostgreSQL is away: {why.removeprefix('PostgreSQL: ')}", None, "bad")]
+            )
         self._away = (self._away[0], why)
         self._tell()
 
@@ -109,9 +115,17 @@ class Board:
             events += of_databases(self._known, known, at)
             if self._seen.look.synchronous.meaning != seen.look.synchronous.meaning:
                 events.append(Event(at, seen.look.synchronous.meaning))
-        asides = {each["run"]: {**each, "kept": each.get("kept", True)} for each in asides_of(seen.look)}
+        asides = {
+            each["run"]: {**each, "kept": each.get("kept", True)} for each in asides_of(seen.look)
+        }
         events += of_asides(self._asides, asides, at)
-        self._seen, self._known, self._keepers, self._asides, self._at = seen, known, keepers, asides, at
+        self._seen, self._known, self._keepers, self._asides, self._at = (
+            seen,
+            known,
+            keepers,
+            asides,
+            at,
+        )
         self._generations.update(seen.generations)
         self._say(events)
         self._show(at, living)
@@ -129,14 +143,26 @@ class Board:
             beat = (keeper.run, keeper.beat)
             if self._beats.get(keeper.name, (None, 0.0))[0] != beat:
                 self._beats[keeper.name] = (beat, at)
-        return frozenset(keeper.name for keeper in look.keepers if at - self._beats[keeper.name][1] < self.limits.ttl)
+        return frozenset(
+            keeper.name
+            for keeper in look.keepers
+            if at - self._beats[keeper.name][1] < self.limits.ttl
+        )
 
     def _known_of(self, look: Look, row: Row, living: frozenset[str]) -> Known:
         state = state_of(row, _report(look, row), row.holder not in living)
         pages = look.pages_of(row.id)
-        return Known(row, state, frozenset(standby.keeper for standby in look.standbys_of(row.id)),
-                     frozenset((each.machine, each.run) for each in pages if not each.is_gone and not each.has_ended),
-                     frozenset(str(aside["run"]) for each in pages for aside in each.aside))  # fmt: skip
+        return Known(
+            row,
+            state,
+            frozenset(standby.keeper for standby in look.standbys_of(row.id)),
+            frozenset(
+                (each.machine, each.run)
+                for each in pages
+                if not each.is_gone and not each.has_ended
+            ),
+            frozenset(str(aside["run"]) for each in pages for aside in each.aside),
+        )
 
     def _show(self, at: float, living: frozenset[str]) -> None:
         assert self._seen is not None
@@ -153,42 +179,83 @@ class Board:
                 self._rows[name] = Shown(fields, self.number)
             self._gone.pop(name, None)
 
-    def _fields(self, look: Look, known: Known, at: float, living: frozenset[str]) -> dict[str, Any]:
+    def _fields(
+        self, look: Look, known: Known, at: float, living: frozenset[str]
+    ) -> dict[str, Any]:
         """All that the table has of a database."""
         row, report = known.row, _report(look, known.row)
         history = self._histories.setdefault(row.id, History())
         left, held, hard = report.get("entries_left"), report.get("memory"), report.get("hard")
         history.add(Sample(at, row.run, row.archived, hard, left, held))
         audit = max(self.limits.audit, left or 0)
-        used, grown = Use(left, audit, history.fall()), Use(held, self.limits.memory, history.growth())
+        used, grown = Use(left, audit, history.fall()), Use(
+            held, self.limits.memory, history.growth()
+        )
         forecast = forecast_of(used, grown, self.limits.share)
-        spares = tuple(Spare(each.keeper, each.reached, each.keeper in living) for each in look.standbys_of(row.id))
+        spares = tuple(
+            Spare(each.keeper, each.reached, each.keeper in living)
+            for each in look.standbys_of(row.id)
+        )
         has_asides = any(each["name"] == row.name for each in self._asides.values())
-        scene = Scene(row, known.state, spares, living, forecast, report.get("state") == "succeeding", has_asides)
+        scene = Scene(
+            row,
+            known.state,
+            spares,
+            living,
+            forecast,
+            report.get("state") == "succeeding",
+            has_asides,
+        )
         trail, generations = self._trail_of(row), self._generations.get(row.id, ())
         lag = None if hard is None else max(0, hard - row.archived)
         why = {keeper: said for keeper, said in look.decisions_of(row).items() if keeper in living}
         begins = [each.began.timestamp() for each in generations]
         return {
-            "name": row.name, "state": known.state.value, "paused": row.paused, "read_only": row.read_only, "wanted": row.wanted, "holder": row.holder,
-            "address": row.address, "generation": row.generation, "began": iso(begins[-1]) if begins else None,
+            "name": row.name,
+            "state": known.state.value,
+            "paused": row.paused,
+            "read_only": row.read_only,
+            "wanted": row.wanted,
+            "holder": row.holder,
+            "address": row.address,
+            "generation": row.generation,
+            "began": iso(begins[-1]) if begins else None,
             "begins": [iso(each) for each in begins if each > at - DAY][-24:],
-            "position": row.archived, "stored": report.get("stored"), "lag": lag, "lag_seconds": _short(history.lag_seconds),
-            "commits": _short(history.commits), "reads": _short(trail.reads(at)) if trail else None, "entries_left": left, "entries": audit,
-            "due": int((1 - self.limits.share) * audit), "memory": held,
-            "memory_limit": self.limits.memory or None, "standbys": [asdict(spare) for spare in spares],
-            "pages": [{"machine": each.machine, "position": each.position, "gone": each.is_gone or each.has_ended}
-                      for each in look.pages_of(row.id)],
+            "position": row.archived,
+            "stored": report.get("stored"),
+            "lag": lag,
+            "lag_seconds": _short(history.lag_seconds),
+            "commits": _short(history.commits),
+            "reads": _short(trail.reads(at)) if trail else None,
+            "entries_left": left,
+            "entries": audit,
+            "due": int((1 - self.limits.share) * audit),
+            "memory": held,
+            "memory_limit": self.limits.memory or None,
+            "standbys": [asdict(spare) for spare in spares],
+            "pages": [
+                {
+                    "machine": each.machine,
+                    "position": each.position,
+                    "gone": each.is_gone or each.has_ended,
+                }
+                for each in look.pages_of(row.id)
+            ],
             "denials": sum(trail.denials(at).values()) if trail else None,
-            "why": told(row.holder, why) or None, "next": sentence(scene),
-            "next_in": _short(forecast.seconds, 2) if known.state is State.SERVING and not row.paused else None,
-        }  # fmt: skip
+            "why": told(row.holder, why) or None,
+            "next": sentence(scene),
+            "next_in": _short(forecast.seconds, 2)
+            if known.state is State.SERVING and not row.paused
+            else None,
+        }
 
     def _trail_of(self, row: Row) -> TrailCounts | None:
         return None if self._seen is None else self._trails.get(self._seen.trails.get(row.id, ""))
 
     def _say(self, events: Iterable[Event]) -> None:
-        self._events.extend((self.number, event) for event in sorted(events, key=lambda event: event.at))
+        self._events.extend(
+            (self.number, event) for event in sorted(events, key=lambda event: event.at)
+        )
 
     # Telling.
 
@@ -204,32 +271,50 @@ class Board:
 
     def state(self) -> dict[str, Any]:
         """All of it."""
-        return {**self._head(), "databases": [shown.fields for shown in self._rows.values()],
-                "events": [_event(event) for _, event in self._events]}  # fmt: skip
+        return {
+            **self._head(),
+            "databases": [shown.fields for shown in self._rows.values()],
+            "events": [_event(event) for _, event in self._events],
+        }
 
     def since(self, number: int) -> str:
         """What is newer than the look of this number, as JSON."""
         if number not in self._messages:
             events = [_event(event) for when, event in self._events if when > number]
-            self._messages[number] = json.dumps({
-                **self._head(), "databases": [shown.fields for shown in self._rows.values() if shown.changed > number],
-                "gone": [name for name, when in self._gone.items() if when > number], "events": events,
-            })  # fmt: skip
+            self._messages[number] = json.dumps(
+                {
+                    **self._head(),
+                    "databases": [
+                        shown.fields for shown in self._rows.values() if shown.changed > number
+                    ],
+                    "gone": [name for name, when in self._gone.items() if when > number],
+                    "events": events,
+                }
+            )
         return self._messages[number]
 
     def _head(self) -> dict[str, Any]:
         look, away = (self._seen.look if self._seen else Look()), self._away
         keepers = [
-            {"name": keeper.name, "lines": keeper.lines, "lives": self._keepers[keeper.name][1]} for keeper in look.keepers
+            {"name": keeper.name, "lines": keeper.lines, "lives": self._keepers[keeper.name][1]}
+            for keeper in look.keepers
         ]
         return {
-            "version": VERSION, "look": self.number, "at": iso(self._at), "keepers": keepers, "set_aside": list(self._asides.values()),
+            "version": VERSION,
+            "look": self.number,
+            "at": iso(self._at),
+            "keepers": keepers,
+            "set_aside": list(self._asides.values()),
             "postgresql": {
-                "answers": away is None and self._seen is not None, "is_prepared": self._seen is None or self._seen.is_prepared,
-                "away_since": iso(away[0]) if away else None, "why": away[1] if away else "", "durable": look.synchronous.meaning,
-                "is_one_disk": not look.synchronous.names, "synchronous_standbys": look.synchronous.count,
+                "answers": away is None and self._seen is not None,
+                "is_prepared": self._seen is None or self._seen.is_prepared,
+                "away_since": iso(away[0]) if away else None,
+                "why": away[1] if away else "",
+                "durable": look.synchronous.meaning,
+                "is_one_disk": not look.synchronous.names,
+                "synchronous_standbys": look.synchronous.count,
             },
-        }  # fmt: skip
+        }
 
     def detail(self, name: str) -> dict[str, Any] | None:
         """What is shown of one database: its generations, plots, denials and events."""
@@ -239,16 +324,28 @@ class Board:
         generations, trail = self._generations.get(known.row.id, ()), self._trail_of(known.row)
         points = self._histories[known.row.id].points()
         ends: list[Generation | None] = [*generations[1:], None]
-        events = islice((_event(event) for _, event in reversed(self._events) if event.name == name), 20)
+        events = islice(
+            (_event(event) for _, event in reversed(self._events) if event.name == name), 20
+        )
         return {
-            "version": VERSION, "at": iso(self._at), **self._rows[name].fields,
+            "version": VERSION,
+            "at": iso(self._at),
+            **self._rows[name].fields,
             "generations": [_generation(one, end) for one, end in zip(generations, ends)],
-            "points": [[iso(each.at), each.lag, round(each.commits, 2), each.entries_left] for each in points],
+            "points": [
+                [iso(each.at), each.lag, round(each.commits, 2), each.entries_left]
+                for each in points
+            ],
             "has_trail": known.row.id in self._seen.trails if self._seen else False,
-            "rules": trail.denials(self._at) if trail else {}, "trail_is_damaged": trail is not None and trail.is_damaged,
-            "denied": [{**asdict(denial), "at": iso(denial.at)} for denial in reversed(trail.latest)] if trail else [],
+            "rules": trail.denials(self._at) if trail else {},
+            "trail_is_damaged": trail is not None and trail.is_damaged,
+            "denied": [
+                {**asdict(denial), "at": iso(denial.at)} for denial in reversed(trail.latest)
+            ]
+            if trail
+            else [],
             "events": list(events),
-        }  # fmt: skip
+        }
 
 
 def _report(look: Look, row: Row) -> dict[str, Any]:
@@ -260,8 +357,11 @@ def _report(look: Look, row: Row) -> dict[str, Any]:
 def _past(seen: Seen) -> list[Event]:
     """Events of before the first look: the generations of all databases."""
     names = {row.id: row.name for row in seen.look.rows}
-    return [Event(each.began.timestamp(), taken(each.holder, each.generation, each.base), names[id])
-            for id, generations in seen.generations.items() for each in generations]  # fmt: skip
+    return [
+        Event(each.began.timestamp(), taken(each.holder, each.generation, each.base), names[id])
+        for id, generations in seen.generations.items()
+        for each in generations
+    ]
 
 
 def _event(event: Event) -> dict[str, Any]:
@@ -269,8 +369,14 @@ def _event(event: Event) -> dict[str, Any]:
 
 
 def _generation(one: Generation, end: Generation | None) -> dict[str, Any]:
-    return {"generation": one.generation, "holder": one.holder, "base": one.base, "began": iso(one.began.timestamp()),
-            "ended": iso(end.began.timestamp()) if end else None, "end": end.base if end else None}  # fmt: skip
+    return {
+        "generation": one.generation,
+        "holder": one.holder,
+        "base": one.base,
+        "began": iso(one.began.timestamp()),
+        "ended": iso(end.began.timestamp()) if end else None,
+        "end": end.base if end else None,
+    }
 
 
 def _short(value: float | None, digits: int = 3) -> float | None:

@@ -43,7 +43,9 @@ def read_token(file: Path) -> str:
                 raise CredentialsError(f"others may read {file}: chmod 600 {file}")
             token = opened.readline().strip()
     except (OSError, UnicodeDecodeError) as error:
-        raise CredentialsError(f"{file}: {error.strerror if isinstance(error, OSError) else 'it is no text'}") from error
+        raise CredentialsError(
+            f"{file}: {error.strerror if isinstance(error, OSError) else 'it is no text'}"
+        ) from error
     if len(token) < LEAST or not token.isprintable() or " " in token:
         raise CredentialsError(f"{file}: a token has {LEAST} characters or more, and no space")
     return token
@@ -53,7 +55,9 @@ class Door:
     """With a token it lets in who has it, or a cookie that was given for it. Without one it lets in whose URL names this machine:
     a page of another site could else read all, by a name of its own that leads here."""
 
-    def __init__(self, token: str | None, host: str = "", clock: Callable[[], float] = time.time) -> None:
+    def __init__(
+        self, token: str | None, host: str = "", clock: Callable[[], float] = time.time
+    ) -> None:
         self._token = None if token is None else token.encode()
         self._hosts = {*_LOCAL_NAMES, host}
         self._clock = clock
@@ -78,7 +82,9 @@ class Door:
 
     def is_token(self, given: str) -> bool:
         """Compares in a time that does not depend on where they differ."""
-        return self._token is not None and hmac.compare_digest(given.encode("utf-8", "surrogatepass"), self._token)
+        return self._token is not None and hmac.compare_digest(
+            given.encode("utf-8", "surrogatepass"), self._token
+        )
 
     def cookie(self) -> str:
         """A value that is good until a time, which it has in it."""
@@ -95,8 +101,15 @@ class Door:
     def _is_good(self, cookie: str) -> bool:
         until, _, rest = cookie.partition(".")
         number, seal = rest[:_NUMBER], rest[_NUMBER:]
-        is_sealed = hmac.compare_digest(seal.encode("utf-8", "surrogatepass"), self._seal(until, number).encode())
-        return is_sealed and until.isdecimal() and int(until) > self._clock() and cookie not in self._ended
+        is_sealed = hmac.compare_digest(
+            seal.encode("utf-8", "surrogatepass"), self._seal(until, number).encode()
+        )
+        return (
+            is_sealed
+            and until.isdecimal()
+            and int(until) > self._clock()
+            and cookie not in self._ended
+        )
 
     def _seal(self, until: str, number: str) -> str:
         assert self._token is not None

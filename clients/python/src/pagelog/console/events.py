@@ -48,7 +48,9 @@ class Change:
     level: str = "plain"
 
 
-def of_databases(before: Mapping[int, Known], now: Mapping[int, Known], at: float) -> Iterator[Event]:
+def of_databases(
+    before: Mapping[int, Known], now: Mapping[int, Known], at: float
+) -> Iterator[Event]:
     """The events of all databases between two looks."""
     changes = list(_all_changes(before, now))
     counts = Counter((change.of_many, change.level) for _, change in changes)
@@ -60,7 +62,9 @@ def of_databases(before: Mapping[int, Known], now: Mapping[int, Known], at: floa
             yield Event(at, of_many.replace("#", f"{count:,}"), None, level)
 
 
-def _all_changes(before: Mapping[int, Known], now: Mapping[int, Known]) -> Iterator[tuple[str, Change]]:
+def _all_changes(
+    before: Mapping[int, Known], now: Mapping[int, Known]
+) -> Iterator[tuple[str, Change]]:
     for id, known in now.items():
         if id in before:
             yield from ((known.row.name, change) for change in _changes(before[id], known))
@@ -78,14 +82,20 @@ def _changes(before: Known, now: Known) -> Iterator[Change]:
         text = f"{old.holder} released it at position {row.archived:,}"
         yield Change(text, f"{old.holder} released # databases", "bad")
     elif row.address is not None and row.address != old.address:
-        yield Change(f"{row.holder} serves it at {row.address}", f"{row.holder} serves # databases", "good")
+        yield Change(
+            f"{row.holder} serves it at {row.address}", f"{row.holder} serves # databases", "good"
+        )
     if now.state is State.CLOSING and before.state is not State.CLOSING:
         yield Change(f"{row.holder} closes it", f"{row.holder} closes # databases")
     if row.paused is not old.paused:
         word = "paused" if row.paused else "resumed"
-        yield Change(f"was {word}", f"# databases were {word}", "warning" if row.paused else "plain")
+        yield Change(
+            f"was {word}", f"# databases were {word}", "warning" if row.paused else "plain"
+        )
     if row.wanted != old.wanted and row.wanted is not None:
-        asked = f"a switchover to {'another keeper' if row.wanted == '*' else row.wanted} was asked for"
+        asked = (
+            f"a switchover to {'another keeper' if row.wanted == '*' else row.wanted} was asked for"
+        )
         yield Change(asked, f"{asked}, of # databases")
     if row.succeed and not old.succeed:
         yield Change("a succession was asked for", "a succession was asked for, of # databases")
@@ -99,9 +109,17 @@ def _changes(before: Known, now: Known) -> Iterator[Change]:
 
 def _of_pages(before: Known, now: Known) -> Iterator[Change]:
     for machine, _ in sorted(now.pages - before.pages):
-        yield Change(f"its page server at {machine} is there", f"page servers at {machine} of # databases are there", "good")
+        yield Change(
+            f"its page server at {machine} is there",
+            f"page servers at {machine} of # databases are there",
+            "good",
+        )
     for machine, _ in sorted(before.pages - now.pages):
-        yield Change(f"its page server at {machine} is not heard of", f"page servers at {machine} of # databases are not heard of", "warning")
+        yield Change(
+            f"its page server at {machine} is not heard of",
+            f"page servers at {machine} of # databases are not heard of",
+            "warning",
+        )
     for run in sorted(now.stores - before.stores):
         text = f"a page server has set aside store {run}: `pagelogctl rescue` says what it has"
         yield Change(text, "page servers have set aside stores of # databases", "bad")
@@ -115,7 +133,9 @@ def _taken(old: Row, row: Row) -> Change:
     whose = f" from {old.holder}" if old.holder not in (None, row.holder) else ""
     serves = ", and serves it" if row.address is not None else ""
     text = taken(holder, row.generation, row.base, f"{whose}{serves}")
-    return Change(text, f"{holder} took # databases{whose}{serves.replace(' it', ' them')}", "warning")
+    return Change(
+        text, f"{holder} took # databases{whose}{serves.replace(' it', ' them')}", "warning"
+    )
 
 
 def taken(holder: str, generation: int, base: int, how: str = "") -> str:
@@ -123,7 +143,9 @@ def taken(holder: str, generation: int, base: int, how: str = "") -> str:
     return f"{holder} took it{how}: generation {generation} from position {base:,}"
 
 
-def of_asides(before: Mapping[str, Mapping[str, Any]], now: Mapping[str, Mapping[str, Any]], at: float) -> Iterator[Event]:
+def of_asides(
+    before: Mapping[str, Mapping[str, Any]], now: Mapping[str, Mapping[str, Any]], at: float
+) -> Iterator[Event]:
     """The events of runs of which PostgreSQL has lost something, by run, as their keepers say of them."""
     for run, aside in now.items():
         if run in before and before[run]["kept"] == aside["kept"]:
@@ -132,7 +154,9 @@ def of_asides(before: Mapping[str, Mapping[str, Any]], now: Mapping[str, Mapping
         text = f"run {run} of keeper {aside['keeper']} {how}: `pagelogctl rescue {aside['name']}` says what it has"
         yield Event(at, text, aside["name"], "bad")
     for run in before.keys() - now.keys():
-        yield Event(at, f"PostgreSQL has all of run {run} again, or it was ended", before[run]["name"])
+        yield Event(
+            at, f"PostgreSQL has all of run {run} again, or it was ended", before[run]["name"]
+        )
 
 
 def of_keepers(before: Mapping[str, Any], now: Mapping[str, Any], at: float) -> Iterator[Event]:
@@ -145,5 +169,7 @@ def of_keepers(before: Mapping[str, Any], now: Mapping[str, Any], at: float) -> 
         if run != old_run:
             yield Event(at, f"keeper {name} was restarted")
         if lives is not lived:
-            text = f"keeper {name} lives again" if lives else f"the beat of keeper {name} stands still"
+            text = (
+                f"keeper {name} lives again" if lives else f"the beat of keeper {name} stands still"
+            )
             yield Event(at, text, None, "good" if lives else "bad")

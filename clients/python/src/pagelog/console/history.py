@@ -89,7 +89,14 @@ class History:
 
     def _fall_of(self, value_of: Callable[[Sample], int | None]) -> float | None:
         last = self._recent[-1]
-        first = next((sample for sample in self._sparse if sample.run == last.run and value_of(sample) is not None), None)
+        first = next(
+            (
+                sample
+                for sample in self._sparse
+                if sample.run == last.run and value_of(sample) is not None
+            ),
+            None,
+        )
         before, now = None if first is None else value_of(first), value_of(last)
         if first is None or before is None or now is None or last.at - first.at < LEAST:
             return None
@@ -98,5 +105,12 @@ class History:
     def points(self) -> list[Point]:
         """The points of the last quarter of an hour."""
         found = list(self._sparse)
-        return [Point(now.at, now.lag, max(0, now.end - then.end) / max(now.at - then.at, 1e-3), now.entries_left)
-                for then, now in zip(found, found[1:])]  # fmt: skip
+        return [
+            Point(
+                now.at,
+                now.lag,
+                max(0, now.end - then.end) / max(now.at - then.at, 1e-3),
+                now.entries_left,
+            )
+            for then, now in zip(found, found[1:])
+        ]

@@ -92,8 +92,14 @@ def forecast_of(entries: Use, memory: Use, share: float) -> Forecast:
         due.append((max(0.0, left - (1 - share) * entries.limit) / fall, "list"))
         full = left / fall
     if memory.moves:
-        due.append((max(0.0, share * memory.limit - (memory.now or 0)) / (memory.speed or 1.0), "memory"))
-    return Forecast(*min(due), full) if due else Forecast(is_early=entries.now is not None and entries.speed is None)
+        due.append(
+            (max(0.0, share * memory.limit - (memory.now or 0)) / (memory.speed or 1.0), "memory")
+        )
+    return (
+        Forecast(*min(due), full)
+        if due
+        else Forecast(is_early=entries.now is not None and entries.speed is None)
+    )
 
 
 def sentence(scene: Scene) -> str:
@@ -124,11 +130,17 @@ def _of_nobody(scene: Scene) -> str:
     if scene.row.wanted in scene.living:
         return f"{scene.row.wanted} takes it, as was asked."
     spare = next((spare for spare in scene.spares if spare.lives), None)
-    return f"{spare.keeper} takes it, from its standby." if spare else "A keeper takes it, and fills a fresh service."
+    return (
+        f"{spare.keeper} takes it, from its standby."
+        if spare
+        else "A keeper takes it, and fills a fresh service."
+    )
 
 
 def _of_a_silent_holder(scene: Scene) -> str:
-    holder, others = scene.row.holder, [keeper for keeper in scene.living if keeper != scene.row.holder]
+    holder, others = scene.row.holder, [
+        keeper for keeper in scene.living if keeper != scene.row.holder
+    ]
     if scene.row.paused:
         return f"The beat of {holder} stands still; nobody takes it over while it is paused."
     if not others:
@@ -140,14 +152,24 @@ def _of_a_silent_holder(scene: Scene) -> str:
 def _of_a_server(scene: Scene) -> str:
     row, forecast = scene.row, scene.forecast
     if row.paused:
-        full = f" Its list is full in about {_about(forecast.full_in)}." if forecast.full_in is not None else ""
+        full = (
+            f" Its list is full in about {_about(forecast.full_in)}."
+            if forecast.full_in is not None
+            else ""
+        )
         return f"Nobody takes it over or rolls it until it is resumed.{full}"
     if scene.is_succeeding or row.succeed:
-        return "A succession is under way: the service of the next generation is made beside this one."
+        return (
+            "A succession is under way: the service of the next generation is made beside this one."
+        )
     if row.wanted is not None and forecast.seconds != 0:
         return _of_a_switchover(scene)
     if forecast.seconds is None:
-        return "It is too early to foresee its next succession." if forecast.is_early else "No succession is foreseen."
+        return (
+            "It is too early to foresee its next succession."
+            if forecast.is_early
+            else "No succession is foreseen."
+        )
     when = f"in about {_about(forecast.seconds)}" if forecast.seconds > 0 else "now"
     return f"A succession {when}, by the {forecast.by}."
 
@@ -155,14 +177,27 @@ def _of_a_server(scene: Scene) -> str:
 def _of_a_switchover(scene: Scene) -> str:
     row = scene.row
     to = "another keeper" if row.wanted == "*" else str(row.wanted)
-    reached = max((spare.reached for spare in scene.spares if spare.lives and row.wanted in (spare.keeper, "*")), default=None)
+    reached = max(
+        (
+            spare.reached
+            for spare in scene.spares
+            if spare.lives and row.wanted in (spare.keeper, "*")
+        ),
+        default=None,
+    )
     if reached is None:
         return f"A switchover to {to} waits for its standby."
     lacks = row.archived - reached
     return (
-        f"A switchover to {to} begins." if lacks <= NEAR else f"A switchover to {to} waits: its standby lacks {lacks:,} blocks."
+        f"A switchover to {to} begins."
+        if lacks <= NEAR
+        else f"A switchover to {to} waits: its standby lacks {lacks:,} blocks."
     )
 
 
 def _about(seconds: float) -> str:
-    return f"{seconds / 60:.0f} min" if 120 <= seconds < 7200 else duration(seconds).replace(".0 ", " ")
+    return (
+        f"{seconds / 60:.0f} min"
+        if 120 <= seconds < 7200
+        else duration(seconds).replace(".0 ", " ")
+    )

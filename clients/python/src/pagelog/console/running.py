@@ -33,14 +33,25 @@ _log.addFilter(_OwnFaults())
 
 
 async def run(
-    source: Source, limits: Limits, door: Door, host: str, port: int, listening: Callable[[int], None],
-    signals: Iterable[int] = (signal.SIGTERM, signal.SIGINT), *, context: ssl.SSLContext | None = None,
-) -> None:  # fmt: skip
+    source: Source,
+    limits: Limits,
+    door: Door,
+    host: str,
+    port: int,
+    listening: Callable[[int], None],
+    signals: Iterable[int] = (signal.SIGTERM, signal.SIGINT),
+    *,
+    context: ssl.SSLContext | None = None,
+) -> None:
     """Serves until one of the signals, by TLS where there is a context. `listening` is told the port. Raises `OSError` where it cannot
     listen there."""
     loop, board, ended = asyncio.get_running_loop(), Board(limits), asyncio.Event()
     watcher = Watcher(source, partial(_tell, loop, board.take), partial(_tell, loop, board.miss))
-    runner = web.AppRunner(Pages(board, door, watcher.watch, is_secure=context is not None).application(), access_log=None, logger=_log)
+    runner = web.AppRunner(
+        Pages(board, door, watcher.watch, is_secure=context is not None).application(),
+        access_log=None,
+        logger=_log,
+    )
     await runner.setup()
     try:
         await web.TCPSite(runner, host, port, ssl_context=context).start()
@@ -53,14 +64,23 @@ async def run(
         await runner.cleanup()
 
 
-def begin(source: Source, limits: Limits, door: Door, host: str, port: int, context: ssl.SSLContext | None = None) -> int:
+def begin(
+    source: Source,
+    limits: Limits,
+    door: Door,
+    host: str,
+    port: int,
+    context: ssl.SSLContext | None = None,
+) -> int:
     """Serves in a thread, with a loop of its own, for as long as the program runs. Returns the port. Raises `OSError`, or
     `UnicodeError` for a host that is no name."""
     listening: Future[int] = Future()
 
     def serve() -> None:
         try:
-            asyncio.run(run(source, limits, door, host, port, listening.set_result, (), context=context))
+            asyncio.run(
+                run(source, limits, door, host, port, listening.set_result, (), context=context)
+            )
         except BaseException as error:  # whatever it is: who began it waits for its word
             if listening.done():
                 raise

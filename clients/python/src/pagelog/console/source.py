@@ -13,7 +13,7 @@ import psycopg
 from psycopg.conninfo import make_conninfo
 from psycopg.rows import dict_row
 
-from pagelog.archive_url import without_password
+from pagelog.archive.url import without_password
 from pagelog.console import statements
 from pagelog.errors import PagelogError
 from pagelog.keeper.hosts import shut_down
@@ -32,10 +32,14 @@ PAST = 3600
 LONGEST = 8.0
 """Seconds after which a look is cut, as from a server that stands still."""
 _OPTIONS = {
-    "connect_timeout": 3, "target_session_attrs": "primary", "application_name": "pagelog console",
-    "keepalives_idle": 5, "keepalives_interval": 2, "keepalives_count": 3,
+    "connect_timeout": 3,
+    "target_session_attrs": "primary",
+    "application_name": "pagelog console",
+    "keepalives_idle": 5,
+    "keepalives_interval": 2,
+    "keepalives_count": 3,
     "options": f"-c statement_timeout={int(LONGEST * 1000)} -c lock_timeout=3s",
-}  # fmt: skip
+}
 _NO_TABLES = (psycopg.errors.UndefinedTable, psycopg.errors.UndefinedColumn)
 
 
@@ -121,7 +125,9 @@ class Source:
         left = count_of_hosts(self._options)
         while self._connection is None or self._connection.closed:
             try:
-                self._connection = psycopg.connect(make_conninfo(**self._options), autocommit=True, row_factory=dict_row)
+                self._connection = psycopg.connect(
+                    make_conninfo(**self._options), autocommit=True, row_factory=dict_row
+                )
                 self._connection.execute("SET default_transaction_read_only = on")
             except psycopg.Error:
                 self.close()
@@ -134,15 +140,24 @@ class Source:
         [found] = self._ask(statements.LOOK)
         pages = self._ask(statements.PAGES) if found["has_pages"] else ()
         look = Look(
-            tuple(Row(**row) for row in found["databases"]), tuple(KeeperRow(**row) for row in found["keepers"]),
-            tuple(StandbyRow(**row) for row in found["standbys"]), Synchronous(found["names"], found["standbys_of_postgresql"]),
+            tuple(Row(**row) for row in found["databases"]),
+            tuple(KeeperRow(**row) for row in found["keepers"]),
+            tuple(StandbyRow(**row) for row in found["standbys"]),
+            Synchronous(found["names"], found["standbys_of_postgresql"]),
             tuple(PagesRow(**row) for row in pages),
-        )  # fmt: skip
+        )
         generations = self._new_generations(look.rows)
         if not found["has_trail"]:
             return Seen(look, generations)
-        lists = self._ask(statements.LISTS if found["has_runs"] else statements.LISTS_BY_NAME, {"format": FORMAT})
-        return Seen(look, generations, tuple(self._new_pieces(lists)), {row["log"]: row["whose"] for row in lists})
+        lists = self._ask(
+            statements.LISTS if found["has_runs"] else statements.LISTS_BY_NAME, {"format": FORMAT}
+        )
+        return Seen(
+            look,
+            generations,
+            tuple(self._new_pieces(lists)),
+            {row["log"]: row["whose"] for row in lists},
+        )
 
     def _new_generations(self, rows: Iterable[Row]) -> dict[int, tuple[Generation, ...]]:
         now = {row.id: (row.generation, row.run) for row in rows}
@@ -161,8 +176,12 @@ class Source:
         due = [id for id, row in of.items() if row["kept"] >= self._next.get(keys[id], 1)]
         if not due:
             return
-        values = {"lists": due, "firsts": [self._next.get(keys[id], 1) for id in due], "most": PIECES,
-                  "since": int((time.time() - PAST) * 1e6)}  # fmt: skip
+        values = {
+            "lists": due,
+            "firsts": [self._next.get(keys[id], 1) for id in due],
+            "most": PIECES,
+            "since": int((time.time() - PAST) * 1e6),
+        }
         rows = self._ask(statements.PIECES, values)
         for row in rows:
             self._next[keys[row["list"]]] = row["first"] + row["count"]
@@ -177,4 +196,6 @@ def _piece_of(row: Mapping[str, Any]) -> Piece | None:
         lines = zlib.decompress(bytes(row["data"]))
     except zlib.error:
         return None
-    return Piece(row["first"], row["seen"], lines) if len(lines) == row["count"] * LINE_SIZE else None
+    return (
+        Piece(row["first"], row["seen"], lines) if len(lines) == row["count"] * LINE_SIZE else None
+    )

@@ -85,4 +85,8 @@ class TrailCounts:
         if len(self._reads) < 2 or self._reads[-1][0] < now - 2 * RECENT:
             return None
         first, last = self._reads[0][0], self._reads[-1][0]
-        return None if last <= first else sum(reads for at, reads in self._reads if at > first) / (last - first)
+        return (
+            None
+            if last <= first
+            else sum(reads for at, reads in self._reads if at > first) / (last - first)
+        )

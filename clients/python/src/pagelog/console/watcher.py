@@ -20,7 +20,12 @@ class Watcher(threading.Thread):
     It is no thread that the program waits for: a connection that is being made cannot be cut.
     """
 
-    def __init__(self, source: Source, take: Callable[[Seen, float], None], miss: Callable[[str, float], None]) -> None:
+    def __init__(
+        self,
+        source: Source,
+        take: Callable[[Seen, float], None],
+        miss: Callable[[str, float], None],
+    ) -> None:
         super().__init__(name="console-watcher", daemon=True)
         self._source, self._take, self._miss = source, take, miss
         self._is_watched = threading.Event()
@@ -36,7 +41,9 @@ class Watcher(threading.Thread):
                 seen = self._source.look()
             except NoLook as error:
                 self._miss(str(error), time.time())
-            except Exception as error:  # as of another version's rows: else nobody would be told that it looks no more
+            except (
+                Exception
+            ) as error:  # as of another version's rows: else nobody would be told that it looks no more
                 self._miss(f"{type(error).__name__}: {error}", time.time())
             else:
                 self._take(seen, time.time())

@@ -25,19 +25,28 @@ _OPEN = ("/login", "/logout", "/static/style.css", "/static/icon.svg")
 """What is answered to those who have no token yet."""
 _HEADERS = {
     "Content-Security-Policy": "default-src 'none'; script-src 'self'; style-src 'self'; img-src 'self'; connect-src 'self'; "
-                               "form-action 'self'; base-uri 'none'; frame-ancestors 'none'",
-    "X-Content-Type-Options": "nosniff", "X-Frame-Options": "DENY", "Referrer-Policy": "no-referrer",
-    "Cross-Origin-Opener-Policy": "same-origin", "Cross-Origin-Resource-Policy": "same-origin", "Server": "pagelog console",
-}  # fmt: skip
+    "form-action 'self'; base-uri 'none'; frame-ancestors 'none'",
+    "X-Content-Type-Options": "nosniff",
+    "X-Frame-Options": "DENY",
+    "Referrer-Policy": "no-referrer",
+    "Cross-Origin-Opener-Policy": "same-origin",
+    "Cross-Origin-Resource-Policy": "same-origin",
+    "Server": "pagelog console",
+}
 Handler = Callable[[web.Request], Awaitable[web.StreamResponse]]
 
 
 class Pages:
     """The answers. `watched` is told whether anybody follows, and `is_secure` is whether browsers come by TLS."""
 
-    def __init__(self, board: Board, door: Door, watched: Callable[[bool], None], *, is_secure: bool = False) -> None:
+    def __init__(
+        self, board: Board, door: Door, watched: Callable[[bool], None], *, is_secure: bool = False
+    ) -> None:
         self.board, self.door, self._watched, self._is_secure = board, door, watched, is_secure
-        self._files = {entry.name: entry.read_bytes() for entry in files(__package__).joinpath("static").iterdir()}
+        self._files = {
+            entry.name: entry.read_bytes()
+            for entry in files(__package__).joinpath("static").iterdir()
+        }
         self._following: set[asyncio.Task[Any]] = set()
 
     def application(self) -> web.Application:
@@ -45,11 +54,18 @@ class Pages:
         made = web.Application(middlewares=[self._guard], client_max_size=4096)
         made.on_response_prepare.append(_add_headers)
         made.on_shutdown.append(self._leave)
-        made.add_routes([
-            web.get("/", self.page), web.get("/static/{name}", self.file), web.get("/login", self.login_page),
-            web.post("/login", self.login), web.post("/logout", self.logout), web.get("/api/state", self.state),
-            web.get("/api/databases/{name}", self.database), web.get("/api/events", self.events, allow_head=False),
-        ])  # fmt: skip
+        made.add_routes(
+            [
+                web.get("/", self.page),
+                web.get("/static/{name}", self.file),
+                web.get("/login", self.login_page),
+                web.post("/login", self.login),
+                web.post("/logout", self.logout),
+                web.get("/api/state", self.state),
+                web.get("/api/databases/{name}", self.database),
+                web.get("/api/events", self.events, allow_head=False),
+            ]
+        )
         return made
 
     @web.middleware
@@ -57,10 +73,14 @@ class Pages:
         if self.door.lets_in(request) or (self.door.wants_token and request.path in _OPEN):
             return await handler(request)
         if not self.door.wants_token:
-            raise web.HTTPMisdirectedRequest(text="this console is for this machine alone: ask for it as localhost\n")
+            raise web.HTTPMisdirectedRequest(
+                text="this console is for this machine alone: ask for it as localhost\n"
+            )
         if request.path == "/":
             raise web.HTTPSeeOther("/login")
-        raise web.HTTPUnauthorized(text="a token is wanted\n", headers={"WWW-Authenticate": "Bearer"})
+        raise web.HTTPUnauthorized(
+            text="a token is wanted\n", headers={"WWW-Authenticate": "Bearer"}
+        )
 
     # The page.
 
@@ -71,8 +91,12 @@ class Pages:
         tag = hashlib.sha256(found).hexdigest()[:32]
         if any(each.value == tag for each in request.if_none_match or ()):
             return web.Response(status=304, headers={"ETag": f'"{tag}"'})
-        return web.Response(body=found, content_type=_KINDS[name.rpartition(".")[2]], charset="utf-8",
-                            headers={"ETag": f'"{tag}"', "Cache-Control": "no-cache"})  # fmt: skip
+        return web.Response(
+            body=found,
+            content_type=_KINDS[name.rpartition(".")[2]],
+            charset="utf-8",
+            headers={"ETag": f'"{tag}"', "Cache-Control": "no-cache"},
+        )
 
     async def page(self, request: web.Request) -> web.StreamResponse:
         """The one page."""
@@ -94,7 +118,14 @@ class Pages:
             wrong = self._files["login.html"].replace(b'class="wrong" hidden', b'class="wrong"')
             return web.Response(status=403, body=wrong, content_type="text/html", charset="utf-8")
         response = web.HTTPSeeOther("/")
-        response.set_cookie(COOKIE, self.door.cookie(), max_age=LASTS, httponly=True, samesite="Strict", secure=self._is_secure)
+        response.set_cookie(
+            COOKIE,
+            self.door.cookie(),
+            max_age=LASTS,
+            httponly=True,
+            samesite="Strict",
+            secure=self._is_secure,
+        )
         return response
 
     async def logout(self, request: web.Request) -> web.StreamResponse:
@@ -120,7 +151,9 @@ class Pages:
     async def events(self, request: web.Request) -> web.StreamResponse:
         """An event `look` for each look: first all, then what is other than at the event before."""
         if len(self._following) >= LISTENERS:
-            raise web.HTTPServiceUnavailable(text=f"{LISTENERS} browsers follow already\n", headers={"Retry-After": "10"})
+            raise web.HTTPServiceUnavailable(
+                text=f"{LISTENERS} browsers follow already\n", headers={"Retry-After": "10"}
+            )
         task = asyncio.current_task()
         assert task is not None
         self._following.add(task)
@@ -132,16 +165,25 @@ class Pages:
             self._watched(bool(self._following))
 
     async def _follow(self, request: web.Request) -> web.StreamResponse:
-        response = web.StreamResponse(headers={"Content-Type": "text/event-stream", "X-Accel-Buffering": "no"})
+        response = web.StreamResponse(
+            headers={"Content-Type": "text/event-stream", "X-Accel-Buffering": "no"}
+        )
         await response.prepare(request)
         assert request.transport is not None
-        request.transport.get_extra_info("socket").setsockopt(socket.SOL_SOCKET, socket.SO_SNDBUF, BUFFER)
+        request.transport.get_extra_info("socket").setsockopt(
+            socket.SOL_SOCKET, socket.SO_SNDBUF, BUFFER
+        )
         number, lead = 0, "retry: 1000\n"
         while True:
             await self.board.newer_than(number)
             message, number = self.board.since(number), self.board.number
             try:
-                await asyncio.wait_for(response.write(f"{lead}id: {number}\nevent: look\ndata: {message}\n\n".encode()), PATIENCE)
+                await asyncio.wait_for(
+                    response.write(
+                        f"{lead}id: {number}\nevent: look\ndata: {message}\n\n".encode()
+                    ),
+                    PATIENCE,
+                )
             except (asyncio.TimeoutError, ConnectionError):
                 if request.transport is not None:
                     request.transport.abort()

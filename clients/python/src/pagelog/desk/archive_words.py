@@ -11,14 +11,27 @@ from typing import Callable
 import click
 
 from pagelog.archive import Archive
-from pagelog.archiving import Archiver
+from pagelog.archive.archiving import Archiver
 from pagelog.audit_list import MOST_ENTRIES, AuditRoom
 from pagelog.client import Client
 from pagelog.credentials import Accounts
 from pagelog.desk.options import (
-    LIST_FULL, NOT_YET, bar, client, credentials_option, db_option, fail, faults, first_line_of, is_lost_archive, is_of_the_archive,
-    json_option, stopping, url_of, url_options,
-)  # fmt: skip
+    LIST_FULL,
+    NOT_YET,
+    bar,
+    client,
+    credentials_option,
+    db_option,
+    fail,
+    faults,
+    first_line_of,
+    is_lost_archive,
+    is_of_the_archive,
+    json_option,
+    stopping,
+    url_of,
+    url_options,
+)
 from pagelog.errors import ConnectionLost, OutOfMemory, Unreachable
 from pagelog.fencing import ListGuard
 from pagelog.operator import Operator
@@ -34,17 +47,40 @@ from pagelog.tables import TableText
 @db_option
 @url_options
 @click.option("--follow", is_flag=True, help="Go on with what comes, until SIGTERM or SIGINT.")
-@click.option("--idle", default=1.0, show_default=True, type=click.FloatRange(0.01), metavar="SECONDS",
-              help="How long it waits at most before it asks again; a quarter of it while blocks come.")  # fmt: skip
-@click.option("--fence-at", metavar="N", type=click.IntRange(1), help="Fence the database once its audit list has at most N entries left, or "
-              "no more than the blocks that are not archived want. Needs [operator] and --table.")  # fmt: skip
-@click.option("--table", metavar="FILE", type=click.Path(), help="The table in force, from which the one of the fence is made.")
+@click.option(
+    "--idle",
+    default=1.0,
+    show_default=True,
+    type=click.FloatRange(0.01),
+    metavar="SECONDS",
+    help="How long it waits at most before it asks again; a quarter of it while blocks come.",
+)
+@click.option(
+    "--fence-at",
+    metavar="N",
+    type=click.IntRange(1),
+    help="Fence the database once its audit list has at most N entries left, or "
+    "no more than the blocks that are not archived want. Needs [operator] and --table.",
+)
+@click.option(
+    "--table",
+    metavar="FILE",
+    type=click.Path(),
+    help="The table in force, from which the one of the fence is made.",
+)
 @json_option
 @faults
 def archive_word(
-    accounts: Accounts, db: int, url: str | None, log: str | None, follow: bool, idle: float, fence_at: int | None, table: str | None,
+    accounts: Accounts,
+    db: int,
+    url: str | None,
+    log: str | None,
+    follow: bool,
+    idle: float,
+    fence_at: int | None,
+    table: str | None,
     as_json: bool,
-) -> None:  # fmt: skip
+) -> None:
     """Keep every hardened block of a database in an archive. Needs [secondary].
 
     Prints `archived N of H`: all blocks up to LSN N are kept, and H were hardened. Killed at any moment, the archive is
@@ -67,8 +103,17 @@ def archive_word(
         archiver = Archiver(reader, archive)
         guard = None
         if Role.OPERATOR in accounts.of_role and follow:
-            room = AuditRoom(stack.enter_context(client(Operator, accounts, db)), accounts.audit_limit or MOST_ENTRIES)
-            guard = ListGuard(room, archiver, fence_at=fence_at or 0, table=fence if fence_at else None, warn=_warn)
+            room = AuditRoom(
+                stack.enter_context(client(Operator, accounts, db)),
+                accounts.audit_limit or MOST_ENTRIES,
+            )
+            guard = ListGuard(
+                room,
+                archiver,
+                fence_at=fence_at or 0,
+                table=fence if fence_at else None,
+                warn=_warn,
+            )
         stop = stack.enter_context(stopping())
         if follow:
             Follower(archiver, idle, stop, guard, as_json).run()
@@ -88,7 +133,14 @@ LONGEST = 2.0
 class Follower:
     """Follows until it is stopped or the database is fenced, however often the service or the archive is lost for a moment."""
 
-    def __init__(self, archiver: Archiver, idle: float, stop: Callable[[], bool], guard: ListGuard | None = None, as_json: bool = False) -> None:
+    def __init__(
+        self,
+        archiver: Archiver,
+        idle: float,
+        stop: Callable[[], bool],
+        guard: ListGuard | None = None,
+        as_json: bool = False,
+    ) -> None:
         self.archiver = archiver
         self.idle = idle
         self.stop = stop
@@ -129,10 +181,15 @@ class Follower:
     def _was_let_in(self) -> bool:
         """Whether all were let in before, by this service or an earlier one; an operator only if it is to fence."""
         fences = self.guard is not None and self.guard.table is not None
-        return all(client.was_let_in for client in (self._clients() if fences else self._clients()[:1]))
+        return all(
+            client.was_let_in for client in (self._clients() if fences else self._clients()[:1])
+        )
 
     def _clients(self) -> list[Client]:
-        return [self.archiver.reader, *([self.guard.room.operator] if self.guard is not None else [])]
+        return [
+            self.archiver.reader,
+            *([self.guard.room.operator] if self.guard is not None else []),
+        ]
 
     def _wait_to_be_let_in(self) -> None:
         """The service was restarted. What was seen of the one before, and not archived, is lost with that."""
@@ -163,7 +220,11 @@ class Follower:
 
 
 def _tell(archived: int, hard: int, as_json: bool) -> None:
-    click.echo(json.dumps({"archived": archived, "hard": hard}) if as_json else f"archived {archived} of {hard}")
+    click.echo(
+        json.dumps({"archived": archived, "hard": hard})
+        if as_json
+        else f"archived {archived} of {hard}"
+    )
     sys.stdout.flush()
 
 

@@ -19,8 +19,17 @@ from pagelog.times import in_both_zones
 @click.command("branch")
 @click.argument("name")
 @click.argument("new")
-@click.option("--at", metavar="POSITION|TIME", help="The position, or the last one that was archived by then. [default: the last one]")
-@click.option("--table", metavar="FILE", type=click.Path(path_type=Path), help="Its table: who may do what. [default: that of NAME]")
+@click.option(
+    "--at",
+    metavar="POSITION|TIME",
+    help="The position, or the last one that was archived by then. [default: the last one]",
+)
+@click.option(
+    "--table",
+    metavar="FILE",
+    type=click.Path(path_type=Path),
+    help="Its table: who may do what. [default: that of NAME]",
+)
 @referee_word
 def branch_word(referee: Referee, name: str, new: str, at: str | None, table: Path | None) -> None:
     """Make a named database that may be written, and begins with what another one is, or was at a position or a time.

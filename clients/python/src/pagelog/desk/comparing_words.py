@@ -39,8 +39,12 @@ def verify_pages(accounts: Accounts, name: str, last: int | None, as_json: bool)
             copies.append(service)
         position = position_of_all(copies, min(row.archived, HIGHEST_LSN if last is None else last))
         done = compare(copies, written(Bases(referee, row.id), position), position, service, told)
-    click.echo(json.dumps(asdict(done)) if as_json else f"{done.pages} pages at position {position} are alike, digest {done.digest}: "
-               f"{', '.join(done.of)}")  # fmt: skip
+    click.echo(
+        json.dumps(asdict(done))
+        if as_json
+        else f"{done.pages} pages at position {position} are alike, digest {done.digest}: "
+        f"{', '.join(done.of)}"
+    )
 
 
 def _living(look: Look, row: Row) -> list[PagesRow]:
@@ -71,10 +75,18 @@ class _Asked:
         row = self._row
         assert row.run is not None
         name = f"service {row.run} at {row.address}"
-        return Copy(name, self._reader(name, row.told(self._trust is not None), row.run), row.images, row.archived, row.shift)
+        return Copy(
+            name,
+            self._reader(name, row.told(self._trust is not None), row.run),
+            row.images,
+            row.archived,
+            row.shift,
+        )
 
     def _reader(self, name: str, address: str | None, run: str) -> Reader:
         if address is None:
             fail(f"{name} is reached {'without' if self._trust is not None else 'by'} TLS alone")
         connection = Connection(address, timeout=timeout(), attempts=8, trust=self._trust)
-        return self._stack.enter_context(Reader(connection, keeper_of(self._secret, self._row.name, run)))
+        return self._stack.enter_context(
+            Reader(connection, keeper_of(self._secret, self._row.name, run))
+        )

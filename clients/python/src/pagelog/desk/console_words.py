@@ -21,12 +21,25 @@ if TYPE_CHECKING:
 
 @click.command("console")
 @credentials_option
-@click.option("--listen", default="127.0.0.1:7480", show_default=True, metavar="HOST:PORT", help="Where browsers reach it.")
-@click.option("--token-file", metavar="FILE", type=click.Path(path_type=Path), help="A file of mode 600 whose first line has the "
-              "token that a browser has to give. Needed where HOST is not of this machine alone.")  # fmt: skip
+@click.option(
+    "--listen",
+    default="127.0.0.1:7480",
+    show_default=True,
+    metavar="HOST:PORT",
+    help="Where browsers reach it.",
+)
+@click.option(
+    "--token-file",
+    metavar="FILE",
+    type=click.Path(path_type=Path),
+    help="A file of mode 600 whose first line has the "
+    "token that a browser has to give. Needed where HOST is not of this machine alone.",
+)
 @tls_option
 @faults
-def console_word(accounts: Accounts, listen: str, token_file: Path | None, tls: Path | None) -> None:
+def console_word(
+    accounts: Accounts, listen: str, token_file: Path | None, tls: Path | None
+) -> None:
     """Serve a page that shows named databases live. Needs [archive] url, of a role that may read; it writes nothing.
 
     It prints `listening HOST:PORT`. PostgreSQL is looked at once a second while a browser follows, else every five seconds.
@@ -43,13 +56,29 @@ def console_word(accounts: Accounts, listen: str, token_file: Path | None, tls: 
 
     host, port, door = _place_of(listen, token_file, "--listen", "--token-file")
     keeper = accounts.keeper
-    limits = Limits(float(keeper.get("ttl", Limits.ttl)), keeper.get("audit", Limits.audit), keeper.get("memory", 0) >> 20,
-                    float(keeper.get("succeed", SUCCEED_AT)) or ROLL_AT)  # fmt: skip
+    limits = Limits(
+        float(keeper.get("ttl", Limits.ttl)),
+        keeper.get("audit", Limits.audit),
+        keeper.get("memory", 0) >> 20,
+        float(keeper.get("succeed", SUCCEED_AT)) or ROLL_AT,
+    )
     source = Source(url_of_referee(accounts))
     try:
-        asyncio.run(run(source, limits, door, host.strip("[]"), port, lambda bound: click.echo(f"listening {host}:{bound}"),
-                        context=context_of_file(tls)))  # fmt: skip
-    except (OSError, UnicodeError) as error:  # UnicodeError: the host is no name that can be looked up
+        asyncio.run(
+            run(
+                source,
+                limits,
+                door,
+                host.strip("[]"),
+                port,
+                lambda bound: click.echo(f"listening {host}:{bound}"),
+                context=context_of_file(tls),
+            )
+        )
+    except (
+        OSError,
+        UnicodeError,
+    ) as error:  # UnicodeError: the host is no name that can be looked up
         fail(f"--listen: {listen}: {getattr(error, 'strerror', None) or error}")
 
 
@@ -60,15 +89,23 @@ def begin_console(settings: Settings, context: ssl.SSLContext | None = None) -> 
     from pagelog.console.source import Source
 
     assert settings.console is not None
-    host, port, door = _place_of(settings.console, settings.console_token, "[keeper] console", "console_token")
-    limits = Limits(settings.ttl, settings.program.audit, settings.memory >> 20, settings.succeed or ROLL_AT)
+    host, port, door = _place_of(
+        settings.console, settings.console_token, "[keeper] console", "console_token"
+    )
+    limits = Limits(
+        settings.ttl, settings.program.audit, settings.memory >> 20, settings.succeed or ROLL_AT
+    )
     try:
-        return f"{host}:{begin(Source(settings.url), limits, door, host.strip('[]'), port, context)}"
+        return (
+            f"{host}:{begin(Source(settings.url), limits, door, host.strip('[]'), port, context)}"
+        )
     except (OSError, UnicodeError) as error:
         fail(f"[keeper] console: {settings.console}: {getattr(error, 'strerror', None) or error}")
 
 
-def _place_of(listen: str, token_file: Path | None, option: str, token_option: str) -> tuple[str, int, Door]:
+def _place_of(
+    listen: str, token_file: Path | None, option: str, token_option: str
+) -> tuple[str, int, Door]:
     """Where to listen, and who is let in."""
     from pagelog.console.door import Door, is_loopback, read_token
 

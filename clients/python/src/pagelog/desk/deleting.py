@@ -12,7 +12,9 @@ from pagelog.desk.options import WRONG, fail
 
 def yes_option(word: Callable[..., Any]) -> Callable[..., Any]:
     """--yes."""
-    return click.option("--yes", "--force", "yes", is_flag=True, help="Say what is deleted, and do not ask.")(word)
+    return click.option(
+        "--yes", "--force", "yes", is_flag=True, help="Say what is deleted, and do not ask."
+    )(word)
 
 
 def agree(what: str, yes: bool, question: str = "delete it") -> None:
@@ -21,7 +23,10 @@ def agree(what: str, yes: bool, question: str = "delete it") -> None:
     if yes:
         return
     if not sys.stdin.isatty():
-        fail("nothing was done: there is no terminal to ask at; --yes does it without a question", WRONG)
+        fail(
+            "nothing was done: there is no terminal to ask at; --yes does it without a question",
+            WRONG,
+        )
     click.confirm(question, abort=True, err=True)
 
 

@@ -8,7 +8,7 @@ import click
 from click.core import ParameterSource
 
 from pagelog.archive import Archive
-from pagelog.archive_care import Log, drop, logs_of
+from pagelog.archive.care import Log, drop, logs_of
 from pagelog.credentials import Accounts
 from pagelog.desk.deleting import agree, counted, yes_option
 from pagelog.desk.hold_words import refuse_held
@@ -34,7 +34,9 @@ SELECT (SELECT count(*) FROM pagelog_block WHERE log IN (SELECT id FROM old)), (
 @click.argument("name", required=False)
 @yes_option
 @faults
-def drop_word(accounts: Accounts, url: str | None, log: str | None, name: str | None, yes: bool) -> None:
+def drop_word(
+    accounts: Accounts, url: str | None, log: str | None, name: str | None, yes: bool
+) -> None:
     """Remove a named database for good, or with --log and without a NAME a log of an archive. Needs no service.
 
     It says first what goes: positions or LSNs, their times as far as they are known, who holds it; and asks.
@@ -46,7 +48,10 @@ def drop_word(accounts: Accounts, url: str | None, log: str | None, name: str | 
     """
     if name is None:
         _drop_log(accounts, url, log, yes)
-    elif log is not None or click.get_current_context().get_parameter_source("url") is ParameterSource.COMMANDLINE:
+    elif (
+        log is not None
+        or click.get_current_context().get_parameter_source("url") is ParameterSource.COMMANDLINE
+    ):
         raise click.UsageError("a NAME is a named database: it has neither --url nor --log")
     else:
         with referee_of(accounts) as referee:
@@ -61,7 +66,11 @@ def _drop_named(referee: Referee, name: str, yes: bool) -> None:
     row = look.row(name)
     if row is not None:
         refuse_held(referee, row)
-    agree("to be deleted: " + (_left_of(referee, name) if row is None else _named(referee, look, row)), yes)
+    agree(
+        "to be deleted: "
+        + (_left_of(referee, name) if row is None else _named(referee, look, row)),
+        yes,
+    )
     now = referee.everything().row(name)
     if (now and now.id) != (row and row.id):
         fail(f"nothing was deleted: {name} is {'another database' if now else 'gone'} by now")
@@ -76,7 +85,12 @@ def _left_of(referee: Referee, name: str) -> str:
     if not any(counts):
         fail(f"there is no database {name}")
     blocks, images, bases, tables, objects = counts
-    left = [counted(blocks, "block"), counted(images, "image"), counted(bases, "base"), counted(tables, "table")]
+    left = [
+        counted(blocks, "block"),
+        counted(images, "image"),
+        counted(bases, "base"),
+        counted(tables, "table"),
+    ]
     left += [counted(objects, "stored object")] if objects else []
     return f"what is left of {name}, whose drop was broken off: {', '.join(left)}"
 
@@ -85,21 +99,33 @@ def _named(referee: Referee, look: Look, row: Row) -> str:
     has, lag = extent_of(referee, row), facts_of(look, row)["lag"]
     [[identity]] = referee._ask(_IDENTITY, (row.id,))
     more = f", and {counted(lag, 'position')} behind them that only its service has" if lag else ""
-    return (f"database {row.name}{f', identity {identity}' if identity else ''}, with its table\n  {has}{more}; {counted(has.bases, 'base')}\n"
-            f"  {_holder(look, row)}\n  {_trail_of(referee, row)}")  # fmt: skip
+    return (
+        f"database {row.name}{f', identity {identity}' if identity else ''}, with its table\n  {has}{more}; {counted(has.bases, 'base')}\n"
+        f"  {_holder(look, row)}\n  {_trail_of(referee, row)}"
+    )
 
 
 def _holder(look: Look, row: Row) -> str:
     standbys = ", ".join(sorted(each.keeper for each in look.standbys_of(row.id)))
-    held = f"held by {row.holder} at {row.address or 'no address yet'}, generation {row.generation}" if row.holder else "held by no keeper"
+    held = (
+        f"held by {row.holder} at {row.address or 'no address yet'}, generation {row.generation}"
+        if row.holder
+        else "held by no keeper"
+    )
     return f"{held}; standbys: {standbys}" if standbys else held
 
 
 def _trail_of(referee: Referee, row: Row) -> str:
     count = 0
     if referee._ask("SELECT to_regclass('pagelog_trail_list') IS NOT NULL") == [(True,)]:
-        [[count]] = referee._ask("SELECT count(*) FROM pagelog_trail_list WHERE log = %s", (row.name,))
-    return f"its trail of {counted(count, 'list')} is not deleted: it is kept as {row.name}!{row.id}" if count else "it has no trail"
+        [[count]] = referee._ask(
+            "SELECT count(*) FROM pagelog_trail_list WHERE log = %s", (row.name,)
+        )
+    return (
+        f"its trail of {counted(count, 'list')} is not deleted: it is kept as {row.name}!{row.id}"
+        if count
+        else "it has no trail"
+    )
 
 
 # A log of an archive.
@@ -111,7 +137,10 @@ def _drop_log(accounts: Accounts, url: str | None, log: str | None, yes: bool) -
     where = url_of(url, accounts)
     with Archive(where, log) as archive:
         found = next(each for each in logs_of(where) if each.name == log)
-        agree(f"to be deleted: log {log} of {archive.shown}\n  {_extent(found)}\n  {_trail_beside(where, log)}", yes)
+        agree(
+            f"to be deleted: log {log} of {archive.shown}\n  {_extent(found)}\n  {_trail_beside(where, log)}",
+            yes,
+        )
         click.echo(f"dropped {drop(archive)} blocks of log {log}")
 
 

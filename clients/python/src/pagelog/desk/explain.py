@@ -15,7 +15,23 @@ from typing import Any, Sequence
 from pagelog.block import PAGES_OF_PARTITION, Block, Zero
 from pagelog.errors import Fault, PagelogError
 from pagelog.reply import Denied, Reply, decode_reply
-from pagelog.request import ACTS, WITHOUT_ARGUMENTS, Act, Advance, Audit, Failover, Get, Head, Offer, Pull, Report, Request, Role, SetTable, Write
+from pagelog.request import (
+    ACTS,
+    WITHOUT_ARGUMENTS,
+    Act,
+    Advance,
+    Audit,
+    Failover,
+    Get,
+    Head,
+    Offer,
+    Pull,
+    Report,
+    Request,
+    Role,
+    SetTable,
+    Write,
+)
 from pagelog.rules import Section, TableFault, rule_of
 
 PROGRAM_VARIABLE = "PAGELOG"
@@ -45,15 +61,27 @@ class Question:
     @classmethod
     def parse(cls, words: str) -> Question:
         """From words. Raises `ExplainError`."""
-        found = re.fullmatch(r"principal (\d{1,20})(?: as (\w+))? (\w+)(?: ([\d.,]{1,4000}))?(?: at (\d{1,20}))?", " ".join(words.split()))
+        found = re.fullmatch(
+            r"principal (\d{1,20})(?: as (\w+))? (\w+)(?: ([\d.,]{1,4000}))?(?: at (\d{1,20}))?",
+            " ".join(words.split()),
+        )
         if found is None or found[3] not in _ROLES:
-            raise ExplainError(f"{words!r} is not of the form: principal N [as ROLE] OPERATION [ARGUMENT] [at LSN]")
+            raise ExplainError(
+                f"{words!r} is not of the form: principal N [as ROLE] OPERATION [ARGUMENT] [at LSN]"
+            )
         if found[5] and found[3] not in _WITH_LSN:
             raise ExplainError(f"{words!r}: {found[3]} has no LSN")
         role = found[2] or _ROLES[found[3]].word
         if role.upper() not in Role.__members__:
             raise ExplainError(f"{role!r} is not primary, secondary, page_server or operator")
-        return cls(words, int(found[1]), Role[role.upper()], found[3], found[4] or "", int(found[5]) if found[5] else None)
+        return cls(
+            words,
+            int(found[1]),
+            Role[role.upper()],
+            found[3],
+            found[4] or "",
+            int(found[5]) if found[5] else None,
+        )
 
     def act(self, text: bytes) -> Act:
         """What is asked for; a set_table sets this text. Raises `ExplainError`."""
@@ -71,10 +99,17 @@ class Question:
         records = [Zero(at * PAGES_OF_PARTITION) for at in _partitions(self.argument)]
         block = Block.of(first if self.operation in ("write", "offer") else 1, records)
         acts: dict[str, Act] = {
-            "write": Write(0, block), "offer": Offer(block), "report": Report(least), "get": Get(number or 0, least), "pull": Pull(first, 1, lo, hi),
-            "advance": Advance(number or 0, 1), "failover": Failover(self.principal if number is None else number),
-            "set_table": SetTable(text), "audit": Audit(1), **_WITHOUT_ARGUMENTS,
-        }  # fmt: skip
+            "write": Write(0, block),
+            "offer": Offer(block),
+            "report": Report(least),
+            "get": Get(number or 0, least),
+            "pull": Pull(first, 1, lo, hi),
+            "advance": Advance(number or 0, 1),
+            "failover": Failover(self.principal if number is None else number),
+            "set_table": SetTable(text),
+            "audit": Audit(1),
+            **_WITHOUT_ARGUMENTS,
+        }
         return acts[self.operation]
 
 
@@ -123,9 +158,15 @@ class Table:
 
     def token(self, principal: int) -> bytes:
         """The token of a principal; another's where it is not listed, which the program then denies."""
-        found = next((one.get("token") for one in self.principals if one.get("id") == principal), None)
+        found = next(
+            (one.get("token") for one in self.principals if one.get("id") == principal), None
+        )
         try:
-            return bytes.fromhex(found) if isinstance(found, str) and len(found) == 32 else UNKNOWN_TOKEN
+            return (
+                bytes.fromhex(found)
+                if isinstance(found, str) and len(found) == 32
+                else UNKNOWN_TOKEN
+            )
         except ValueError:
             return UNKNOWN_TOKEN
 
@@ -141,7 +182,9 @@ class Table:
             other = (without + 1) % (1 << 32)
             principals.append({"id": other, "token": "00" * 16})
         last = {"verdict": "allow", "who": other, "role": "operator", "op": ["set_table"]}
-        parts = [_toml("principal", one) for one in principals] + [_toml("row", row) for row in (*self.rows[:rows], last)]
+        parts = [_toml("principal", one) for one in principals] + [
+            _toml("row", row) for row in (*self.rows[:rows], last)
+        ]
         return "\n".join([_fields(self.zone), *parts])
 
     def row(self, number: int) -> str:
@@ -175,7 +218,9 @@ def program() -> str:
     """The program to ask: of the environment, of the path, or the one that this checkout built. Raises `ExplainError`."""
     found = os.environ.get(PROGRAM_VARIABLE) or shutil.which("pagelog") or _built()
     if found is None:
-        raise ExplainError(f"there is no program pagelog on the path; name one in {PROGRAM_VARIABLE}")
+        raise ExplainError(
+            f"there is no program pagelog on the path; name one in {PROGRAM_VARIABLE}"
+        )
     return found
 
 
@@ -204,11 +249,18 @@ def explain_each(table: Table, principal: int, questions: Sequence[Question]) ->
         for middle in set(middles.values()):
             group = [at for at, found in middles.items() if found == middle]
             asked = [questions[at] for at in group]
-            for at, reply in zip(group, play(table, table.beginning(middle, principal), principal, asked), strict=True):
+            for at, reply in zip(
+                group,
+                play(table, table.beginning(middle, principal), principal, asked),
+                strict=True,
+            ):
                 low, high = open_ones[at]
                 open_ones[at] = (low, middle) if is_allowed(reply) else (middle, high)
     rows = {at: high for at, (_, high) in open_ones.items()}
-    return [_allowed(table, rows[at], reply) if at in rows else _denied(table, reply) for at, reply in enumerate(replies)]
+    return [
+        _allowed(table, rows[at], reply) if at in rows else _denied(table, reply)
+        for at, reply in enumerate(replies)
+    ]
 
 
 def is_allowed(reply: Reply) -> bool:
@@ -217,7 +269,9 @@ def is_allowed(reply: Reply) -> bool:
 
 
 def _allowed(table: Table, row: int, reply: Reply) -> Decision:
-    return Decision(True, f"row {row}", f"row {row} of the table: {table.row(row)}{_log_words(reply)}")
+    return Decision(
+        True, f"row {row}", f"row {row} of the table: {table.row(row)}{_log_words(reply)}"
+    )
 
 
 def _denied(table: Table, reply: Reply) -> Decision:
@@ -225,7 +279,11 @@ def _denied(table: Table, reply: Reply) -> Decision:
     rule = rule_of(reply.section, reply.row)
     place = f"{reply.section.name}{reply.row}"
     if reply.section is Section.B and reply.row:
-        return Decision(False, place, f"{place} {rule.rule}, row {reply.row} of the table: {table.row(reply.row)}")
+        return Decision(
+            False,
+            place,
+            f"{place} {rule.rule}, row {reply.row} of the table: {table.row(reply.row)}",
+        )
     return Decision(False, place, f"{place} {rule.rule}: {rule.sentence}")
 
 
@@ -233,19 +291,35 @@ def _log_words(reply: Reply) -> str:
     if not isinstance(reply, Denied):
         return ""
     rule = rule_of(reply.section, reply.row)
-    return f" (then the log decides: here C{reply.row} {rule.rule}, as it is empty)" if reply.row == 1 else f" (then C{reply.row} {rule.rule})"
+    return (
+        f" (then the log decides: here C{reply.row} {rule.rule}, as it is empty)"
+        if reply.row == 1
+        else f" (then C{reply.row} {rule.rule})"
+    )
 
 
 def play(table: Table, text: str, principal: int, questions: Sequence[Question]) -> list[Reply]:
     """The program's replies to requests of one principal, one after the other on one database, under this text."""
-    primary = principal if table.lists(principal) else next((one.get("id", 0) for one in table.principals), 0)
+    primary = (
+        principal
+        if table.lists(principal)
+        else next((one.get("id", 0) for one in table.principals), 0)
+    )
     token = table.token(principal)
-    bodies = (Request(Head(principal, token, one.role, 0, 1), one.act(text.encode())).encode() for one in questions)
+    bodies = (
+        Request(Head(principal, token, one.role, 0, 1), one.act(text.encode())).encode()
+        for one in questions
+    )
     with tempfile.NamedTemporaryFile("w", suffix=".toml") as file:
         file.write(text)
         file.flush()
         command = [program(), "play", "--table", file.name, "--primary", str(primary)]
-        done = subprocess.run(command, input="".join(f"{body.hex()}\n" for body in bodies), capture_output=True, text=True)
+        done = subprocess.run(
+            command,
+            input="".join(f"{body.hex()}\n" for body in bodies),
+            capture_output=True,
+            text=True,
+        )
     if done.returncode != 0:
         _, _, fault = done.stderr.strip().rpartition("\n")
         raise ExplainError(f"{table.name}: {_fault_words(fault)}")
@@ -274,10 +348,17 @@ def questions_of(file: Path) -> list[Question]:
         lines = file.read_text().splitlines()
     except OSError as error:
         raise ExplainError(f"{file.name}: {error.strerror}") from error
-    return [Question.parse(line) for line in lines if line.strip() and not line.lstrip().startswith("#")]
+    return [
+        Question.parse(line) for line in lines if line.strip() and not line.lstrip().startswith("#")
+    ]
 
 
 def differences(old: Table, new: Table, questions: list[Question]) -> list[Difference]:
     """Those of the requests that one table allows and the other denies."""
-    found = (Difference(question, explain(old, question), explain(new, question)) for question in questions)
-    return [difference for difference in found if difference.old.is_allowed != difference.new.is_allowed]
+    found = (
+        Difference(question, explain(old, question), explain(new, question))
+        for question in questions
+    )
+    return [
+        difference for difference in found if difference.old.is_allowed != difference.new.is_allowed
+    ]

@@ -15,8 +15,19 @@ from pagelog.table_editing import changed_tokens
 
 
 @click.command("explain")
-@click.option("--diff", "is_diff", is_flag=True, help="Compare two tables: by the requests on the lines of FILE, or by all kinds of requests.")
-@click.argument("arguments", nargs=-1, required=True, type=click.Path(), metavar="TABLE REQUEST... | --diff OLD NEW [FILE]")
+@click.option(
+    "--diff",
+    "is_diff",
+    is_flag=True,
+    help="Compare two tables: by the requests on the lines of FILE, or by all kinds of requests.",
+)
+@click.argument(
+    "arguments",
+    nargs=-1,
+    required=True,
+    type=click.Path(),
+    metavar="TABLE REQUEST... | --diff OLD NEW [FILE]",
+)
 @faults
 def explain_word(is_diff: bool, arguments: tuple[str, ...]) -> None:
     """Say which row of a table decides a request, before the table is set.
@@ -63,7 +74,9 @@ def show_differences(old_file: Path, new_file: Path, requests: Path | None = Non
     found = differences(old, new, questions_of(requests)) if requests else all_differences(old, new)
     count = 0
     for count, difference in enumerate(found, 1):
-        click.echo(f"{difference.question.words}\n  {old.name}: {difference.old}\n  {new.name}: {difference.new}")
+        click.echo(
+            f"{difference.question.words}\n  {old.name}: {difference.old}\n  {new.name}: {difference.new}"
+        )
     return len(changed) + count
 
 

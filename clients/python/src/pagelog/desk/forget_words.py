@@ -48,8 +48,12 @@ def forget_word(accounts: Accounts, keeper: str, yes: bool) -> None:
             return _forget_pages(referee, look, pages, yes)
         if row is None:
             fail(f"there is no keeper {keeper}, and no page server of this run")
-        if held := sorted(each.name for each in look.rows if each.holder == keeper and not each.dropped):
-            fail(f"{keeper} holds {', '.join(held)}: another keeper takes over, or `pagelogctl switchover` hands over")
+        if held := sorted(
+            each.name for each in look.rows if each.holder == keeper and not each.dropped
+        ):
+            fail(
+                f"{keeper} holds {', '.join(held)}: another keeper takes over, or `pagelogctl switchover` hands over"
+            )
         if is_alive(referee, look, [keeper], ttl_of(accounts)):
             fail(f"{keeper} is alive, at {row.lines}: end it first")
         agree(_goes(look, row), yes)
@@ -61,9 +65,16 @@ def forget_word(accounts: Accounts, keeper: str, yes: bool) -> None:
 def _forget_pages(referee: Referee, look: Look, pages: PagesRow, yes: bool) -> None:
     name = next((row.name for row in look.rows if row.id == pages.log), "a database that is gone")
     if not pages.is_gone and not pages.has_ended:
-        fail(f"page server {pages.run} of {name} was heard {pages.silent:.0f} s ago, at {pages.machine}: end it first, and wait")
-    lines = [f"to be deleted: the entry of page server {pages.run} of {name}, last at {pages.address or 'no address'} of {pages.machine}",
-             *(f"its report of {sentence(name, pages.machine, each)}, which is set aside" for each in pages.aside)]  # fmt: skip
+        fail(
+            f"page server {pages.run} of {name} was heard {pages.silent:.0f} s ago, at {pages.machine}: end it first, and wait"
+        )
+    lines = [
+        f"to be deleted: the entry of page server {pages.run} of {name}, last at {pages.address or 'no address'} of {pages.machine}",
+        *(
+            f"its report of {sentence(name, pages.machine, each)}, which is set aside"
+            for each in pages.aside
+        ),
+    ]
     agree("\n".join(lines), yes)
     if not referee._ask(_FORGET_PAGES, (pages.run, pages.beat)):
         fail("it was heard again: nothing was deleted", AGAIN)
@@ -76,6 +87,8 @@ def _goes(look: Look, row: KeeperRow) -> str:
     said = f"to be deleted: the entry of keeper {row.name}, last at {row.lines}, with {counted(standbys, 'standby')}"
     asides = row.report.get(ASIDE, ())
     for each in asides:
-        said += (f"\nits report of run {each['run']} of {each['name']}, which is set aside: `pagelogctl rescue` does not find it then, until a keeper "
-                 f"{row.name} is started in its folder")  # fmt: skip
+        said += (
+            f"\nits report of run {each['run']} of {each['name']}, which is set aside: `pagelogctl rescue` does not find it then, until a keeper "
+            f"{row.name} is started in its folder"
+        )
     return said

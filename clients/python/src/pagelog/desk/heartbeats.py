@@ -19,7 +19,11 @@ def is_alive(referee: Referee, look: Look, keepers: Collection[str], patience: f
     deadline, pause = time.monotonic() + patience, 0.02
     while True:
         now = referee.everything()
-        if any((each.run, each.beat) != before.get(each.name) for each in now.keepers if each.name in keepers):
+        if any(
+            (each.run, each.beat) != before.get(each.name)
+            for each in now.keepers
+            if each.name in keepers
+        ):
             return True
         if time.monotonic() >= deadline:
             return False

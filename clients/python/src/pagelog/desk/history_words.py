@@ -46,7 +46,11 @@ def succeed_word(referee: Referee, name: str) -> None:
 
 @click.command("prune")
 @click.argument("name")
-@click.option("--keep", metavar="N|TIME", help="How many bases are kept, or from how far back, as 7d. [default: [archive] keep of the credentials]")
+@click.option(
+    "--keep",
+    metavar="N|TIME",
+    help="How many bases are kept, or from how far back, as 7d. [default: [archive] keep of the credentials]",
+)
 @yes_option
 @credentials_option
 @faults
@@ -64,8 +68,10 @@ def prune_word(accounts: Accounts, name: str, keep: str | None, yes: bool) -> No
     with referee_of(accounts) as referee:
         row = _row(referee, name)
         if wanted is None:
-            fail(f"nothing was deleted: say how much is kept, by --keep 1, --keep 7d or [archive] keep; {name} has {_archive_of(referee, row)}",
-                 WRONG)  # fmt: skip
+            fail(
+                f"nothing was deleted: say how much is kept, by --keep 1, --keep 7d or [archive] keep; {name} has {_archive_of(referee, row)}",
+                WRONG,
+            )
         refuse_held(referee, row)
         position = Bases(referee, row.id).oldest_to_keep(wanted)
         if position == 0:
@@ -73,7 +79,9 @@ def prune_word(accounts: Accounts, name: str, keep: str | None, yes: bool) -> No
             return
         if goes := _goes(referee, row, position):
             agree(goes, yes)
-        click.echo(f"pruned {Bases(referee, row.id).prune(position)} blocks: positions from {position} on are kept")
+        click.echo(
+            f"pruned {Bases(referee, row.id).prune(position)} blocks: positions from {position} on are kept"
+        )
 
 
 def _archive_of(referee: Referee, row: Row) -> str:
@@ -88,10 +96,14 @@ def _goes(referee: Referee, row: Row, position: int) -> str | None:
         return None
     deleted = f"{counted(gone.blocks, 'block')} and {counted(gone.bases, 'base')} of {row.name}"
     if has.first < position:
-        deleted += (f", with positions {has.first} to {position - 1}, from {in_both_zones(has.first_came)} to {in_both_zones(gone.until)}: none of "
-                    "these can be restored then")  # fmt: skip
-    return (f"to be deleted: {deleted}\n"
-            f"kept: positions {position} to {has.last}, from {in_both_zones(gone.came)} to {in_both_zones(has.last_came)}")  # fmt: skip
+        deleted += (
+            f", with positions {has.first} to {position - 1}, from {in_both_zones(has.first_came)} to {in_both_zones(gone.until)}: none of "
+            "these can be restored then"
+        )
+    return (
+        f"to be deleted: {deleted}\n"
+        f"kept: positions {position} to {has.last}, from {in_both_zones(gone.came)} to {in_both_zones(has.last_came)}"
+    )
 
 
 def restore_named(accounts: Accounts, name: str, at: str, to: str | None) -> None:
@@ -123,5 +135,13 @@ def position_or_time(at: str) -> int | datetime:
 
 def columns_of(referee: Referee) -> dict[int, dict[str, int | None]]:
     """What `kept` shows of the archive of each database."""
-    return {log: {"oldest": span.oldest, "base": span.base, "bases": span.bases, "stored": span.stored, "held": span.is_held}
-            for log, span in spans(referee).items()}  # fmt: skip
+    return {
+        log: {
+            "oldest": span.oldest,
+            "base": span.base,
+            "bases": span.bases,
+            "stored": span.stored,
+            "held": span.is_held,
+        }
+        for log, span in spans(referee).items()
+    }

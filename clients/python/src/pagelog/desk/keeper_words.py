@@ -35,7 +35,9 @@ def url_of_referee(accounts: Accounts) -> str:
     """The URL of the referee's PostgreSQL. Ends where there is none."""
     url = os.environ.get(URL_VARIABLE) or accounts.archive_url
     if not url or not url.startswith("postgresql"):
-        fail("named databases need PostgreSQL: put its url into the section [archive] of the credentials")
+        fail(
+            "named databases need PostgreSQL: put its url into the section [archive] of the credentials"
+        )
     return url
 
 
@@ -62,7 +64,13 @@ def referee_word(word: Callable[..., Any]) -> Callable[..., Any]:
 class Asked(Referee):
     """For a person, who asks for little: a statement that hangs is cut."""
 
-    def _ask(self, statement: str, values: Mapping[str, Any] | Sequence[Any] = (), *, binary: bool = False) -> list[Any]:
+    def _ask(
+        self,
+        statement: str,
+        values: Mapping[str, Any] | Sequence[Any] = (),
+        *,
+        binary: bool = False,
+    ) -> list[Any]:
         done = threading.Event()
 
         def cut() -> None:
@@ -77,9 +85,13 @@ class Asked(Referee):
 
 
 @contextmanager
-def referee_of(accounts: Accounts, kind: type[Referee] = Referee, url: str | None = None) -> Iterator[Referee]:
+def referee_of(
+    accounts: Accounts, kind: type[Referee] = Referee, url: str | None = None
+) -> Iterator[Referee]:
     """The referee, or that of another URL. A fault of it is a line, and the exit status that the archive's database has for the like."""
-    referee = kind(url or url_of_referee(accounts), keys=Keys(accounts.key_file), store=accounts.store)
+    referee = kind(
+        url or url_of_referee(accounts), keys=Keys(accounts.key_file), store=accounts.store
+    )
     try:
         yield referee
     except (Away, Doubt) as error:
@@ -95,16 +107,58 @@ def referee_of(accounts: Accounts, kind: type[Referee] = Referee, url: str | Non
 @click.command("keep")
 @credentials_option
 @click.option("--name", required=True, metavar="K", help="This keeper's name, which no other has.")
-@click.option("--lines", required=True, metavar="HOST:PORT", help="Where clients and other keepers reach it.")
-@click.option("--serve", required=True, metavar="HOST", help="Where its services listen, at ports that the system gives.")
-@click.option("--folder", required=True, metavar="DIR", type=click.Path(path_type=Path), help="For the files of its services.")
-@click.option("--program", default="pagelog", show_default=True, metavar="PAGELOG", envvar="PAGELOG", help="The service.")
-@click.option("--runner", metavar="SOCKET", type=click.Path(path_type=Path), help="Services run as the user of the `pagelogctl runner` there.")
-@click.option("--console", metavar="HOST:PORT", help="Serve the page of `pagelogctl console` too, by this keeper's thresholds.")
-@click.option("--require-standby", is_flag=True, help="Nothing is durable that a synchronous standby of PostgreSQL has not.")
+@click.option(
+    "--lines", required=True, metavar="HOST:PORT", help="Where clients and other keepers reach it."
+)
+@click.option(
+    "--serve",
+    required=True,
+    metavar="HOST",
+    help="Where its services listen, at ports that the system gives.",
+)
+@click.option(
+    "--folder",
+    required=True,
+    metavar="DIR",
+    type=click.Path(path_type=Path),
+    help="For the files of its services.",
+)
+@click.option(
+    "--program",
+    default="pagelog",
+    show_default=True,
+    metavar="PAGELOG",
+    envvar="PAGELOG",
+    help="The service.",
+)
+@click.option(
+    "--runner",
+    metavar="SOCKET",
+    type=click.Path(path_type=Path),
+    help="Services run as the user of the `pagelogctl runner` there.",
+)
+@click.option(
+    "--console",
+    metavar="HOST:PORT",
+    help="Serve the page of `pagelogctl console` too, by this keeper's thresholds.",
+)
+@click.option(
+    "--require-standby",
+    is_flag=True,
+    help="Nothing is durable that a synchronous standby of PostgreSQL has not.",
+)
 @faults
-def keep_word(accounts: Accounts, name: str, lines: str, serve: str, folder: Path, program: str, runner: Path | None, console: str | None,
-              require_standby: bool) -> None:  # fmt: skip
+def keep_word(
+    accounts: Accounts,
+    name: str,
+    lines: str,
+    serve: str,
+    folder: Path,
+    program: str,
+    runner: Path | None,
+    console: str | None,
+    require_standby: bool,
+) -> None:
     """Keep named databases, with PostgreSQL as the referee. Needs [archive] url; [keeper] may have ttl, standby, audit, memory,
     succeed, trail, metrics, console, console_token (the file with the token of a page that others reach), require_standby, and for TLS
     (docs/SECURITY.md) tls, tls_lines, tls_clients, tls_ports and plain.
@@ -122,9 +176,23 @@ def keep_word(accounts: Accounts, name: str, lines: str, serve: str, folder: Pat
     faulthandler.register(signal.SIGUSR1)  # says what each thread is at
     logging.basicConfig(level=logging.INFO, stream=sys.stderr, format="%(asctime)s %(message)s")
     said = {"require_standby": require_standby or None, "console": console}
-    section = {**accounts.keeper, **{key: value for key, value in said.items() if value is not None}}
-    settings = Settings.of(named(name), lines, serve, folder, program, url_of_referee(accounts), section, accounts.archive_keep,
-                           accounts.key_file, accounts.store, runner)  # fmt: skip
+    section = {
+        **accounts.keeper,
+        **{key: value for key, value in said.items() if value is not None},
+    }
+    settings = Settings.of(
+        name=named(name),
+        lines=lines,
+        serve=serve,
+        folder=folder,
+        program=program,
+        url=url_of_referee(accounts),
+        section=section,
+        keep=accounts.archive_keep,
+        key_file=accounts.key_file,
+        store=accounts.store,
+        runner=runner,
+    )
     settings.keys.ids  # what is wrong with the file is said at once
     if settings.program.runner is not None:
         settings.program.runner.check()
@@ -134,13 +202,19 @@ def keep_word(accounts: Accounts, name: str, lines: str, serve: str, folder: Pat
     if settings.console is not None:
         from pagelog.desk.console_words import begin_console
 
-        logging.getLogger("pagelog.keeper").info("console at %s", begin_console(settings, _context_for(keeper, settings.console)))
+        logging.getLogger("pagelog.keeper").info(
+            "console at %s", begin_console(settings, _context_for(keeper, settings.console))
+        )
     sys.exit(asyncio.run(keeper.run()))
 
 
 def _context_for(keeper: Keeper, listen: str) -> ssl.SSLContext | None:
     """Who comes from another machine comes by TLS, where the keeper has a certificate."""
-    return None if keeper.shown is None or is_loopback(listen.rpartition(":")[0]) else keeper.shown.context
+    return (
+        None
+        if keeper.shown is None or is_loopback(listen.rpartition(":")[0])
+        else keeper.shown.context
+    )
 
 
 def _serve_metrics(keeper: Keeper, listen: str) -> None:
@@ -149,7 +223,12 @@ def _serve_metrics(keeper: Keeper, listen: str) -> None:
 
     host, _, port = listen.rpartition(":")
     try:
-        bound = serve(KeeperCollector(keeper.states, keeper.itself), host.strip("[]"), int(port), _context_for(keeper, listen))
+        bound = serve(
+            KeeperCollector(keeper.states, keeper.itself),
+            host.strip("[]"),
+            int(port),
+            _context_for(keeper, listen),
+        )
     except (OSError, ValueError) as error:
         fail(f"[keeper] metrics: {listen}: {error}")
     logging.getLogger("pagelog.keeper").info("metrics at %s:%d", host, bound)
@@ -157,7 +236,13 @@ def _serve_metrics(keeper: Keeper, listen: str) -> None:
 
 @click.command("create")
 @click.argument("name")
-@click.option("--table", required=True, metavar="FILE", type=click.Path(path_type=Path), help="Its table: who may do what.")
+@click.option(
+    "--table",
+    required=True,
+    metavar="FILE",
+    type=click.Path(path_type=Path),
+    help="Its table: who may do what.",
+)
 @referee_word
 def create_word(referee: Referee, name: str, table: Path) -> None:
     """Make a named database with this table. Its keepers start it.
@@ -177,8 +262,11 @@ def create_word(referee: Referee, name: str, table: Path) -> None:
         fail(f"there is a database {name}, or was one")
     click.echo(f"created {name}")
     if not referee.keep_strangers_out():
-        click.echo("every role may connect to the referee's database, and wake keepers: REVOKE CONNECT ON DATABASE .. FROM PUBLIC, "
-                   "and grant it to those of the keepers and of the console", err=True)  # fmt: skip
+        click.echo(
+            "every role may connect to the referee's database, and wake keepers: REVOKE CONNECT ON DATABASE .. FROM PUBLIC, "
+            "and grant it to those of the keepers and of the console",
+            err=True,
+        )
 
 
 def text_of_table(table: Path, name: str) -> str:
@@ -232,14 +320,40 @@ def facts_of(look: Look, row: Row) -> dict[str, Any]:
     standbys = {standby.keeper: standby.reached for standby in look.standbys_of(row.id)}
     hard = report.get("hard")
     return {
-        "name": row.name, "generation": row.generation, "holder": row.holder, "place": row.address,
-        "archived": row.archived, "lag": None if hard is None else max(0, hard - row.archived), "images": row.images, "standbys": standbys,
-        "entries_left": report.get("entries_left"), "memory": report.get("memory"), "memory_left": report.get("memory_left"),
-        "state": report.get("state"), "why": look.decisions_of(row), "wanted": row.wanted, "succeed": row.succeed, "read_only": row.read_only, "paused": row.paused,
-        "synchronous_standbys": look.synchronous.count, "identity": row.identity, "secure": row.told(True),
-        "page_servers": [{"run": each.run, "machine": each.machine, "address": each.address, "position": each.position, "oldest": each.oldest,
-                          "silent": round(each.silent, 1), "gone": each.is_gone, "set_aside": list(each.aside)} for each in look.pages_of(row.id)],
-    }  # fmt: skip
+        "name": row.name,
+        "generation": row.generation,
+        "holder": row.holder,
+        "place": row.address,
+        "archived": row.archived,
+        "lag": None if hard is None else max(0, hard - row.archived),
+        "images": row.images,
+        "standbys": standbys,
+        "entries_left": report.get("entries_left"),
+        "memory": report.get("memory"),
+        "memory_left": report.get("memory_left"),
+        "state": report.get("state"),
+        "why": look.decisions_of(row),
+        "wanted": row.wanted,
+        "succeed": row.succeed,
+        "read_only": row.read_only,
+        "paused": row.paused,
+        "synchronous_standbys": look.synchronous.count,
+        "identity": row.identity,
+        "secure": row.told(True),
+        "page_servers": [
+            {
+                "run": each.run,
+                "machine": each.machine,
+                "address": each.address,
+                "position": each.position,
+                "oldest": each.oldest,
+                "silent": round(each.silent, 1),
+                "gone": each.is_gone,
+                "set_aside": list(each.aside),
+            }
+            for each in look.pages_of(row.id)
+        ],
+    }
 
 
 @click.command("where")

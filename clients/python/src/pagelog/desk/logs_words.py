@@ -9,9 +9,19 @@ from dataclasses import asdict
 import click
 
 from pagelog.archive import Archive
-from pagelog.archive_care import logs_of, mend
+from pagelog.archive.care import logs_of, mend
 from pagelog.credentials import Accounts
-from pagelog.desk.options import FAULT, bar, client, credentials_option, db_option, faults, json_option, url_of, url_options
+from pagelog.desk.options import (
+    FAULT,
+    bar,
+    client,
+    credentials_option,
+    db_option,
+    faults,
+    json_option,
+    url_of,
+    url_options,
+)
 from pagelog.reader import Reader
 
 
@@ -30,8 +40,12 @@ def logs_word(accounts: Accounts, url: str | None, log: str | None, as_json: boo
     for one in logs_of(url_of(url, accounts)):
         if log is None or one.name == log:
             fields = asdict(one)
-            click.echo(json.dumps(fields) if as_json else f"log {one.name}: archived {one.archived}, epoch {one.epoch}, {one.blocks} "
-                       f"blocks, {one.bytes} bytes")  # fmt: skip
+            click.echo(
+                json.dumps(fields)
+                if as_json
+                else f"log {one.name}: archived {one.archived}, epoch {one.epoch}, {one.blocks} "
+                f"blocks, {one.bytes} bytes"
+            )
 
 
 @click.command("mend")
@@ -50,14 +64,22 @@ def mend_word(accounts: Accounts, db: int, url: str | None, log: str | None, as_
     Example:
       pagelogctl mend --credentials c.toml --db 0 --url sqlite:///db0.db
     """
-    with Archive(url_of(url, accounts), log or str(db)) as archive, client(Reader, accounts, db) as reader, bar("read") as told:
+    with Archive(url_of(url, accounts), log or str(db)) as archive, client(
+        Reader, accounts, db
+    ) as reader, bar("read") as told:
         done = mend(archive, reader, told=told)
     if as_json:
         click.echo(json.dumps({"mended": done.mended, "left": done.left}))
     else:
-        click.echo(f"mended {len(done.mended)} blocks{_lsns(done.mended)}; {len(done.left)} are left damaged{_lsns(done.left)}")
+        click.echo(
+            f"mended {len(done.mended)} blocks{_lsns(done.mended)}; {len(done.left)} are left damaged{_lsns(done.left)}"
+        )
     sys.exit(FAULT if done.left else 0)
 
 
 def _lsns(lsns: list[int]) -> str:
-    return ": LSN " + ", ".join(map(str, lsns[:20])) + (" .." if len(lsns) > 20 else "") if lsns else ""
+    return (
+        ": LSN " + ", ".join(map(str, lsns[:20])) + (" .." if len(lsns) > 20 else "")
+        if lsns
+        else ""
+    )

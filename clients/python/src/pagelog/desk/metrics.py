@@ -79,7 +79,12 @@ class DatabaseCollector(Collector):
     One that does not answer by then has `pagelog_up` or `pagelog_archive_up` 0, and nothing else.
     """
 
-    def __init__(self, watches: Mapping[int, Callable[[], Watch]], archived: Mapping[int, Callable[[], int]], within: float = 4.0) -> None:
+    def __init__(
+        self,
+        watches: Mapping[int, Callable[[], Watch]],
+        archived: Mapping[int, Callable[[], int]],
+        within: float = 4.0,
+    ) -> None:
         self.within = within
         self._databases = {db: WatchedDatabase(make) for db, make in watches.items()}
         self._looks = {db: Task(database.look) for db, database in self._databases.items()}
@@ -93,19 +98,30 @@ class DatabaseCollector(Collector):
     def collect(self) -> Iterable[Metric]:
         """The metrics of all databases."""
         with self._turn:
-            tasks: list[tuple[tuple[str, int], Task[Any]]] = [(("look", db), task) for db, task in self._looks.items()]
+            tasks: list[tuple[tuple[str, int], Task[Any]]] = [
+                (("look", db), task) for db, task in self._looks.items()
+            ]
             tasks += [(("archived", db), task) for db, task in self._archived.items()]
             found = look_at_all(tasks, self.within)
             return list(self._families(found))
 
     def _families(self, found: Mapping[tuple[str, int], object]) -> Iterable[Metric]:
-        gauges = {name: GaugeMetricFamily(f"pagelog_{name}", text, labels=["db"]) for name, text in _GAUGES.items()}
-        counters = {name: CounterMetricFamily(f"pagelog_{name}", text, labels=["db"]) for name, text in _COUNTERS.items()}
-        applied = GaugeMetricFamily("pagelog_applied_lsn", "The applied LSN of a partition.", labels=["db", "partition"])
+        gauges = {
+            name: GaugeMetricFamily(f"pagelog_{name}", text, labels=["db"])
+            for name, text in _GAUGES.items()
+        }
+        counters = {
+            name: CounterMetricFamily(f"pagelog_{name}", text, labels=["db"])
+            for name, text in _COUNTERS.items()
+        }
+        applied = GaugeMetricFamily(
+            "pagelog_applied_lsn", "The applied LSN of a partition.", labels=["db", "partition"]
+        )
         requests = CounterMetricFamily(
-            "pagelog_requests", "Requests by role, operation and verdict: allowed, or the rule that denied.",
+            "pagelog_requests",
+            "Requests by role, operation and verdict: allowed, or the rule that denied.",
             labels=["db", "role", "operation", "verdict"],
-        )  # fmt: skip
+        )
         for db, database in self._databases.items():
             look, archived = found["look", db], found.get(("archived", db))
             gauges["up"].add_metric([str(db)], isinstance(look, Look))
@@ -124,15 +140,26 @@ class DatabaseCollector(Collector):
 
 
 def _add_look(
-    db: str, look: Look, archived: object, gauges: Mapping[str, GaugeMetricFamily], counters: Mapping[str, CounterMetricFamily]
+    db: str,
+    look: Look,
+    archived: object,
+    gauges: Mapping[str, GaugeMetricFamily],
+    counters: Mapping[str, CounterMetricFamily],
 ) -> None:
-    for name, value in (("epoch", look.state.epoch), ("primary", look.state.primary), ("hardened_blocks", look.state.hard),
-                        ("audit_entries", look.entries), ("audit_limit", look.limit)):  # fmt: skip
+    for name, value in (
+        ("epoch", look.state.epoch),
+        ("primary", look.state.primary),
+        ("hardened_blocks", look.state.hard),
+        ("audit_entries", look.entries),
+        ("audit_limit", look.limit),
+    ):
         gauges[name].add_metric([db], value)
     if look.full_in is not None:
         gauges["audit_full_in_seconds"].add_metric([db], look.full_in)
     if isinstance(archived, int):
-        gauges["backlog_entries"].add_metric([db], -(-max(0, look.state.hard - archived) // _PULL_BLOCKS))
+        gauges["backlog_entries"].add_metric(
+            [db], -(-max(0, look.state.hard - archived) // _PULL_BLOCKS)
+        )
     counters["audit_uncounted"].add_metric([db], look.uncounted)
     counters["fenced_requests"].add_metric([db], look.fenced)
 
@@ -199,7 +226,8 @@ class _Within(io.RawIOBase):
 
 class _Handler(WSGIRequestHandler):
     """One that says nothing on standard error, and ends a connection whose request does not come to its end. At an address of this
-    machine alone it answers who names this machine: a page of another site could else read all, by a name of its own that leads here."""
+    machine alone it answers who names this machine: a page of another site could else read all, by a name of its own that leads here.
+    """
 
     def setup(self) -> None:
         super().setup()
@@ -214,8 +242,16 @@ class _Handler(WSGIRequestHandler):
             return False
         listens = str(self.connection.getsockname()[0])
         named = _host_of(self.headers.get("Host", ""))
-        if ipaddress.ip_address(listens).is_loopback and named not in ("localhost", "127.0.0.1", "[::1]", listens):
-            self.send_error(HTTPStatus.MISDIRECTED_REQUEST, "these metrics are for this machine alone: ask for them as localhost")
+        if ipaddress.ip_address(listens).is_loopback and named not in (
+            "localhost",
+            "127.0.0.1",
+            "[::1]",
+            listens,
+        ):
+            self.send_error(
+                HTTPStatus.MISDIRECTED_REQUEST,
+                "these metrics are for this machine alone: ask for them as localhost",
+            )
             return False
         return True
 
@@ -234,7 +270,9 @@ def serve(collector: Collector, host: str, port: int, context: ssl.SSLContext | 
     registry = CollectorRegistry()
     registry.register(collector)
     family, address = socket.getaddrinfo(host, port, type=socket.SOCK_STREAM)[0][::4]
-    kind: type[_Server] = type("_ServerOfFamily", (_Server,), {"address_family": family, "context": context})
+    kind: type[_Server] = type(
+        "_ServerOfFamily", (_Server,), {"address_family": family, "context": context}
+    )
     made: WSGIServer = make_server(address[0], port, make_wsgi_app(registry), kind, _Handler)
     threading.Thread(target=made.serve_forever, daemon=True).start()
     return int(made.server_port)

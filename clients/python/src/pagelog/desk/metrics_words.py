@@ -11,7 +11,16 @@ import click
 
 from pagelog.credentials import Accounts
 from pagelog.desk.looking_words import dbs_option, limit_option, watch_of
-from pagelog.desk.options import context_of_file, credentials_option, fail, faults, stopping, tls_option, url_of, url_options
+from pagelog.desk.options import (
+    context_of_file,
+    credentials_option,
+    fail,
+    faults,
+    stopping,
+    tls_option,
+    url_of,
+    url_options,
+)
 from pagelog.desk.watch import Watch
 
 
@@ -20,17 +29,35 @@ from pagelog.desk.watch import Watch
 @dbs_option
 @url_options
 @limit_option
-@click.option("--listen", default="127.0.0.1:9464", show_default=True, metavar="ADDRESS", help="Where Prometheus asks, as HOST:PORT or "
-              "[IPV6]:PORT; port 0 takes a free one.")  # fmt: skip
+@click.option(
+    "--listen",
+    default="127.0.0.1:9464",
+    show_default=True,
+    metavar="ADDRESS",
+    help="Where Prometheus asks, as HOST:PORT or " "[IPV6]:PORT; port 0 takes a free one.",
+)
 @tls_option
-@click.option("--within", default=4.0, show_default=True, type=click.FloatRange(0.1), metavar="SECONDS",
-              help="How long a scrape may take. It has to be below Prometheus' scrape_timeout.")  # fmt: skip
+@click.option(
+    "--within",
+    default=4.0,
+    show_default=True,
+    type=click.FloatRange(0.1),
+    metavar="SECONDS",
+    help="How long a scrape may take. It has to be below Prometheus' scrape_timeout.",
+)
 @click.option("--from-start", is_flag=True, help="Count the audit list from its beginning.")
 @faults
 def metrics_word(
-    accounts: Accounts, dbs: tuple[int, ...], url: str | None, log: str | None, limit: int | None, listen: str, within: float,
-    from_start: bool, tls: Path | None,
-) -> None:  # fmt: skip
+    accounts: Accounts,
+    dbs: tuple[int, ...],
+    url: str | None,
+    log: str | None,
+    limit: int | None,
+    listen: str,
+    within: float,
+    from_start: bool,
+    tls: Path | None,
+) -> None:
     """Serve metrics for Prometheus, until SIGTERM or SIGINT. Needs [operator], and holds a connection for each database.
 
     Prints `listening ADDRESS`. With [secondary] applied LSNs are among them, by a second connection, with --url the
@@ -42,7 +69,7 @@ def metrics_word(
     Example:
       pagelogctl metrics --credentials c.toml --db 0 --listen 127.0.0.1:9464
     """
-    from pagelog.archive_url import parsed_url
+    from pagelog.archive.url import parsed_url
     from pagelog.desk.metrics import DatabaseCollector, serve
     from pagelog.desk.top_words import archived_of
 
@@ -57,7 +84,9 @@ def metrics_word(
         def watch(db: int) -> Watch:
             return watch_of(accounts, db, limit, stack, within / 2, from_start=from_start)
 
-        archived = {db: partial(archived_of, archive, log or str(db)) for db in dbs} if archive else {}
+        archived = (
+            {db: partial(archived_of, archive, log or str(db)) for db in dbs} if archive else {}
+        )
         collector = DatabaseCollector({db: partial(watch, db) for db in dbs}, archived, within)
         try:
             bound = serve(collector, host.strip("[]"), int(port), context_of_file(tls))

@@ -21,7 +21,14 @@ from pagelog.client import Client
 from pagelog.connection import Connection
 from pagelog.credentials import FILE_VARIABLE, Accounts, load
 from pagelog.desk.durations import duration
-from pagelog.errors import AuditListFull, ConnectionLost, InDoubt, OutOfMemory, PagelogError, Unreachable
+from pagelog.errors import (
+    AuditListFull,
+    ConnectionLost,
+    InDoubt,
+    OutOfMemory,
+    PagelogError,
+    Unreachable,
+)
 from pagelog.rules import BelowQuorum, NoSuchCopy
 from pagelog.secure import WORDS
 
@@ -47,14 +54,20 @@ def status_of(error: PagelogError) -> int:
     """The exit status of a fault."""
     if isinstance(error, AuditListFull):
         return LIST_FULL
-    return AGAIN if error.may_pass or isinstance(error, (Unreachable, ConnectionLost, InDoubt, OutOfMemory)) else FAULT
+    return (
+        AGAIN
+        if error.may_pass or isinstance(error, (Unreachable, ConnectionLost, InDoubt, OutOfMemory))
+        else FAULT
+    )
 
 
 def hint_of(error: PagelogError) -> str:
     """Which option a denial speaks of."""
     if isinstance(error, BelowQuorum):
         return "; where the table says copies = 6, say --quorum 4"
-    return "; where the table says copies = 3, say --quorum 2" if isinstance(error, NoSuchCopy) else ""
+    return (
+        "; where the table says copies = 3, say --quorum 2" if isinstance(error, NoSuchCopy) else ""
+    )
 
 
 def is_of_the_archive(error: Exception) -> bool:
@@ -80,8 +93,13 @@ def json_option(word: Word) -> Word:
 
 def tls_option(word: Word) -> Word:
     """--tls FILE."""
-    return click.option("--tls", metavar="FILE", type=click.Path(path_type=Path), help="Speak TLS, with the certificate and the key of this "
-                        "file; another one in its place is taken without a restart.")(word)  # fmt: skip
+    return click.option(
+        "--tls",
+        metavar="FILE",
+        type=click.Path(path_type=Path),
+        help="Speak TLS, with the certificate and the key of this "
+        "file; another one in its place is taken without a restart.",
+    )(word)
 
 
 def context_of_file(file: Path | None) -> ssl.SSLContext | None:
@@ -103,39 +121,59 @@ def credentials_option(word: Word) -> Word:
             fail(str(error))
 
     return click.option(
-        "--credentials", "accounts", metavar="FILE", type=click.Path(), envvar=FILE_VARIABLE, callback=read,
+        "--credentials",
+        "accounts",
+        metavar="FILE",
+        type=click.Path(),
+        envvar=FILE_VARIABLE,
+        callback=read,
         help=f"The TOML file with a section for each role: to, id, token. Mode 600. [env: {FILE_VARIABLE}]",
-    )(word)  # fmt: skip
+    )(word)
 
 
 def db_option(word: Word) -> Word:
     """--db N."""
-    return click.option("--db", default=0, show_default=True, metavar="N", type=click.IntRange(0, (1 << 32) - 1),
-                        help="The number of the database.")(word)  # fmt: skip
+    return click.option(
+        "--db",
+        default=0,
+        show_default=True,
+        metavar="N",
+        type=click.IntRange(0, (1 << 32) - 1),
+        help="The number of the database.",
+    )(word)
 
 
 def url_options(word: Word) -> Word:
     """--url URL and --log NAME."""
-    word = click.option("--log", metavar="NAME", help="The log's name in the archive. [default: the number of the database]")(word)
+    word = click.option(
+        "--log",
+        metavar="NAME",
+        help="The log's name in the archive. [default: the number of the database]",
+    )(word)
     return click.option(
-        "--url", metavar="URL", envvar=URL_VARIABLE, callback=_url,
+        "--url",
+        metavar="URL",
+        envvar=URL_VARIABLE,
+        callback=_url,
         help=f"Where the archive is, as sqlite:///FILE or postgresql://HOST/NAME. A password comes from the environment, the "
         f"credentials file ([archive] url) or PostgreSQL's own files. [env: {URL_VARIABLE}]",
-    )(word)  # fmt: skip
+    )(word)
 
 
 def _url(context: click.Context, parameter: click.Parameter, value: str | None) -> str | None:
     if value and context.get_parameter_source(parameter.name or "") is ParameterSource.COMMANDLINE:
         _, _, rest = value.partition("://")
         if ":" in (rest or value).rpartition("@")[0] or "password=" in value:
-            raise click.UsageError(f"a password is not for the command line, where others see it: put the URL into {URL_VARIABLE}")
+            raise click.UsageError(
+                f"a password is not for the command line, where others see it: put the URL into {URL_VARIABLE}"
+            )
     return value
 
 
 def url_of(url: str | None, accounts: Accounts) -> str:
     """The archive's URL: the option's, the file's, or the default. Ends where it is of a database in memory."""
     from pagelog.archive import DEFAULT_URL
-    from pagelog.archive_url import is_in_memory
+    from pagelog.archive.url import is_in_memory
 
     found = url or accounts.archive_url or DEFAULT_URL
     _urls.append(found)
@@ -146,8 +184,12 @@ def url_of(url: str | None, accounts: Accounts) -> str:
 
 def quorum_option(word: Word) -> Word:
     """--quorum 2 or 4."""
-    return click.option("--quorum", type=click.Choice(["2", "4"]), help="How many copies have to hold a block before the database that is "
-                        "filled hardens it, as its table says. [default: quorum of [service] in its credentials, or 2]")(word)  # fmt: skip
+    return click.option(
+        "--quorum",
+        type=click.Choice(["2", "4"]),
+        help="How many copies have to hold a block before the database that is "
+        "filled hardens it, as its table says. [default: quorum of [service] in its credentials, or 2]",
+    )(word)
 
 
 def quorum_of(quorum: str | None, accounts: Accounts) -> int:
@@ -180,7 +222,9 @@ def one_service(accounts: Accounts, one: type[Client], other: type[Client], what
     """Ends where the sections of these two have different addresses: what is asked of one would not be done at the other."""
     first, second = accounts.account(one.role).to, accounts.account(other.role).to
     if first != second:
-        fail(f"[{one.role.word}] is at {first} and [{other.role.word}] at {second}: {what}, which has one address")
+        fail(
+            f"[{one.role.word}] is at {first} and [{other.role.word}] at {second}: {what}, which has one address"
+        )
 
 
 def faults(word: Word) -> Word:
@@ -214,7 +258,7 @@ def faults(word: Word) -> Word:
 
 def first_line_of(error: Exception) -> str:
     """What a database says, without the password that the archive's URL may have."""
-    from pagelog.archive_url import without_password
+    from pagelog.archive.url import without_password
 
     lines = str(error).splitlines() or [type(error).__name__]
     return without_password(lines[0], _urls[-1] if _urls else None)
@@ -227,9 +271,20 @@ def bar(what: str) -> Iterator[Callable[[int, int], None]]:
         yield _Lines(what).tell
         return
     from rich.console import Console
-    from rich.progress import BarColumn, MofNCompleteColumn, Progress, TextColumn, TimeRemainingColumn
+    from rich.progress import (
+        BarColumn,
+        MofNCompleteColumn,
+        Progress,
+        TextColumn,
+        TimeRemainingColumn,
+    )
 
-    columns = (TextColumn("{task.description}"), BarColumn(), MofNCompleteColumn(), TimeRemainingColumn())
+    columns = (
+        TextColumn("{task.description}"),
+        BarColumn(),
+        MofNCompleteColumn(),
+        TimeRemainingColumn(),
+    )
     with Progress(*columns, console=Console(stderr=True), transient=True) as progress:
         task, last = progress.add_task(what, total=None), 0
 
@@ -259,7 +314,11 @@ class _Lines:
         self.last = done
         if now - self.told >= _LINE_SECONDS:
             self.told = now
-            left = f", {duration((total - done) * (now - self.began) / done)} left" if 0 < done < total else ""
+            left = (
+                f", {duration((total - done) * (now - self.began) / done)} left"
+                if 0 < done < total
+                else ""
+            )
             click.echo(f"pagelogctl: {self.what} {done} of {total}{left}", err=True)
 
 

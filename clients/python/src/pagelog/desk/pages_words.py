@@ -36,19 +36,76 @@ _ACCOUNT = '[secondary]\nto = "{address}"\nid = 3\ntoken = "{token}"\n'
 
 @click.command("pages")
 @click.argument("names", nargs=-1)
-@click.option("--folder", required=True, type=click.Path(path_type=Path), help="Where the stores are; they are made again where they are lost.")
-@click.option("--listen", "host", default="127.0.0.1", show_default=True, metavar="HOST", help="Where page servers listen, each at a port of its own.")
-@click.option("--program", default="pagelog-pages", show_default=True, type=click.Path(path_type=Path), help="The program of clients/pages.")
-@click.option("--machine", default=None, help="How `kept` calls this machine. [default: its host name]")
-@click.option("--cache", default=256, show_default=True, metavar="MIB", type=click.IntRange(1), help="Memory of each database for what is read.")
-@click.option("--direct", is_flag=True, help="Reads pass by the system's cache: for stores that are larger than memory.")
-@click.option("--list", "lists", is_flag=True, help="Print which stores there are, and what those have that were set aside, and end.")
-@click.option("--open", "run", metavar="RUN", help="Serve one that is not in use, read-only, to who has the file of --keys.")
-@click.option("--keys", metavar="FILE", type=click.Path(path_type=Path), help="With --open: where a new credentials file for it goes.")
+@click.option(
+    "--folder",
+    required=True,
+    type=click.Path(path_type=Path),
+    help="Where the stores are; they are made again where they are lost.",
+)
+@click.option(
+    "--listen",
+    "host",
+    default="127.0.0.1",
+    show_default=True,
+    metavar="HOST",
+    help="Where page servers listen, each at a port of its own.",
+)
+@click.option(
+    "--program",
+    default="pagelog-pages",
+    show_default=True,
+    type=click.Path(path_type=Path),
+    help="The program of clients/pages.",
+)
+@click.option(
+    "--machine", default=None, help="How `kept` calls this machine. [default: its host name]"
+)
+@click.option(
+    "--cache",
+    default=256,
+    show_default=True,
+    metavar="MIB",
+    type=click.IntRange(1),
+    help="Memory of each database for what is read.",
+)
+@click.option(
+    "--direct",
+    is_flag=True,
+    help="Reads pass by the system's cache: for stores that are larger than memory.",
+)
+@click.option(
+    "--list",
+    "lists",
+    is_flag=True,
+    help="Print which stores there are, and what those have that were set aside, and end.",
+)
+@click.option(
+    "--open",
+    "run",
+    metavar="RUN",
+    help="Serve one that is not in use, read-only, to who has the file of --keys.",
+)
+@click.option(
+    "--keys",
+    metavar="FILE",
+    type=click.Path(path_type=Path),
+    help="With --open: where a new credentials file for it goes.",
+)
 @credentials_option
 @faults
-def pages_word(accounts: Accounts, names: tuple[str, ...], folder: Path, host: str, program: Path, machine: str | None, cache: int,
-               direct: bool, lists: bool, run: str | None, keys: Path | None) -> None:  # fmt: skip
+def pages_word(
+    accounts: Accounts,
+    names: tuple[str, ...],
+    folder: Path,
+    host: str,
+    program: Path,
+    machine: str | None,
+    cache: int,
+    direct: bool,
+    lists: bool,
+    run: str | None,
+    keys: Path | None,
+) -> None:
     """Keep copies of named databases on this machine's disk, and answer readers: of these NAMES, or of all there are, until SIGTERM or SIGINT.
 
     A copy has each position that PostgreSQL keeps, up to what is archived. It promises nothing: a store that is lost is made again. Where
@@ -70,21 +127,39 @@ def pages_word(accounts: Accounts, names: tuple[str, ...], folder: Path, host: s
     machine, folder = machine or socket.gethostname(), folder.resolve()
     if lists:
         for aside in asides_in(folder):
-            click.echo(f"set aside: {sentence(aside.name, machine, aside.report(folder))}; {aside.why}")
+            click.echo(
+                f"set aside: {sentence(aside.name, machine, aside.report(folder))}; {aside.why}"
+            )
         for store in not_aside_in(folder):
-            click.echo(f"in use, or of a database that is gone: store {store.run} of {store.name} at {machine}, {store.folder(folder)}")
+            click.echo(
+                f"in use, or of a database that is gone: store {store.run} of {store.name} at {machine}, {store.folder(folder)}"
+            )
         return
     if (found := which(program)) is None:
-        fail(f"there is no program {program}: it is built in clients/pages, and in the package pagelog-pages")
+        fail(
+            f"there is no program {program}: it is built in clients/pages, and in the package pagelog-pages"
+        )
     options = ("--cache", str(cache), *(("--direct",) if direct else ()))
-    settings = Settings(Path(found).resolve(), folder, host, machine, options, _serving(accounts.keeper, host), accounts.trust)
+    settings = Settings(
+        Path(found).resolve(),
+        folder,
+        host,
+        machine,
+        options,
+        _serving(accounts.keeper, host),
+        accounts.trust,
+    )
     if run is not None and keys is not None:
         return _open(settings, run, keys)
     logging.basicConfig(stream=sys.stderr, format="%(message)s", level=logging.INFO)
     log = logging.getLogger("pagelog.pages")
     url, sealing = url_of_referee(accounts), Keys(accounts.key_file)
-    servers = PageServers(settings, lambda me: Referee(url, me, keys=sealing, store=accounts.store), [named(name) for name in names],
-                          lambda name, said: log.info("%s: %s", name, said))  # fmt: skip
+    servers = PageServers(
+        settings,
+        lambda me: Referee(url, me, keys=sealing, store=accounts.store),
+        [named(name) for name in names],
+        lambda name, said: log.info("%s: %s", name, said),
+    )
     for number in (signal.SIGTERM, signal.SIGINT):
         signal.signal(number, lambda *_: servers.end())
     try:
@@ -97,18 +172,28 @@ def _serving(section: Mapping[str, Any], host: str) -> Serving | None:
     """What [keeper] says of TLS. Ends where that cannot be."""
     from pagelog.keeper.certificate import Authorities, Pair
 
-    file, clients, plain = section.get("tls"), section.get("tls_clients"), section.get("plain", True)
+    file, clients, plain = (
+        section.get("tls"),
+        section.get("tls_clients"),
+        section.get("plain", True),
+    )
     if file is None:
         if clients is not None or plain is not True:
             fail("[keeper] has tls_clients or plain without tls, the file with certificate and key")
         return None
-    if not isinstance(file, str) or not isinstance(clients, str | None) or not isinstance(plain, bool):
+    if (
+        not isinstance(file, str)
+        or not isinstance(clients, str | None)
+        or not isinstance(plain, bool)
+    ):
         fail("[keeper]: tls and tls_clients are paths, and plain is true or false")
     if not Pair.read(Path(file)).is_for(host):
         fail(f"[keeper] tls: {file} is not for {host}, which nobody would believe")
     if clients is not None:
         Authorities.read(Path(clients))
-    return Serving(Path(file).absolute(), None if clients is None else Path(clients).absolute(), not plain)
+    return Serving(
+        Path(file).absolute(), None if clients is None else Path(clients).absolute(), not plain
+    )
 
 
 def _open(settings: Settings, run: str, keys: Path) -> None:
@@ -126,7 +211,9 @@ def _open(settings: Settings, run: str, keys: Path) -> None:
     try:
         process.set_table(_TABLE.format(token=token))
         write_private(keys, _ACCOUNT.format(address=process.address, token=token))
-        click.echo(f"positions {process.where.oldest} to {process.where.confirmed} at {process.address}")
+        click.echo(
+            f"positions {process.where.oldest} to {process.where.confirmed} at {process.address}"
+        )
         ends.wait()
     finally:
         process.end()

@@ -12,15 +12,30 @@ from pagelog.block import HIGHEST_LSN
 from pagelog.comparing import Verified, verify
 from pagelog.credentials import Accounts
 from pagelog.desk.options import (
-    bar, client, credentials_option, db_option, faults, json_option, one_service, quorum_of, quorum_option, url_of, url_options,
-)  # fmt: skip
+    bar,
+    client,
+    credentials_option,
+    db_option,
+    faults,
+    json_option,
+    one_service,
+    quorum_of,
+    quorum_option,
+    url_of,
+    url_options,
+)
 from pagelog.operator import Operator
 from pagelog.primary import Primary
 from pagelog.reader import Reader
 from pagelog.restoring import restore, set_real_table
 from pagelog.tables import TableText
 
-last_option = click.option("--last", metavar="LSN", type=click.IntRange(0, HIGHEST_LSN), help="Only the blocks up to this one. [default: all]")
+last_option = click.option(
+    "--last",
+    metavar="LSN",
+    type=click.IntRange(0, HIGHEST_LSN),
+    help="Only the blocks up to this one. [default: all]",
+)
 
 
 @click.command("restore")
@@ -29,17 +44,40 @@ last_option = click.option("--last", metavar="LSN", type=click.IntRange(0, HIGHE
 @url_options
 @quorum_option
 @last_option
-@click.option("--table", metavar="FILE", type=click.Path(), help="The real table, set at the end: the service was started with the one "
-              "that `waiting-table` makes, and lets nobody else in before.")  # fmt: skip
+@click.option(
+    "--table",
+    metavar="FILE",
+    type=click.Path(),
+    help="The real table, set at the end: the service was started with the one "
+    "that `waiting-table` makes, and lets nobody else in before.",
+)
 @click.argument("name", required=False)
-@click.option("--at", metavar="POSITION|TIME", help="Of a NAME: the position, or the last one that was archived by then.")
-@click.option("--as", "to", metavar="NAME", help="Of a NAME: the name of what is begun. [default: NAME-POSITION]")
+@click.option(
+    "--at",
+    metavar="POSITION|TIME",
+    help="Of a NAME: the position, or the last one that was archived by then.",
+)
+@click.option(
+    "--as",
+    "to",
+    metavar="NAME",
+    help="Of a NAME: the name of what is begun. [default: NAME-POSITION]",
+)
 @json_option
 @faults
 def restore_word(
-    accounts: Accounts, db: int, url: str | None, log: str | None, quorum: str | None, last: int | None, table: str | None, as_json: bool,
-    name: str | None, at: str | None, to: str | None,
-) -> None:  # fmt: skip
+    accounts: Accounts,
+    db: int,
+    url: str | None,
+    log: str | None,
+    quorum: str | None,
+    last: int | None,
+    table: str | None,
+    as_json: bool,
+    name: str | None,
+    at: str | None,
+    to: str | None,
+) -> None:
     """Fill a fresh database from an archive, LSN for LSN. Needs [primary], [secondary] and [operator], all at one address.
 
     With a NAME: begin a database for readers under its keepers, with what the named database was at a position or a time.
@@ -64,13 +102,27 @@ def restore_word(
     one_service(accounts, Primary, Reader, "both are of the database that is filled")
     one_service(accounts, Primary, Operator, "both are of the database that is filled")
     real = TableText.read(table) if table else None
-    with Archive(url_of(url, accounts), log or str(db)) as archive, client(Reader, accounts, db) as reader:
+    with Archive(url_of(url, accounts), log or str(db)) as archive, client(
+        Reader, accounts, db
+    ) as reader:
         writes = client(Primary, accounts, db, alone=True, quorum=quorum_of(quorum, accounts))
         with writes as primary, client(Operator, accounts, db) as operator, bar("restored") as told:
-            done = restore(archive, primary, reader, operator=operator, last=HIGHEST_LSN if last is None else last, told=told)
+            done = restore(
+                archive,
+                primary,
+                reader,
+                operator=operator,
+                last=HIGHEST_LSN if last is None else last,
+                told=told,
+            )
             if real is not None:
                 set_real_table(operator, real.text)
-    _tell(done, as_json, f"restored {done.archived}", {"table_set": real is not None, "epoch": operator.epoch})
+    _tell(
+        done,
+        as_json,
+        f"restored {done.archived}",
+        {"table_set": real is not None, "epoch": operator.epoch},
+    )
 
 
 @click.command("verify")
@@ -79,15 +131,41 @@ def restore_word(
 @url_options
 @last_option
 @click.argument("name", required=False)
-@click.option("--store", "in_store", is_flag=True, help="Of a NAME: read all its objects in the store.")
-@click.option("--pages", "of_pages", is_flag=True, help="Of a NAME: compare its page servers, or one with the service; --last is a position.")
-@click.option("--offline", is_flag=True, help="Read the archive alone, and ask no service: every block has to be there and sound.")
+@click.option(
+    "--store", "in_store", is_flag=True, help="Of a NAME: read all its objects in the store."
+)
+@click.option(
+    "--days",
+    type=click.IntRange(1, 1000),
+    metavar="N",
+    help="With --store: read as many as come on this day, so that on N days all are read.",
+)
+@click.option(
+    "--pages",
+    "of_pages",
+    is_flag=True,
+    help="Of a NAME: compare its page servers, or one with the service; --last is a position.",
+)
+@click.option(
+    "--offline",
+    is_flag=True,
+    help="Read the archive alone, and ask no service: every block has to be there and sound.",
+)
 @json_option
 @faults
 def verify_word(
-    accounts: Accounts, db: int, url: str | None, log: str | None, last: int | None, name: str | None, in_store: bool, of_pages: bool, offline: bool,
+    accounts: Accounts,
+    db: int,
+    url: str | None,
+    log: str | None,
+    last: int | None,
+    name: str | None,
+    in_store: bool,
+    days: int | None,
+    of_pages: bool,
+    offline: bool,
     as_json: bool,
-) -> None:  # fmt: skip
+) -> None:
     """Compare an archive with a database: all archived blocks, and a sample of pages. Needs [secondary].
 
     With a NAME and --store: read the objects of a named database in the store, and compare each with what PostgreSQL says of it.
@@ -99,11 +177,13 @@ def verify_word(
     \b
     Examples:
       pagelogctl verify --credentials c.toml --db 0 --url sqlite:///db0.db
-      pagelogctl verify shop --store --credentials keeper.toml
+      pagelogctl verify shop --store --days 30 --credentials keeper.toml
       pagelogctl verify shop --pages --credentials keeper.toml
     """
     if in_store + of_pages != (name is not None):
         raise click.UsageError("a NAME has --store or --pages, and these a NAME")
+    if days is not None and not in_store:
+        raise click.UsageError("--days is of --store")
     if name is not None and of_pages:
         from pagelog.desk.comparing_words import verify_pages
 
@@ -111,7 +191,7 @@ def verify_word(
     if name is not None:
         from pagelog.desk.store_words import verify_stored
 
-        return verify_stored(accounts, name, as_json)
+        return verify_stored(accounts, name, days or 1, as_json)
     upto = HIGHEST_LSN if last is None else last
     with Archive(url_of(url, accounts), log or str(db)) as archive:
         with bar("read") as told:

@@ -12,9 +12,21 @@ from pagelog.desk.options import fail, faults
 
 
 @click.command("runner")
-@click.option("--for", "users", required=True, multiple=True, metavar="USER", help="Who may ask it: the user of a keeper.")
-@click.option("--socket", "path", metavar="SOCKET", type=click.Path(path_type=Path, readable=False),
-              help="Where it is asked, unless systemd has made that; its own user need not be allowed to ask.")
+@click.option(
+    "--for",
+    "users",
+    required=True,
+    multiple=True,
+    metavar="USER",
+    help="Who may ask it: the user of a keeper.",
+)
+@click.option(
+    "--socket",
+    "path",
+    metavar="SOCKET",
+    type=click.Path(path_type=Path, readable=False),
+    help="Where it is asked, unless systemd has made that; its own user need not be allowed to ask.",
+)
 @faults
 def runner_word(users: tuple[str, ...], path: Path | None) -> None:
     """Start services as the user of this process, and end them, for keepers of other users on this machine (`keep --runner SOCKET`). So

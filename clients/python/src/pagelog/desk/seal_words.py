@@ -23,17 +23,25 @@ def refuse_keepers_without(referee: Referee, ttl: float = TTL) -> None:
     while key is not None:
         look = referee.everything()
         beats.see(look)
-        without = [each.name for each in look.keepers if key not in each.report.get(KEYS, {}).get("ids", ()) and beats.may_be_alive(each.name)]
+        without = [
+            each.name
+            for each in look.keepers
+            if key not in each.report.get(KEYS, {}).get("ids", ()) and beats.may_be_alive(each.name)
+        ]
         if not without:
             return
         if living := [name for name in without if beats.has_moved(name)]:
-            fail(f"nothing was done: keeper {living[0]} has not key {key}, by which tables are sealed: its [archive] key_file is to have it, "
-                 "and it is to be of this version")  # fmt: skip
+            fail(
+                f"nothing was done: keeper {living[0]} has not key {key}, by which tables are sealed: its [archive] key_file is to have it, "
+                "and it is to be of this version"
+            )
         time.sleep(waits.next())
 
 
 @click.command("seal")
-@click.option("--plain", is_flag=True, help="Write them as they are, as for keepers of an older version.")
+@click.option(
+    "--plain", is_flag=True, help="Write them as they are, as for keepers of an older version."
+)
 @credentials_option
 @faults
 def seal_word(accounts: Accounts, plain: bool) -> None:
@@ -56,6 +64,10 @@ def seal_word(accounts: Accounts, plain: bool) -> None:
         rows = [row for row in referee.everything().rows if not row.dropped]
         changed = [row.name for row in rows if referee.seal(row)]
         for name in changed:
-            click.echo(f"{name} is {'plain' if plain else f'sealed by key {referee.keys.writes_by}'}")
-        if left := [row.name for row in rows if referee.table(row.id).key != referee.keys.writes_by]:
+            click.echo(
+                f"{name} is {'plain' if plain else f'sealed by key {referee.keys.writes_by}'}"
+            )
+        if left := [
+            row.name for row in rows if referee.table(row.id).key != referee.keys.writes_by
+        ]:
             fail(f"{left[0]} was changed meanwhile: say it again", AGAIN)

@@ -51,7 +51,9 @@ class Task(Generic[Found]):
         return self._found  # type: ignore[return-value]
 
 
-def look_at_all(tasks: Iterable[tuple[Key, Task[Found]]], seconds: float) -> dict[Key, Found | Exception]:
+def look_at_all(
+    tasks: Iterable[tuple[Key, Task[Found]]], seconds: float
+) -> dict[Key, Found | Exception]:
     """What each found within so many seconds, or why it did not."""
     listed = list(tasks)
     for _, task in listed:

@@ -3,7 +3,9 @@
 from __future__ import annotations
 
 import json
+import time
 from dataclasses import asdict, replace
+from functools import partial
 from pathlib import Path
 from typing import TYPE_CHECKING
 
@@ -89,7 +91,9 @@ def copy_word(accounts: Accounts, name: str, to: str) -> None:
         if row is None:
             fail(f"there is no database {name}")
         done = copy(referee, row.id, settings_of(accounts), settings_of(accounts, to), told)
-    click.echo(f"copied {counted(done.copied, 'object')}, {done.bytes} bytes; {done.there} were there")
+    click.echo(
+        f"copied {counted(done.copied, 'object')}, {done.bytes} bytes; {done.there} were there"
+    )
 
 
 @store_word.command("prune")
@@ -110,41 +114,58 @@ def prune_word(accounts: Accounts, yes: bool) -> None:
 
     settings = settings_of(accounts)
     with referee_of(accounts) as referee:
-        goes = [f"{counted(count, _KINDS.get(kind, 'object'))} of {folder}, named by nothing since {in_both_zones(since)}"
-                for folder, kind, count, since in referee._ask(tables.GOES, {"grace": settings.grace})]  # fmt: skip
+        goes = [
+            f"{counted(count, _KINDS.get(kind, 'object'))} of {folder}, named by nothing since {in_both_zones(since)}"
+            for folder, kind, count, since in referee._ask(tables.GOES, {"grace": settings.grace})
+        ]
         if goes:
             agree("to be deleted: " + "\n               ".join(goes), yes)
-        click.echo(f"deleted {counted(sweep(referee, store_of(settings), settings.grace), 'object')}")
+        click.echo(
+            f"deleted {counted(sweep(referee, store_of(settings), settings.grace), 'object')}"
+        )
 
 
-def verify_stored(accounts: Accounts, name: str, as_json: bool) -> None:
-    """Reads all objects of a database."""
-    from pagelog.store.copying import verify
+def verify_stored(accounts: Accounts, name: str, days: int, as_json: bool) -> None:
+    """Reads all objects of a database, or today's, of so many days."""
+    from pagelog.store.copying import part_of_day, verify
 
+    is_read = partial(part_of_day, days=days, day=int(time.time() // 86_400))
     with referee_of(accounts) as referee, bar("verified") as told:
         row = referee.everything().row(named(name))
         if row is None:
             fail(f"there is no database {name}")
-        done = verify(referee, row.id, settings_of(accounts), told)
-    click.echo(json.dumps(asdict(done)) if as_json else f"sound: {counted(done.objects, 'object')}, {counted(done.blocks, 'block')}, "
-               f"{counted(done.images, 'image')}")  # fmt: skip
+        done = verify(referee, row.id, settings_of(accounts), told, is_read)
+    click.echo(
+        json.dumps(asdict(done))
+        if as_json
+        else f"sound: {counted(done.objects, 'object')}, {counted(done.blocks, 'block')}, "
+        f"{counted(done.images, 'image')}"
+    )
 
 
-def rescue_stored(accounts: Accounts, name: str, url: str, into: str | None, table: Path, folder: str | None) -> None:
+def rescue_stored(
+    accounts: Accounts, name: str, url: str, into: str | None, table: Path, folder: str | None
+) -> None:
     """Writes a database into a PostgreSQL that has none of the name."""
     from pagelog.store.place import store_of
     from pagelog.store.rescuing import rescue
 
     text = text_of_table(table, name)
     with referee_of(accounts, Asked, into) as referee:
-        _say_rescued(name, rescue(store_of(settings_of(accounts, url)), referee, name, text, folder))
+        _say_rescued(
+            name, rescue(store_of(settings_of(accounts, url)), referee, name, text, folder)
+        )
 
 
 def _say_rescued(name: str, done: Rescued) -> None:
     history = done.history
     for parted, other in done.others:
-        click.echo(f"another history parts after position {parted}, and ends at {other.last} in generation {other.generation}: it is left out, and stays "
-                   "in the store")  # fmt: skip
+        click.echo(
+            f"another history parts after position {parted}, and ends at {other.last} in generation {other.generation}: it is left out, and stays "
+            "in the store"
+        )
     objects = f"{counted(len(history.parts), 'object')} and {counted(done.bases, 'base')}"
-    click.echo(f"{name}: positions {history.start or 1} to {history.last} in {objects}, up to {in_both_zones(done.until)}; its generations go "
-               f"on above {done.generation}\nlost: what was archived after that; its tokens are those of the table")  # fmt: skip
+    click.echo(
+        f"{name}: positions {history.start or 1} to {history.last} in {objects}, up to {in_both_zones(done.until)}; its generations go "
+        f"on above {done.generation}\nlost: what was archived after that; its tokens are those of the table"
+    )

@@ -18,8 +18,16 @@ ANY = "*"
 
 @click.command("switchover")
 @click.argument("name")
-@click.option("--to", "keeper", default=ANY, metavar="K", help="The keeper that is to have it. [default: any other]")
-@click.option("--cancel", is_flag=True, help="Take back a switchover that was asked for and has not begun.")
+@click.option(
+    "--to",
+    "keeper",
+    default=ANY,
+    metavar="K",
+    help="The keeper that is to have it. [default: any other]",
+)
+@click.option(
+    "--cancel", is_flag=True, help="Take back a switchover that was asked for and has not begun."
+)
 @credentials_option
 @faults
 def switchover_word(accounts: Accounts, name: str, keeper: str, cancel: bool) -> None:
@@ -33,7 +41,9 @@ def switchover_word(accounts: Accounts, name: str, keeper: str, cancel: bool) ->
       pagelogctl switchover shop --cancel --credentials keeper.toml
     """
     if cancel and keeper != ANY:
-        raise click.UsageError("--cancel takes back what was asked for, whoever was to have it: it has no --to")
+        raise click.UsageError(
+            "--cancel takes back what was asked for, whoever was to have it: it has no --to"
+        )
     with referee_of(accounts, Asked) as referee:
         look = referee.everything()
         row = look.row(named(name))
@@ -58,7 +68,9 @@ def _ask(referee: Referee, look: Look, row: Row, keeper: str, ttl: float) -> str
         fail(f"there is no keeper {keeper}")
     if keeper == row.holder:
         return f"{keeper} holds {row.name} already: nothing was asked for"
-    others = {each.name for each in look.keepers if each.name != row.holder and keeper in (ANY, each.name)}
+    others = {
+        each.name for each in look.keepers if each.name != row.holder and keeper in (ANY, each.name)
+    }
     stays = f"{row.name} stays with {row.holder or 'no keeper'}"
     if not others:
         fail(f"{stays}: there is no other keeper")

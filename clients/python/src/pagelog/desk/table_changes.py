@@ -63,7 +63,10 @@ class Heartbeats:
         for each in look.pages:
             if each.run not in self._pages or self._pages[each.run][0] != each.beat:
                 # of one that has been silent for long it is known without a wait
-                self._pages[each.run] = each.beat, float("-inf") if each.is_gone and each.run not in self._pages else now
+                self._pages[each.run] = (
+                    each.beat,
+                    float("-inf") if each.is_gone and each.run not in self._pages else now,
+                )
 
     def has_moved(self, keeper: str) -> bool:
         """Whether it was seen to move."""
@@ -132,31 +135,48 @@ class Change:
         refuse_keepers_without(self._referee, self._ttl)
         number = self._referee.set_table(self._row, text, newest.number)
         if number is None:
-            fail(f"nothing was changed: {self._row.name} was dropped, or another has changed its table just now", AGAIN)
+            fail(
+                f"nothing was changed: {self._row.name} was dropped, or another has changed its table just now",
+                AGAIN,
+            )
         click.echo(f"table {number} of {self._row.name} is set", err=True)
         return number
 
     def _refuse_older_keepers(self) -> None:
         look, waits = self._look(), Backoff(0.02, 0.5)
-        while older := [each.name for each in look.keepers if NUMBERS not in each.report and self._beats.may_be_alive(each.name)]:
+        while older := [
+            each.name
+            for each in look.keepers
+            if NUMBERS not in each.report and self._beats.may_be_alive(each.name)
+        ]:
             if living := [name for name in older if self._beats.has_moved(name)]:
-                fail(f"nothing was changed: keeper {living[0]} is of a version that knows no numbers of tables; upgrade it first")
+                fail(
+                    f"nothing was changed: keeper {living[0]} is of a version that knows no numbers of tables; upgrade it first"
+                )
             self._wait(waits)
             look = self._look()
 
     def carry_out(self) -> list[Older]:
         """Returns once no keeper that is alive has a run with an older table, no such run holds the database, and no page server that is
-        alive has one. The runs that keepers have which are not alive, such page servers, and what is set aside, are returned."""
+        alive has one. The runs that keepers have which are not alive, such page servers, and what is set aside, are returned.
+        """
         waits, has_ended = Backoff(0.05, 1.0), False
         while True:
             try:
                 look = self._look()
-                row = next((each for each in look.rows if each.id == self._row.id and not each.dropped), None)
+                row = next(
+                    (each for each in look.rows if each.id == self._row.id and not each.dropped),
+                    None,
+                )
                 if row is None:
                     fail(f"{self._row.name} was dropped")
                 is_late = time.monotonic() >= self._ends
                 older = self._older(look, row)
-                if row.run is not None and row.run in self._held and (is_late or not self._beats.may_be_alive(row.holder)):
+                if (
+                    row.run is not None
+                    and row.run in self._held
+                    and (is_late or not self._beats.may_be_alive(row.holder))
+                ):
                     self._end(row)
                     continue
             except (Away, Doubt) as error:
@@ -170,17 +190,29 @@ class Change:
             if is_done and self._referee.newest_table(row.id) == (row.table_number, row.run):
                 return older  # by a statement that writes: an old leader of PostgreSQL has not heard of a change
             if is_late and not has_ended:
-                has_ended, self._ends = True, time.monotonic() + 2 * self._ttl  # for what was ended just now
+                has_ended, self._ends = (
+                    True,
+                    time.monotonic() + 2 * self._ttl,
+                )  # for what was ended just now
             self._wait(waits)
 
     def _is_awaited(self, each: Older) -> bool:
-        return self._beats.may_answer(each.run) if each.is_pages else self._beats.may_be_alive(each.keeper)
+        return (
+            self._beats.may_answer(each.run)
+            if each.is_pages
+            else self._beats.may_be_alive(each.keeper)
+        )
 
     def _end(self, row: Row) -> None:
         """Ends the run that holds the database, as it is archived: from now on nothing of it becomes durable."""
         if (position := self._referee.end_run(row)) is not None:
-            paused = "; it is paused: nobody takes it until `pagelogctl resume`" if row.paused else ""
-            click.echo(f"generation {row.generation} of keeper {row.holder}, which has an older table, was ended at position {position}{paused}", err=True)
+            paused = (
+                "; it is paused: nobody takes it until `pagelogctl resume`" if row.paused else ""
+            )
+            click.echo(
+                f"generation {row.generation} of keeper {row.holder}, which has an older table, was ended at position {position}{paused}",
+                err=True,
+            )
 
     def _look(self) -> Look:
         self._referee._ask(f"SELECT pg_notify('{CHANNEL}', '')")  # all keepers look now
@@ -195,18 +227,32 @@ class Change:
         """The runs with an older table, as PostgreSQL and the keepers' last reports have it."""
         if row.run is not None and row.run_table < row.table_number:
             self._held[row.run] = Older(row.holder or "", row.run, f"generation {row.generation}")
-        found = {run: each for run, each in self._held.items() if run == row.run or not self._was_reported_since(look, each)}
+        found = {
+            run: each
+            for run, each in self._held.items()
+            if run == row.run or not self._was_reported_since(look, each)
+        }
         for standby in look.standbys_of(row.id):
             if standby.table_number < row.table_number:
                 found[standby.run] = Older(standby.keeper, standby.run, "a standby")
         for keeper in look.keepers:
             said: dict[str, Any] = keeper.report.get(row.name, {})
-            runs = [said["run"]] if said.get("run") is not None and said.get("table", 1) < row.table_number else []
+            runs = (
+                [said["run"]]
+                if said.get("run") is not None and said.get("table", 1) < row.table_number
+                else []
+            )
             for run in (*runs, *said.get("leaving", ())):
                 found.setdefault(run, Older(keeper.name, run, "a service"))
         for aside in asides_of(look):
-            if aside["name"] == row.name and aside.get("kept", True) and not self._has_newest(row, aside["run"]):
-                found[aside["run"]] = Older(aside["keeper"], aside["run"], "a service that is set aside", is_aside=True)
+            if (
+                aside["name"] == row.name
+                and aside.get("kept", True)
+                and not self._has_newest(row, aside["run"])
+            ):
+                found[aside["run"]] = Older(
+                    aside["keeper"], aside["run"], "a service that is set aside", is_aside=True
+                )
         for pages in look.pages_of(row.id):
             if pages.table_number < row.table_number and not pages.has_ended:
                 found[pages.run] = Older(pages.machine, pages.run, "a page server", is_pages=True)
@@ -222,7 +268,9 @@ class Change:
         return keeper.beat > beat + (0 if keeper.run == life else _UNREPORTED)
 
     def _has_newest(self, row: Row, run: str) -> bool:
-        known = self._referee._ask("SELECT table_number FROM pagelog_generation WHERE log = %s AND run = %s", (row.id, run))
+        known = self._referee._ask(
+            "SELECT table_number FROM pagelog_generation WHERE log = %s AND run = %s", (row.id, run)
+        )
         return bool(known) and known[0][0] >= row.table_number
 
 
@@ -231,14 +279,25 @@ def say(name: str, number: int, older: list[Older]) -> None:
     if not older:
         return click.echo(f"table {number} of {name} is in force")
     services = sum(not each.is_pages for each in older)
-    count = " and ".join(f"{count} of its {what}" for count, what in ((services, "services"), (len(older) - services, "page servers")) if count)
+    count = " and ".join(
+        f"{count} of its {what}"
+        for count, what in ((services, "services"), (len(older) - services, "page servers"))
+        if count
+    )
     click.echo(f"table {number} of {name} is in force, but at {count}:")
     for each in older:
         if each.is_pages:
-            click.echo(f"page server {each.run} at {each.keeper} does not answer: it takes the table once it is there again; gone for good: "
-                       f"`pagelogctl forget {each.run}`")  # fmt: skip
+            click.echo(
+                f"page server {each.run} at {each.keeper} does not answer: it takes the table once it is there again; gone for good: "
+                f"`pagelogctl forget {each.run}`"
+            )
             continue
-        how = (f"`pagelogctl rescue {name}` saves and ends it" if each.is_aside
-               else "its keeper does not answer, or cannot end it: it, or the next one of its name in its folder, ends it")  # fmt: skip
-        click.echo(f"run {each.run} of keeper {each.keeper}, {each.what}: nothing of it becomes durable; {how}")
+        how = (
+            f"`pagelogctl rescue {name}` saves and ends it"
+            if each.is_aside
+            else "its keeper does not answer, or cannot end it: it, or the next one of its name in its folder, ends it"
+        )
+        click.echo(
+            f"run {each.run} of keeper {each.keeper}, {each.what}: nothing of it becomes durable; {how}"
+        )
     fail("old tokens may be good there still", AGAIN)

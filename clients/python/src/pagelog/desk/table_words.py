@@ -16,23 +16,52 @@ from pagelog.errors import PagelogError
 from pagelog.operator import Operator
 from pagelog.table_editing import with_tokens_of, without_tokens
 
-within_option = click.option("--within", default=WITHIN, show_default=True, type=click.FloatRange(0), metavar="SECONDS",
-                             help="How long the keepers may take. Then the run is ended in PostgreSQL: others take the database.")  # fmt: skip
+within_option = click.option(
+    "--within",
+    default=WITHIN,
+    show_default=True,
+    type=click.FloatRange(0),
+    metavar="SECONDS",
+    help="How long the keepers may take. Then the run is ended in PostgreSQL: others take the database.",
+)
 
 
 @click.command("table")
 @click.argument("name", required=False)
-@click.option("--table", "file", metavar="FILE", type=click.Path(path_type=Path), help="Put this table in force.")
-@click.option("--show", "shows", is_flag=True, help="Print the newest table. In place of each token it says `same`.")
+@click.option(
+    "--table",
+    "file",
+    metavar="FILE",
+    type=click.Path(path_type=Path),
+    help="Put this table in force.",
+)
+@click.option(
+    "--show",
+    "shows",
+    is_flag=True,
+    help="Print the newest table. In place of each token it says `same`.",
+)
 @click.option("--tokens", is_flag=True, help="With --show: print the tokens too.")
-@click.option("--diff", metavar="FILE", type=click.Path(path_type=Path), help="Compare with this table, as `explain --diff` does.")
+@click.option(
+    "--diff",
+    metavar="FILE",
+    type=click.Path(path_type=Path),
+    help="Compare with this table, as `explain --diff` does.",
+)
 @within_option
 @db_option
 @credentials_option
 @faults
 def table_word(
-    accounts: Accounts, name: str | None, file: Path | None, shows: bool, tokens: bool, diff: Path | None, within: float, db: int
-) -> None:  # fmt: skip
+    accounts: Accounts,
+    name: str | None,
+    file: Path | None,
+    shows: bool,
+    tokens: bool,
+    diff: Path | None,
+    within: float,
+    db: int,
+) -> None:
     """Put another table of a named database in force, show the one that it has, or compare. A principal whose token is `same` keeps
     the one that it has.
 
@@ -65,7 +94,9 @@ def table_word(
             return _compare(referee.table(row.id).text, name, diff)
         text = None if file is None else read_file(file)
         change = Change(referee, row, ttl_of(accounts), within)
-        number = change.set(lambda present: present if text is None else with_tokens_of(text, present))
+        number = change.set(
+            lambda present: present if text is None else with_tokens_of(text, present)
+        )
         say(name, number, change.carry_out())
 
 

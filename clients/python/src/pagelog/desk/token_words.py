@@ -16,7 +16,14 @@ from pagelog.desk.options import credentials_option, db_option, fail, faults
 from pagelog.desk.table_changes import Change, check_of_service, row_of, say, ttl_of
 from pagelog.desk.table_words import read_file, set_at_service, within_option
 from pagelog.desk.waiting_words import write_private
-from pagelog.table_editing import document_of, principal_of, unused_id, with_beside, with_token, without_principal
+from pagelog.table_editing import (
+    document_of,
+    principal_of,
+    unused_id,
+    with_beside,
+    with_token,
+    without_principal,
+)
 
 _TOKEN = re.compile(r"[0-9A-Fa-f]{32}")
 _FORMS = "token NAME ID, or by the address of a service token ID --table FILE"
@@ -24,21 +31,55 @@ _FORMS = "token NAME ID, or by the address of a service token ID --table FILE"
 
 @click.command("token")
 @click.argument("words", nargs=-1, required=True, metavar="[NAME] ID")
-@click.option("--new", "is_new", is_flag=True, help="Make a token. It is printed before it is set, so that it is known whatever happens.")
-@click.option("--to", "source", metavar="FILE", type=click.Path(path_type=Path), help="Take the token of this file; - is standard input. "
-              "A token is not for the command line, where others see it.")  # fmt: skip
-@click.option("--beside", is_flag=True, help="Leave the principal as it is, and list another with the token, which may do the same: both hold.")
+@click.option(
+    "--new",
+    "is_new",
+    is_flag=True,
+    help="Make a token. It is printed before it is set, so that it is known whatever happens.",
+)
+@click.option(
+    "--to",
+    "source",
+    metavar="FILE",
+    type=click.Path(path_type=Path),
+    help="Take the token of this file; - is standard input. "
+    "A token is not for the command line, where others see it.",
+)
+@click.option(
+    "--beside",
+    is_flag=True,
+    help="Leave the principal as it is, and list another with the token, which may do the same: both hold.",
+)
 @click.option("--revoke", is_flag=True, help="Take the principal and its rows out of the table.")
-@click.option("--out", metavar="FILE", type=click.Path(path_type=Path), help="Write id and token to this file, of mode 600. [default: standard output]")
-@click.option("--table", "file", metavar="FILE", type=click.Path(path_type=Path), help="Without a NAME: the table of the service, which is edited and set.")
+@click.option(
+    "--out",
+    metavar="FILE",
+    type=click.Path(path_type=Path),
+    help="Write id and token to this file, of mode 600. [default: standard output]",
+)
+@click.option(
+    "--table",
+    "file",
+    metavar="FILE",
+    type=click.Path(path_type=Path),
+    help="Without a NAME: the table of the service, which is edited and set.",
+)
 @within_option
 @db_option
 @credentials_option
 @faults
 def token_word(
-    accounts: Accounts, words: tuple[str, ...], is_new: bool, source: Path | None, beside: bool, revoke: bool, out: Path | None,
-    file: Path | None, within: float, db: int,
-) -> None:  # fmt: skip
+    accounts: Accounts,
+    words: tuple[str, ...],
+    is_new: bool,
+    source: Path | None,
+    beside: bool,
+    revoke: bool,
+    out: Path | None,
+    file: Path | None,
+    within: float,
+    db: int,
+) -> None:
     """Give a principal another token, list one beside it that may do the same, or take it out of the table. Who has the old token is
     denied from then on, as `table` says, with its exit status.
 
@@ -88,7 +129,9 @@ def _asked(words: tuple[str, ...]) -> tuple[str | None, int]:
 
 def _read(source: Path) -> str:
     if _TOKEN.fullmatch(str(source)):
-        raise click.UsageError("a token is not for the command line, where others see it: name a file, or - for standard input")
+        raise click.UsageError(
+            "a token is not for the command line, where others see it: name a file, or - for standard input"
+        )
     found = (sys.stdin.read() if str(source) == "-" else read_file(source)).strip()
     if not _TOKEN.fullmatch(found):
         fail(f"{source}: a token has 32 hexadecimal digits")

@@ -67,20 +67,40 @@ class NamedWatch:
             _, life, beat = self._beats.get(keeper.name, (now, "", -1))
             if (life, beat) != (keeper.run, keeper.beat):
                 self._beats[keeper.name] = (now, keeper.run, keeper.beat)
-        return Named(tuple(self._line(found, row, now) for row in found.rows if not row.dropped), found.synchronous.meaning)
+        return Named(
+            tuple(self._line(found, row, now) for row in found.rows if not row.dropped),
+            found.synchronous.meaning,
+        )
 
     def _line(self, found: Look, row: Row, now: float) -> NamedLine:
         facts = facts_of(found, row)
-        before, self._before[row.name] = self._before.get(row.name), (now, row.id, facts["archived"])
-        commits = None if before is None or before[1] != row.id else (facts["archived"] - before[2]) / max(now - before[0], 1e-9)
+        before, self._before[row.name] = self._before.get(row.name), (
+            now,
+            row.id,
+            facts["archived"],
+        )
+        commits = (
+            None
+            if before is None or before[1] != row.id
+            else (facts["archived"] - before[2]) / max(now - before[0], 1e-9)
+        )
         since = self._beats.get(row.holder or "")
         return NamedLine(facts, commits, None if since is None else now - since[0])
 
 
 _COLUMNS = {
-    "name": 0, "generation": 0, "holder": 0, "archived": 0, "commits": 0, "lag": 0, "standbys": 110, "entries left": 80, "memory": 90,
-    "memory left": 120, "state": 100,
-}  # fmt: skip
+    "name": 0,
+    "generation": 0,
+    "holder": 0,
+    "archived": 0,
+    "commits": 0,
+    "lag": 0,
+    "standbys": 110,
+    "entries left": 80,
+    "memory": 90,
+    "memory left": 120,
+    "state": 100,
+}
 """The columns, and how wide the terminal has to be for each of them to be shown."""
 
 
@@ -92,7 +112,11 @@ def table_of(named: Named, width: int) -> RenderableType:
     shown = [number for number, least in enumerate(_COLUMNS.values()) if width >= least]
     for number in shown:
         title = list(_COLUMNS)[number]
-        table.add_column(title, justify="left" if title in ("name", "holder", "standbys", "state") else "right", no_wrap=True)
+        table.add_column(
+            title,
+            justify="left" if title in ("name", "holder", "standbys", "state") else "right",
+            no_wrap=True,
+        )
     for line in named.lines:
         cells = _cells(line)
         table.add_row(*(cells[number] for number in shown))
@@ -102,13 +126,30 @@ def table_of(named: Named, width: int) -> RenderableType:
 
 def _cells(line: NamedLine) -> Sequence[str]:
     facts = line.facts
-    standbys = ", ".join(f"{keeper} -{max(0, facts['archived'] - reached):,}" for keeper, reached in sorted(facts["standbys"].items()))
-    state = "paused" if facts["paused"] else f"to {facts['wanted']}" if facts["wanted"] else facts["state"]
+    standbys = ", ".join(
+        f"{keeper} -{max(0, facts['archived'] - reached):,}"
+        for keeper, reached in sorted(facts["standbys"].items())
+    )
+    state = (
+        "paused"
+        if facts["paused"]
+        else f"to {facts['wanted']}"
+        if facts["wanted"]
+        else facts["state"]
+    )
     return [
-        facts["name"], str(facts["generation"]), _shown(facts["holder"]), f"{facts['archived']:,}", rate(line.commits_rate),
-        _shown(facts["lag"]), standbys or "-", _shown(facts["entries_left"]), _shown(facts["memory"], " MiB"),
-        _shown(facts["memory_left"], " MiB"), _shown(state),
-    ]  # fmt: skip
+        facts["name"],
+        str(facts["generation"]),
+        _shown(facts["holder"]),
+        f"{facts['archived']:,}",
+        rate(line.commits_rate),
+        _shown(facts["lag"]),
+        standbys or "-",
+        _shown(facts["entries_left"]),
+        _shown(facts["memory"], " MiB"),
+        _shown(facts["memory_left"], " MiB"),
+        _shown(state),
+    ]
 
 
 def _shown(value: object, unit: str = "") -> str:
@@ -119,5 +160,12 @@ def fields_of(named: Named) -> list[dict[str, Any]]:
     """A JSON object for each database; one with the error where they are not known."""
     if named.error:
         return [{"name": None, "time": round(time.time(), 3), "error": named.error}]
-    return [{"time": round(time.time(), 3), **line.facts, "commits_a_second": line.commits_rate, "silent_seconds": line.silent}
-            for line in named.lines]  # fmt: skip
+    return [
+        {
+            "time": round(time.time(), 3),
+            **line.facts,
+            "commits_a_second": line.commits_rate,
+            "silent_seconds": line.silent,
+        }
+        for line in named.lines
+    ]

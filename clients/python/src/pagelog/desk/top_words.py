@@ -13,7 +13,15 @@ import click
 from pagelog.credentials import Accounts
 from pagelog.desk.keeper_words import url_of_referee
 from pagelog.desk.looking_words import dbs_option, limit_option, watch_of
-from pagelog.desk.options import credentials_option, faults, json_option, stopping, timeout, url_of, url_options
+from pagelog.desk.options import (
+    credentials_option,
+    faults,
+    json_option,
+    stopping,
+    timeout,
+    url_of,
+    url_options,
+)
 from pagelog.desk.side_by_side import Task, look_at_all
 from pagelog.desk.watch import Look, Watch
 from pagelog.request import Role
@@ -30,16 +38,39 @@ if TYPE_CHECKING:
 @dbs_option
 @url_options
 @limit_option
-@click.option("--named", is_flag=True, help="Show the named databases of [archive] url; plain ones too where there is an [operator].")
-@click.option("--interval", default=2.0, show_default=True, type=click.FloatRange(0), metavar="SECONDS", help="How often to look.")
-@click.option("--from-start", is_flag=True, help="Read the audit list from its beginning, for all denials there were.")
+@click.option(
+    "--named",
+    is_flag=True,
+    help="Show the named databases of [archive] url; plain ones too where there is an [operator].",
+)
+@click.option(
+    "--interval",
+    default=2.0,
+    show_default=True,
+    type=click.FloatRange(0),
+    metavar="SECONDS",
+    help="How often to look.",
+)
+@click.option(
+    "--from-start",
+    is_flag=True,
+    help="Read the audit list from its beginning, for all denials there were.",
+)
 @click.option("--count", default=0, metavar="N", help="End after N looks. [default: never]")
 @json_option
 @faults
 def top_word(
-    accounts: Accounts, dbs: tuple[int, ...], url: str | None, log: str | None, limit: int | None, named: bool, interval: float,
-    from_start: bool, count: int, as_json: bool,
-) -> None:  # fmt: skip
+    accounts: Accounts,
+    dbs: tuple[int, ...],
+    url: str | None,
+    log: str | None,
+    limit: int | None,
+    named: bool,
+    interval: float,
+    from_start: bool,
+    count: int,
+    as_json: bool,
+) -> None:
     """Watch databases live: epoch, primary, hardened end, rates, denials, the archive's lag and the audit list.
 
     Needs [operator]; with [secondary] applied LSNs are shown, and with --url the lag of the archive. A look costs two or
@@ -60,7 +91,11 @@ def top_word(
         plain = named_looks = None
         if not named or Role.OPERATOR in accounts.of_role:
             archive = url_of(url, accounts) if url or (accounts.archive_url and not named) else None
-            archived = {db: Task(partial(archived_of, archive, log or str(db))) for db in dbs} if archive else {}
+            archived = (
+                {db: Task(partial(archived_of, archive, log or str(db))) for db in dbs}
+                if archive
+                else {}
+            )
             plain = Looks(accounts, dbs, limit, stack, from_start, archived)
         if named:
             named_looks = NamedLooks(url_of_referee(accounts), stack)
@@ -83,19 +118,29 @@ def _drawn(plain: Looks | None, named_looks: NamedLooks | None, console: Console
     lines = {} if plain is None else plain.lines()
     named = None if named_looks is None else named_looks.found()
     if console is None:
-        return [*map(_fields_of, lines.values()), *(top_named.fields_of(named) if named is not None else ())]
+        return [
+            *map(_fields_of, lines.values()),
+            *(top_named.fields_of(named) if named is not None else ()),
+        ]
     tables = [top.table_of(lines, console.width)] if plain is not None else []
     tables += [top_named.table_of(named, console.width)] if named is not None else []
-    return top.page("named databases" if plain is None else plain.address, tables, time.strftime("%H:%M:%S"))
+    return top.page(
+        "named databases" if plain is None else plain.address, tables, time.strftime("%H:%M:%S")
+    )
 
 
 class Looks:
     """Looks at databases side by side, for at most two seconds, and less than --timeout."""
 
     def __init__(
-        self, accounts: Accounts, dbs: tuple[int, ...], limit: int | None, stack: ExitStack, from_start: bool,
+        self,
+        accounts: Accounts,
+        dbs: tuple[int, ...],
+        limit: int | None,
+        stack: ExitStack,
+        from_start: bool,
         archived: dict[int, Task[int]],
-    ) -> None:  # fmt: skip
+    ) -> None:
         self.address = str(accounts.account(Role.OPERATOR).to)
         self._archived = archived
         self._watches: dict[int, Watch] = {}
@@ -104,7 +149,9 @@ class Looks:
 
         def look(db: int) -> Look:
             if db not in self._watches:
-                self._watches[db] = watch_of(accounts, db, limit, stack, seconds, from_start=from_start)
+                self._watches[db] = watch_of(
+                    accounts, db, limit, stack, seconds, from_start=from_start
+                )
             return self._watches[db].look()
 
         self._tasks = {db: Task(partial(look, db)) for db in dbs}
@@ -113,13 +160,23 @@ class Looks:
         """Of each database a look, or why there is none, and its archived LSN where an archive answers."""
         from pagelog.desk.top import Line
 
-        tasks: list[tuple[tuple[str, int], Task[Any]]] = [(("look", db), task) for db, task in self._tasks.items()]
-        found = look_at_all([*tasks, *((("archived", db), task) for db, task in self._archived.items())], self.seconds)
+        tasks: list[tuple[tuple[str, int], Task[Any]]] = [
+            (("look", db), task) for db, task in self._tasks.items()
+        ]
+        found = look_at_all(
+            [*tasks, *((("archived", db), task) for db, task in self._archived.items())],
+            self.seconds,
+        )
         lines: dict[int, Line] = {}
         for db in self._tasks:
             look, kept = found["look", db], found.get(("archived", db))
             error = f"{type(look).__name__}: {look}" if isinstance(look, Exception) else ""
-            lines[db] = Line(db, look if isinstance(look, Look) else None, error, kept if isinstance(kept, int) else None)
+            lines[db] = Line(
+                db,
+                look if isinstance(look, Look) else None,
+                error,
+                kept if isinstance(kept, int) else None,
+            )
         return lines
 
 
@@ -159,16 +216,36 @@ def archived_of(url: str, log: str) -> int:
 
 def _fields_of(line: Line) -> dict[str, object]:
     look = line.look
-    fields: dict[str, object] = {"db": line.database, "time": round(time.time(), 3), "archived": line.archived}
+    fields: dict[str, object] = {
+        "db": line.database,
+        "time": round(time.time(), 3),
+        "archived": line.archived,
+    }
     if look is None:
         return fields | {"error": line.error}
-    return fields | {"epoch": look.state.epoch, "primary": look.state.primary, "hard": look.state.hard, "audit_entries": look.entries,
-                     "audit_limit": look.limit, "full_in_seconds": look.full_in, "blocks_a_second": look.blocks_rate,
-                     "reads_a_second": look.reads_rate, "requests_a_second": look.requests_rate, "denials": look.denials,
-                     "applied": look.applied}  # fmt: skip
+    return fields | {
+        "epoch": look.state.epoch,
+        "primary": look.state.primary,
+        "hard": look.state.hard,
+        "audit_entries": look.entries,
+        "audit_limit": look.limit,
+        "full_in_seconds": look.full_in,
+        "blocks_a_second": look.blocks_rate,
+        "reads_a_second": look.reads_rate,
+        "requests_a_second": look.requests_rate,
+        "denials": look.denials,
+        "applied": look.applied,
+    }
 
 
-def _screens(draw: Callable[[], Any], interval: float, count: int, stop: Callable[[], bool], console: Any, as_json: bool) -> Iterator[Any]:
+def _screens(
+    draw: Callable[[], Any],
+    interval: float,
+    count: int,
+    stop: Callable[[], bool],
+    console: Any,
+    as_json: bool,
+) -> Iterator[Any]:
     """Draws again and again; on a terminal in place, until q."""
     from rich.live import Live
 

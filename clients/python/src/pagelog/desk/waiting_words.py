@@ -22,8 +22,20 @@ _ROLES = (Role.OPERATOR, Role.PRIMARY, Role.SECONDARY)
 @click.command("waiting-table")
 @credentials_option
 @click.argument("table", type=click.Path())
-@click.option("--out", required=True, metavar="FILE", type=click.Path(), help="Where the start table goes, for `pagelog serve --table`.")
-@click.option("--keys", required=True, metavar="FILE", type=click.Path(), help="Where its credentials go, for `restore --credentials`.")
+@click.option(
+    "--out",
+    required=True,
+    metavar="FILE",
+    type=click.Path(),
+    help="Where the start table goes, for `pagelog serve --table`.",
+)
+@click.option(
+    "--keys",
+    required=True,
+    metavar="FILE",
+    type=click.Path(),
+    help="Where its credentials go, for `restore --credentials`.",
+)
 @faults
 def waiting_table_word(accounts: Accounts, table: str, out: str, keys: str) -> None:
     """Make a start table for a service that waits for its restore, from the real TABLE. Needs [operator], [primary], [secondary].

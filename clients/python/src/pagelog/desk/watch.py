@@ -69,9 +69,14 @@ class Watch:
     """
 
     def __init__(
-        self, operator: Operator, *, reader: Reader | None = None, limit: int = MOST_ENTRIES, from_start: bool = False,
+        self,
+        operator: Operator,
+        *,
+        reader: Reader | None = None,
+        limit: int = MOST_ENTRIES,
+        from_start: bool = False,
         clock: Callable[[], float] = time.monotonic,
-    ) -> None:  # fmt: skip
+    ) -> None:
         self.operator = operator
         self.reader = reader
         self.limit = limit
@@ -111,9 +116,20 @@ class Watch:
         self._before.append((self._clock(), entries, self._reads, state.hard, self._own))
         blocks, reads, requests, own = self._rates()
         return Look(
-            state, entries, is_behind, self._uncounted, own, self.limit, blocks, reads, requests, dict(self._denials),
-            dict(self._requests), self._fenced, self._applied(),
-        )  # fmt: skip
+            state=state,
+            entries=entries,
+            is_behind=is_behind,
+            uncounted=self._uncounted,
+            own=own,
+            limit=self.limit,
+            blocks_rate=blocks,
+            reads_rate=reads,
+            requests_rate=requests,
+            denials=dict(self._denials),
+            requests=dict(self._requests),
+            fenced=self._fenced,
+            applied=self._applied(),
+        )
 
     def _read(self, state: State) -> bool:
         for _ in range(_AUDITS_OF_A_LOOK):
@@ -140,7 +156,9 @@ class Watch:
         self._requests[entry.role.word, entry.operation.word, entry.rule or "allowed"] += 1
         if not entry.is_allowed:
             self._denials[f"{entry.place} {entry.rule}"] += 1
-            self._fenced += entry.role is Role.PRIMARY and entry.section == Section.A and entry.row in (2, 4)
+            self._fenced += (
+                entry.role is Role.PRIMARY and entry.section == Section.A and entry.row in (2, 4)
+            )
         elif entry.operation in READS:
             self._reads += 1
         elif entry.operation is Operation.ADVANCE:
@@ -149,9 +167,20 @@ class Watch:
     def _rates(self) -> tuple[float | None, float | None, float | None, int]:
         if len(self._before) < 2:
             return None, None, None, 0
-        (then, entries_then, reads_then, hard_then, own_then), (now, entries, reads, hard, own) = self._before
+        (then, entries_then, reads_then, hard_then, own_then), (
+            now,
+            entries,
+            reads,
+            hard,
+            own,
+        ) = self._before
         seconds, mine = max(now - then, 1e-9), own - own_then
-        return (hard - hard_then) / seconds, (reads - reads_then) / seconds, max(0, entries - entries_then - mine) / seconds, mine
+        return (
+            (hard - hard_then) / seconds,
+            (reads - reads_then) / seconds,
+            max(0, entries - entries_then - mine) / seconds,
+            mine,
+        )
 
     def _applied(self) -> dict[int, int]:
         for partition in sorted(self._advanced)[:_MOST_APPLIED] if self.reader is not None else ():

@@ -63,21 +63,37 @@ class Words(click.Group):
         """The word of this name."""
         if cmd_name not in WORDS:
             return None
-        found = getattr(import_module(f"pagelog.desk.{WORDS[cmd_name]}"), f"{cmd_name.replace('-', '_')}_word")
+        found = getattr(
+            import_module(f"pagelog.desk.{WORDS[cmd_name]}"), f"{cmd_name.replace('-', '_')}_word"
+        )
         assert isinstance(found, click.Command)
         return found
 
 
-@click.group(cls=Words, context_settings={"help_option_names": ["-h", "--help"], "max_content_width": 100})
+@click.group(
+    cls=Words, context_settings={"help_option_names": ["-h", "--help"], "max_content_width": 100}
+)
 @click.version_option(pagelog.__version__, prog_name="pagelogctl")
-@click.option("--timeout", default=10.0, show_default=True, type=click.FloatRange(0.1), metavar="SECONDS",
-              help="How long a service may be silent before a request ends.")  # fmt: skip
-@click.option("--sslmode", metavar="MODE", help="disable, or verify-full: TLS 1.3, and who answers has to show that it is the host that is "
-              "asked for. [default: verify-full where a file is named] [env: PAGELOG_SSLMODE, and the like]")  # fmt: skip
+@click.option(
+    "--timeout",
+    default=10.0,
+    show_default=True,
+    type=click.FloatRange(0.1),
+    metavar="SECONDS",
+    help="How long a service may be silent before a request ends.",
+)
+@click.option(
+    "--sslmode",
+    metavar="MODE",
+    help="disable, or verify-full: TLS 1.3, and who answers has to show that it is the host that is "
+    "asked for. [default: verify-full where a file is named] [env: PAGELOG_SSLMODE, and the like]",
+)
 @click.option("--sslrootcert", metavar="FILE", help="Certificates of CAs, PEM.")
 @click.option("--sslcert", metavar="FILE", help="The certificate of this client.")
 @click.option("--sslkey", metavar="FILE", help="Its key, which nobody else may read.")
-@click.option("--verbose", is_flag=True, help="Report each connection that is made again, on standard error.")
+@click.option(
+    "--verbose", is_flag=True, help="Report each connection that is made again, on standard error."
+)
 def pagelogctl(timeout: float, verbose: bool, **tls: str | None) -> None:
     """Looks at the databases of a service, keeps what they hold, and moves them.
 

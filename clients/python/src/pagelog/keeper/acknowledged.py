@@ -16,7 +16,14 @@ _SIZE = mmap.PAGESIZE
 _FAILED = ctypes.c_void_p(-1).value
 _libc = ctypes.CDLL(None, use_errno=True)
 _libc.mmap.restype = ctypes.c_void_p
-_libc.mmap.argtypes = [ctypes.c_void_p, ctypes.c_size_t, ctypes.c_int, ctypes.c_int, ctypes.c_int, ctypes.c_long]
+_libc.mmap.argtypes = [
+    ctypes.c_void_p,
+    ctypes.c_size_t,
+    ctypes.c_int,
+    ctypes.c_int,
+    ctypes.c_int,
+    ctypes.c_long,
+]
 _libc.munmap.argtypes = [ctypes.c_void_p, ctypes.c_size_t]
 
 
@@ -25,7 +32,9 @@ class Acknowledged:
 
     def __init__(self, descriptor: int) -> None:
         """Of an open file of the size. Raises `OSError`."""
-        place = _libc.mmap(None, _SIZE, mmap.PROT_READ | mmap.PROT_WRITE, mmap.MAP_SHARED, descriptor, 0)
+        place = _libc.mmap(
+            None, _SIZE, mmap.PROT_READ | mmap.PROT_WRITE, mmap.MAP_SHARED, descriptor, 0
+        )
         if place == _FAILED:
             raise OSError(ctypes.get_errno(), "the memory of a service could not be mapped")
         weakref.finalize(self, _libc.munmap, place, _SIZE)

@@ -33,9 +33,15 @@ class Archiver:
     """
 
     def __init__(
-        self, row: Row, served: Served, waits: Waits, committer: Committer, say: Callable[[str, str], None], changed: Callable[[], None],
+        self,
+        row: Row,
+        served: Served,
+        waits: Waits,
+        committer: Committer,
+        say: Callable[[str, str], None],
+        changed: Callable[[], None],
         ways: QuickPlane | None = None,
-    ) -> None:  # fmt: skip
+    ) -> None:
         self._row, self._served, self._waits, self._committer = row, served, waits, committer
         waits.confirmations.watch = self._watch
         self._say, self._changed = say, changed
@@ -155,17 +161,27 @@ class Archiver:
         """What is not archived of a log that ends there; None where that is much, or cannot be pulled. Both turns are the caller's."""
         served = self._served
         try:
-            blocks = await asyncio.to_thread(served.pulled, served.reached) if served.reached < end else []
+            blocks = (
+                await asyncio.to_thread(served.pulled, served.reached)
+                if served.reached < end
+                else []
+            )
         except PagelogError:
             return None
-        return await self._batch_of(blocks, recorder) if served.reached + len(blocks) == end else None
+        return (
+            await self._batch_of(blocks, recorder) if served.reached + len(blocks) == end else None
+        )
 
     async def _next_batch(self, recorder: Recorder | None) -> Batch:
         served = self._served
         position, refused = self._refused
         if refused and position == served.reached:
             return await self._batch_of(refused, recorder)
-        blocks = None if served.hard > served.reached + FEW else await served.pulled_at_once(served.reached)
+        blocks = (
+            None
+            if served.hard > served.reached + FEW
+            else await served.pulled_at_once(served.reached)
+        )
         if blocks is None:
             blocks = await asyncio.to_thread(served.pulled, served.reached)
         return await self._batch_of(blocks, recorder)
@@ -173,7 +189,15 @@ class Archiver:
     async def _batch_of(self, blocks: Sequence[bytes], recorder: Recorder | None) -> Batch:
         served = self._served
         lines = await recorder.lines() if blocks and recorder is not None else None
-        return Batch(self._row.id, served.run, served.generation, served.reached, digest(served.chain, blocks), tuple(blocks), lines)
+        return Batch(
+            self._row.id,
+            served.run,
+            served.generation,
+            served.reached,
+            digest(served.chain, blocks),
+            tuple(blocks),
+            lines,
+        )
 
     async def _kept(self, batch: Batch) -> bool:
         """Has the batch archived, and tells those who wait for it. False where the run holds the database no more."""
@@ -202,11 +226,17 @@ class Archiver:
             self.ring()
             return True  # the next pull shows why
         if not has:
-            self._say(self._row.name, f"the archive went back, to position {kept.archived}, and has other blocks there: the service is set aside")
+            self._say(
+                self._row.name,
+                f"the archive went back, to position {kept.archived}, and has other blocks there: the service is set aside",
+            )
             self.is_stuck = served.went_back = served.is_apart = True
             return False
         if kept.archived < served.reached:
-            self._say(self._row.name, f"the archive went back, to position {kept.archived}: what the service has after it is archived again")
+            self._say(
+                self._row.name,
+                f"the archive went back, to position {kept.archived}: what the service has after it is archived again",
+            )
         served.reached, served.chain = kept.archived, kept.chain
         self._advanced.set()
         self._is_asked = len(self._waits) > 0
@@ -226,7 +256,9 @@ class Archiver:
         if self._ways is None or not (self._is_asked or is_behind):
             return True
         async with turn_of(self.lining) as recorder:
-            return recorder is not self.recorder or await self._went_quickly(self._ways, recorder)  # no block goes without its lines
+            return recorder is not self.recorder or await self._went_quickly(
+                self._ways, recorder
+            )  # no block goes without its lines
 
     async def _went_quickly(self, ways: QuickPlane, recorder: Recorder | None) -> bool:
         """As `_quickly`, once it is known that it may. The recorder's turn is the caller's too."""

@@ -27,8 +27,17 @@ class Aside:
     def report(self) -> dict[str, Any]:
         """As a keeper's report has it."""
         facts = self.facts
-        return {"name": facts.name, "run": facts.run, "address": facts.address, "pid": facts.pid, "shift": facts.shift, "images": facts.images,
-                "had": self.seen.archived, "kept": self.is_kept, "database": self.database}  # fmt: skip
+        return {
+            "name": facts.name,
+            "run": facts.run,
+            "address": facts.address,
+            "pid": facts.pid,
+            "shift": facts.shift,
+            "images": facts.images,
+            "had": self.seen.archived,
+            "kept": self.is_kept,
+            "database": self.database,
+        }
 
 
 class Asides:
@@ -54,7 +63,13 @@ class Asides:
     def report(self, others: Iterable[Aside] = ()) -> dict[str, list[dict[str, Any]]]:
         """What the keeper says of those that still run, and of `others`, which it has not set aside."""
         self._facts = [facts for facts in self._facts if is_running(facts)]
-        found = [*(Aside(facts, seen_of(self._folder, facts), database=self._database_of(facts)) for facts in self._facts), *others]
+        found = [
+            *(
+                Aside(facts, seen_of(self._folder, facts), database=self._database_of(facts))
+                for facts in self._facts
+            ),
+            *others,
+        ]
         return {ASIDE: [each.report() for each in found]} if found else {}
 
     def _database_of(self, facts: Facts) -> str:
@@ -69,4 +84,8 @@ class Asides:
 
 def asides_of(look: Look) -> list[dict[str, Any]]:
     """What all keepers have said, each as old as its keeper's last look."""
-    return [{"keeper": keeper.name, **each} for keeper in look.keepers for each in keeper.report.get(ASIDE, ())]
+    return [
+        {"keeper": keeper.name, **each}
+        for keeper in look.keepers
+        for each in keeper.report.get(ASIDE, ())
+    ]

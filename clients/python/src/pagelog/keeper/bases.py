@@ -20,7 +20,15 @@ from psycopg.pq import TransactionStatus
 from pagelog.keeper.ahead import pieces_of
 from pagelog.keeper.batches import array_of
 from pagelog.keeper.images import MARK, Image, Replay
-from pagelog.keeper.referee import BrokenArchive, BrokenBase, Doubt, KeeperError, Pruned, Referee, digest
+from pagelog.keeper.referee import (
+    BrokenArchive,
+    BrokenBase,
+    Doubt,
+    KeeperError,
+    Pruned,
+    Referee,
+    digest,
+)
 
 AT_ONCE, AHEAD = 4, 3
 """Images of one statement, 2 MiB at most, and how many such parts are fetched while one is used."""
@@ -67,9 +75,9 @@ DELETE FROM pagelog_image i WHERE log = %(log)s AND base < %(position)s AND {_IS
   WHERE j.log = i.log AND j.range = i.range AND j.base > i.base AND j.base <= %(position)s) RETURNING range
 """
 _PRUNE_PACKS = f"""
-WITH gone AS (DELETE FROM pagelog_pack p WHERE log = %(log)s AND {_IS_FREE}
+WITH gone AS (DELETE FROM pagelog_pack p WHERE log = %(log)s AND NOT instead AND {_IS_FREE}
   AND NOT EXISTS (SELECT 1 FROM pagelog_image i WHERE i.log = p.log AND i.pack = p.number) RETURNING key)
-INSERT INTO pagelog_gone (key) SELECT key FROM gone ON CONFLICT (key) DO UPDATE SET since = now() RETURNING key
+INSERT INTO pagelog_gone (key) SELECT DISTINCT key FROM gone ON CONFLICT (key) DO UPDATE SET since = now() RETURNING key
 """
 _PRUNE_OBJECTS = f"""
 WITH gone AS (DELETE FROM pagelog_object WHERE log = %(log)s AND last <= %(position)s AND state = 2 AND {_IS_FREE} RETURNING key, first, last),
@@ -148,7 +156,9 @@ class Bases:
     def newest(self, upto: int) -> Base:
         """The newest base at or below a position; not one whose images could not be read within the last hour, where there is another one, or all
         blocks are kept."""
-        for base, chain, heads, pages, is_broken in self._referee._ask_bounded(_NEWEST_BASE, {"log": self._log, "upto": upto}):
+        for base, chain, heads, pages, is_broken in self._referee._ask_bounded(
+            _NEWEST_BASE, {"log": self._log, "upto": upto}
+        ):
             if not (is_broken and self._referee._ask_bounded(_FROM_FIRST, {"log": self._log})):
                 return Base(base, bytes(chain), bytes(heads), pages)
         return NOTHING
@@ -165,14 +175,20 @@ class Bases:
                     heads.update(image.head)
                     yield image
             if heads.digest() != base.digest:
-                raise BrokenArchive(f"the images at position {base.position} are not those that were kept")
+                raise BrokenArchive(
+                    f"the images at position {base.position} are not those that were kept"
+                )
         except BrokenArchive as error:
             raise self._broken(base, error) from error
 
     def image(self, range: int, base: Base) -> Image | None:
         """The image of one range, if the base is kept still: who is done with them calls `check_kept`. Raises as `images`."""
         try:
-            found = [] if base is NOTHING else self._begun(self._rows(base.position, range - 1, 1), base.position)()
+            found = (
+                []
+                if base is NOTHING
+                else self._begun(self._rows(base.position, range - 1, 1), base.position)()
+            )
         except BrokenArchive as error:
             raise self._broken(base, error) from error
         return found[0] if found and found[0].range == range else None
@@ -185,7 +201,9 @@ class Bases:
 
     def check_kept(self, base: Base) -> None:
         """Raises `Pruned` unless the base is there still: then what was read of it is right."""
-        if base is not NOTHING and not self._referee._ask_bounded("SELECT 1 FROM pagelog_base WHERE log = %s AND base = %s", (self._log, base.position)):
+        if base is not NOTHING and not self._referee._ask_bounded(
+            "SELECT 1 FROM pagelog_base WHERE log = %s AND base = %s", (self._log, base.position)
+        ):
             raise Pruned(f"the base at position {base.position} was pruned meanwhile")
 
     def _all(self, position: int) -> Iterator[Image]:
@@ -212,7 +230,9 @@ class Bases:
             for range, pages, crc, data, *_ in rows:
                 image = found.get(range) or Image(range, int.from_bytes(pages, "big"), bytes(data))
                 if zlib.crc32(image.data) != crc:
-                    raise BrokenArchive(f"the image of range {range} at position {position} is damaged")
+                    raise BrokenArchive(
+                        f"the image of range {range} at position {position} is damaged"
+                    )
                 images.append(image)
             return images
 
@@ -239,7 +259,9 @@ class Bases:
         found = self._referee._ask(_MARKED, (self._log, first, last, MARK))
         if found:
             return int(found[0][0])
-        return self._stored_mark(first, last) if self._referee.has_stored(self._log, first) else None
+        return (
+            self._stored_mark(first, last) if self._referee.has_stored(self._log, first) else None
+        )
 
     def _stored_mark(self, first: int, last: int) -> int | None:
         """The same among what the store has, which is all below what PostgreSQL has."""
@@ -273,12 +295,19 @@ class Bases:
         for image in images:
             starts.append(at)
             at += len(image.data)
-        self._referee._ask_bounded(_KEEP, {
-            "log": self._log, "base": position, "masks": b"".join(image.mask.to_bytes(8, "big") for image in images),
-            "ranges": array_of(image.range for image in images), "crcs": array_of(zlib.crc32(image.data) for image in images),
-            "starts": array_of(starts), "lengths": array_of(len(image.data) for image in images),
-            "bytes": b"".join(image.data for image in images),
-        })  # fmt: skip
+        self._referee._ask_bounded(
+            _KEEP,
+            {
+                "log": self._log,
+                "base": position,
+                "masks": b"".join(image.mask.to_bytes(8, "big") for image in images),
+                "ranges": array_of(image.range for image in images),
+                "crcs": array_of(zlib.crc32(image.data) for image in images),
+                "starts": array_of(starts),
+                "lengths": array_of(len(image.data) for image in images),
+                "bytes": b"".join(image.data for image in images),
+            },
+        )
 
     def keep_base(self, position: int, chain: bytes) -> Base:
         """Says that all images at a position are there, unless there is a newer base."""
@@ -286,24 +315,45 @@ class Bases:
         for count, head in self.heads(position):
             heads.update(head)
             pages += count
-        self._referee._ask_bounded("INSERT INTO pagelog_base (log, base, chain, digest, pages, came) SELECT %s, %s, %s, %s, %s, "
-                          "COALESCE(%s::timestamptz, now()) WHERE NOT EXISTS "
-                          "(SELECT 1 FROM pagelog_base WHERE log = %s AND base >= %s) RETURNING base",
-                          (self._log, position, chain, heads.digest(), pages, self.came(position), self._log, position))  # fmt: skip
+        self._referee._ask_bounded(
+            "INSERT INTO pagelog_base (log, base, chain, digest, pages, came) SELECT %s, %s, %s, %s, %s, "
+            "COALESCE(%s::timestamptz, now()) WHERE NOT EXISTS "
+            "(SELECT 1 FROM pagelog_base WHERE log = %s AND base >= %s) RETURNING base",
+            (
+                self._log,
+                position,
+                chain,
+                heads.digest(),
+                pages,
+                self.came(position),
+                self._log,
+                position,
+            ),
+        )
         self._referee._ask_bounded(_MENDED, (self._log, position, heads.digest()))
         return Base(position, chain, heads.digest(), pages)
 
     def came(self, position: int) -> datetime | None:
         """When a block was archived; None where nobody noted it, or it is kept no more."""
-        found = self._referee._ask_bounded("SELECT came FROM pagelog_block WHERE log = %s AND lsn = %s", (self._log, position))
+        found = self._referee._ask_bounded(
+            "SELECT came FROM pagelog_block WHERE log = %s AND lsn = %s", (self._log, position)
+        )
         if found:
             return found[0][0]  # type: ignore[no-any-return]
-        return self._referee.through.came(self._log, position) if self._referee.has_stored(self._log, position) else None
+        return (
+            self._referee.through.came(self._log, position)
+            if self._referee.has_stored(self._log, position)
+            else None
+        )
 
     def keep_all(self, position: int, replay: Replay, chain: bytes) -> Base:
         """Keeps a base of these images and no others, whatever older ones have."""
-        older = self._referee._ask("SELECT DISTINCT range FROM pagelog_image WHERE log = %s", (self._log,))
-        self.keep_images(position, (Image(range, 0, b"") for (range,) in older if range not in replay.touched))
+        older = self._referee._ask(
+            "SELECT DISTINCT range FROM pagelog_image WHERE log = %s", (self._log,)
+        )
+        self.keep_images(
+            position, (Image(range, 0, b"") for (range,) in older if range not in replay.touched)
+        )
         self.keep_images(position, replay.images())
         self._referee._ask(_UNDO_BASES, {"log": self._log, "position": position})
         return self.keep_base(position, chain)
@@ -313,18 +363,31 @@ class Bases:
     def oldest_to_keep(self, keep: str | int) -> int:
         """The base below which nothing has to be kept: of a number of bases, or of a time as `7 days`. One that could not be read counts for none."""
         if isinstance(keep, int):
-            found = self._referee._ask("SELECT base FROM pagelog_base WHERE log = %s AND broken IS NULL ORDER BY base DESC OFFSET %s LIMIT 1", (self._log, keep - 1))
+            found = self._referee._ask(
+                "SELECT base FROM pagelog_base WHERE log = %s AND broken IS NULL ORDER BY base DESC OFFSET %s LIMIT 1",
+                (self._log, keep - 1),
+            )
         else:
-            found = self._referee._ask("SELECT base FROM pagelog_base WHERE log = %s AND broken IS NULL AND came <= now() - %s::interval "
-                                      "ORDER BY base DESC LIMIT 1", (self._log, keep))  # fmt: skip
+            found = self._referee._ask(
+                "SELECT base FROM pagelog_base WHERE log = %s AND broken IS NULL AND came <= now() - %s::interval "
+                "ORDER BY base DESC LIMIT 1",
+                (self._log, keep),
+            )
         return int(found[0][0]) if found else 0
 
     def prune(self, position: int) -> int:
         """Deletes what only positions below this base need, unless the database is held. Returns how many blocks that were."""
-        self._referee._ask(_PRUNE_BASES, {"log": self._log, "position": position})  # first: see above
+        self._referee._ask(
+            _PRUNE_BASES, {"log": self._log, "position": position}
+        )  # first: see above
         self._referee._ask(_PRUNE_IMAGES, {"log": self._log, "position": position})
         self._referee._ask(_PRUNE_PACKS, {"log": self._log})
-        count = sum(int(blocks) for blocks, in self._referee._ask(_PRUNE_OBJECTS, {"log": self._log, "position": position}))
+        count = sum(
+            int(blocks)
+            for blocks, in self._referee._ask(
+                _PRUNE_OBJECTS, {"log": self._log, "position": position}
+            )
+        )
         upto = self._prune_store(position)
         while gone := self._referee._ask(_PRUNE_BLOCKS, {"log": self._log, "upto": upto}):
             count += len(gone)

@@ -80,9 +80,16 @@ async def made_of(wish: Wish, blocks: int) -> Made:
         return await asyncio.to_thread(make, wish)
     source = str(Path(__file__).resolve().parents[2])
     process = await asyncio.create_subprocess_exec(
-        sys.executable, "-m", "pagelog.keeper.basing", stdin=asyncio.subprocess.PIPE, stdout=asyncio.subprocess.PIPE,
-        env={**os.environ, "PYTHONPATH": os.pathsep.join(filter(None, (source, os.environ.get("PYTHONPATH"))))},
-    )  # fmt: skip
+        sys.executable,
+        "-m",
+        "pagelog.keeper.basing",
+        stdin=asyncio.subprocess.PIPE,
+        stdout=asyncio.subprocess.PIPE,
+        env={
+            **os.environ,
+            "PYTHONPATH": os.pathsep.join(filter(None, (source, os.environ.get("PYTHONPATH")))),
+        },
+    )
     try:
         said, _ = await process.communicate(wish.line.encode())
     finally:
@@ -91,7 +98,9 @@ async def made_of(wish: Wish, blocks: int) -> Made:
     try:
         found = json.loads(said)
     except ValueError:
-        raise NoBase(f"no base was made: the process ended with status {process.returncode}") from None
+        raise NoBase(
+            f"no base was made: the process ended with status {process.returncode}"
+        ) from None
     if "error" in found:
         raise NoBase(f"no base was made: {found['error']}")
     return Made(**found)

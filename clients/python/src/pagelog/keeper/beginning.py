@@ -19,13 +19,22 @@ if TYPE_CHECKING:
     from pagelog.keeper.database import Database
 
 
-def continued_from_images(referee: Referee, served: Served, row: Row, beat: int | None, least: int, start: tuple[int, bytes]) -> Kept | None:
+def continued_from_images(
+    referee: Referee,
+    served: Served,
+    row: Row,
+    beat: int | None,
+    least: int,
+    start: tuple[int, bytes],
+) -> Kept | None:
     """As `continue_run` of the referee, with the images that the service began with as a base: all of it, or nothing."""
     replay = Replay(lambda _: None)
     for blocks in served.began_with():
         replay.apply(blocks)
     with transaction(referee):
-        kept = referee.continue_run(row, served.run, beat, served.where, least, start, served.table_number)
+        kept = referee.continue_run(
+            row, served.run, beat, served.where, least, start, served.table_number
+        )
         if kept is not None:
             Bases(referee, row.id).keep_all(start[0], replay, start[1])
     return kept
@@ -49,7 +58,10 @@ class Beginning:
     async def take(self) -> bool:
         """Makes this keeper the holder; its standby is published with that, if it has all that is archived."""
         database = self._database
-        row, beat = database.row, database.beat  # as it was decided: a look that comes meanwhile may show a holder that is alive
+        row, beat = (
+            database.row,
+            database.beat,
+        )  # as it was decided: a look that comes meanwhile may show a holder that is alive
         served = database.served or await database.new_served(new_run())
         try:
             where = await self._ready(served, row)
@@ -57,17 +69,37 @@ class Beginning:
             raise
         except PagelogError as error:
             return await database.standing.give_up(served, error)
-        kept = await self._shared.ask(self._shared.referee.take, row, served.run, beat, where, self._shared.numbers.least(row),
-                                      served.table_number)  # fmt: skip
+        kept = await self._shared.ask(
+            self._shared.referee.take,
+            row,
+            served.run,
+            beat,
+            where,
+            self._shared.numbers.least(row),
+            served.table_number,
+        )
         if kept is None:
             return False
         self._shared.numbers.note(row.identity, kept.generation)
         self._shared.session.woken.set()  # the next look reports its run
         served.kind, served.generation, database.served = Kind.HOLDER, kept.generation, served
         served.is_after_release = row.run is None and row.generation not in (0, database.let_go)
-        database.row = replace(row, generation=kept.generation, run=served.run, holder=self._shared.settings.name, address=where.address,
-                           secure=where.secure, archived=kept.archived, base=kept.archived, shift=served.shift, images=served.images, chain=kept.chain,
-                           wanted=None, next_generation=kept.generation + 1, run_table=served.table_number)  # fmt: skip
+        database.row = replace(
+            row,
+            generation=kept.generation,
+            run=served.run,
+            holder=self._shared.settings.name,
+            address=where.address,
+            secure=where.secure,
+            archived=kept.archived,
+            base=kept.archived,
+            shift=served.shift,
+            images=served.images,
+            chain=kept.chain,
+            wanted=None,
+            next_generation=kept.generation + 1,
+            run_table=served.table_number,
+        )
         return True
 
     async def _ready(self, served: Served, row: Row) -> Where:
@@ -107,14 +139,24 @@ class Beginning:
         self._stuck_at = None
         database.has_filled()
         if database.work.archiver is None:
-            database.work.begin(database.row, served)  # first: whether the address is published may be in doubt
+            database.work.begin(
+                database.row, served
+            )  # first: whether the address is published may be in doubt
         database.note_seen()  # before anybody writes there
         where = served.where
-        if row.address is None and not await self._shared.ask(self._shared.referee.publish, row.id, served.run, where):
+        if row.address is None and not await self._shared.ask(
+            self._shared.referee.publish, row.id, served.run, where
+        ):
             return False
         if not database.holds:
             return True  # a look has shown meanwhile that another has it
-        database.row = replace(database.row, address=where.address, secure=where.secure, shift=served.shift, images=served.images)
+        database.row = replace(
+            database.row,
+            address=where.address,
+            secure=where.secure,
+            shift=served.shift,
+            images=served.images,
+        )
         self._shared.changed(row.name)
         return True
 
@@ -122,13 +164,17 @@ class Beginning:
         """Makes this keeper the holder again with the service that is here, of which PostgreSQL has lost a part: that is archived again."""
         database = self._database
         served, row = database.own, database.row
-        beat = None if row.holder == self._shared.settings.name else database.beat  # its own rises with each look
+        beat = (
+            None if row.holder == self._shared.settings.name else database.beat
+        )  # its own rises with each look
         is_before = (row.generation, row.run) == database.before
         try:
             newest = await self._shared.ask(self._shared.referee.table, row.id)
             if served.table_number < newest.number:
                 await asyncio.to_thread(served.renew, newest)
-            start = await asyncio.to_thread(served.continues, row.archived, row.chain, is_before=is_before)
+            start = await asyncio.to_thread(
+                served.continues, row.archived, row.chain, is_before=is_before
+            )
         except (Away, Doubt, Refused):
             raise
         except PagelogError as error:
@@ -143,22 +189,50 @@ class Beginning:
             return False  # the next look shows by whom
         self._shared.numbers.note(row.identity, kept.generation)
         database.work.stop()  # what was archived of it before is known no more
-        served.kind, served.generation, served.went_back, served.back_since = Kind.HOLDER, kept.generation, False, None
+        served.kind, served.generation, served.went_back, served.back_since = (
+            Kind.HOLDER,
+            kept.generation,
+            False,
+            None,
+        )
         served.reached, served.chain = kept.archived, kept.chain
-        database.row = replace(row, generation=kept.generation, run=served.run, holder=self._shared.settings.name, address=served.where.address,
-                               secure=served.where.secure, archived=kept.archived, chain=kept.chain, base=kept.archived, shift=served.shift, images=served.images,
-                               wanted=None, succeed=False, next_generation=kept.generation + 1, run_table=served.table_number)  # fmt: skip
+        database.row = replace(
+            row,
+            generation=kept.generation,
+            run=served.run,
+            holder=self._shared.settings.name,
+            address=served.where.address,
+            secure=served.where.secure,
+            archived=kept.archived,
+            chain=kept.chain,
+            base=kept.archived,
+            shift=served.shift,
+            images=served.images,
+            wanted=None,
+            succeed=False,
+            next_generation=kept.generation + 1,
+            run_table=served.table_number,
+        )
         return await self.fill()
 
-    async def _continued(self, served: Served, row: Row, beat: int | None, least: int, start: tuple[int, bytes]) -> Kept | None:
+    async def _continued(
+        self, served: Served, row: Row, beat: int | None, least: int, start: tuple[int, bytes]
+    ) -> Kept | None:
         """Where it starts behind what is archived, its images are kept with the statement, as the base from which the archive goes on."""
         if start[0] == row.archived:
             return await self._shared.ask(self._shared.referee.continue_run, row, served.run, beat, served.where, least, start, served.table_number)  # type: ignore[no-any-return]
         settings = self._shared.settings
-        referee = Referee(settings.url, settings.name, self._shared.life, requires_standby=settings.require_standby,
-                           store=settings.store)  # fmt: skip
+        referee = Referee(
+            settings.url,
+            settings.name,
+            self._shared.life,
+            requires_standby=settings.require_standby,
+            store=settings.store,
+        )
         try:
-            return await asyncio.to_thread(continued_from_images, referee, served, row, beat, least, start)
+            return await asyncio.to_thread(
+                continued_from_images, referee, served, row, beat, least, start
+            )
         finally:
             referee.close()
 
@@ -175,8 +249,12 @@ class Beginning:
         database = self._database
         row, settings = database.row, self._shared.settings
         assert row.run is not None
-        served, kept = await database.new_served(row.run), await self._shared.ask(self._shared.referee.kept, row.id, row.run)
-        process = await asyncio.to_thread(Run.adopt, settings.program.folder, row.name, row.run)  # last: it opens a descriptor
+        served, kept = await database.new_served(row.run), await self._shared.ask(
+            self._shared.referee.kept, row.id, row.run
+        )
+        process = await asyncio.to_thread(
+            Run.adopt, settings.program.folder, row.name, row.run
+        )  # last: it opens a descriptor
         shift, images = row.shift, row.images
         if process is not None and row.address is None:
             if not await self._is_lost(served, process):
@@ -196,7 +274,9 @@ class Beginning:
         database.served = served
         database.watch(served)
         if kept is None:
-            return False  # it holds the database no more: what is to become of it the next look shows
+            return (
+                False  # it holds the database no more: what is to become of it the next look shows
+            )
         await asyncio.to_thread(served.remember)  # where an older keeper has started it
         try:
             await asyncio.to_thread(served.open)  # it may have been closed in its earlier life
@@ -214,7 +294,9 @@ class Beginning:
             return await asyncio.to_thread(served.was_written)
         except PagelogError as error:
             self._say(f"the service does not answer its keeper: {error}")
-            served.went_back = process.seen.generation > 0  # PostgreSQL had it: it may be the only copy
+            served.went_back = (
+                process.seen.generation > 0
+            )  # PostgreSQL had it: it may be the only copy
             return False
 
     async def _put_away(self, served: Served, process: Run) -> None:

@@ -22,8 +22,13 @@ def branch(referee: Referee, row: Row, position: int, name: str, table: str | No
     What the store has is shared, row by row, and not read: so it takes as long for a large database as for a small one. Raises
     `KeeperError` where the position is pruned meanwhile.
     """
-    values = {"base": Bases(referee, row.id).newest(position).position, "chain": chain_at(referee, row, position), "read_only": False,
-              "table": table, "secret": secrets.token_bytes(16)}  # fmt: skip
+    values = {
+        "base": Bases(referee, row.id).newest(position).position,
+        "chain": chain_at(referee, row, position),
+        "read_only": False,
+        "table": table,
+        "secret": secrets.token_bytes(16),
+    }
     return made_at(referee, row, position, name, values)
 
 

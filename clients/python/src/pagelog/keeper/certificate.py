@@ -68,7 +68,10 @@ class Pair:
 
     def is_for(self, host: str) -> bool:
         """Whether who asks for this host takes it."""
-        return any(fnmatchcase(host.lower(), known.lower()) and host.count(".") == known.count(".") for known in self.hosts)
+        return any(
+            fnmatchcase(host.lower(), known.lower()) and host.count(".") == known.count(".")
+            for known in self.hosts
+        )
 
 
 @dataclass(frozen=True)
@@ -82,9 +85,13 @@ class Authorities:
         """Raises `CertificateError`."""
         try:
             pem = file.read_bytes()
-            ssl.SSLContext(ssl.PROTOCOL_TLS_CLIENT).load_verify_locations(cadata=pem.decode("ascii"))
+            ssl.SSLContext(ssl.PROTOCOL_TLS_CLIENT).load_verify_locations(
+                cadata=pem.decode("ascii")
+            )
         except (OSError, ValueError) as error:
-            raise CertificateError(f"{file}: no certificates of authorities: {getattr(error, 'strerror', None) or error}") from error
+            raise CertificateError(
+                f"{file}: no certificates of authorities: {getattr(error, 'strerror', None) or error}"
+            ) from error
         return cls(pem)
 
 
@@ -139,8 +146,12 @@ class Shown:
         """From now on this one."""
         self._newest = context_of(pair.pem)
 
-    def _choose(self, line: ssl.SSLSocket | ssl.SSLObject, name: str | None, context: ssl.SSLContext) -> None:
-        line.context = self._newest  # to load another into a context that is in use would be seen half
+    def _choose(
+        self, line: ssl.SSLSocket | ssl.SSLObject, name: str | None, context: ssl.SSLContext
+    ) -> None:
+        line.context = (
+            self._newest
+        )  # to load another into a context that is in use would be seen half
 
 
 class ShownFile(Shown):
@@ -152,7 +163,9 @@ class ShownFile(Shown):
         self._file = Watched(file, Pair)
         self.renew(self._file.read())
 
-    def _choose(self, line: ssl.SSLSocket | ssl.SSLObject, name: str | None, context: ssl.SSLContext) -> None:
+    def _choose(
+        self, line: ssl.SSLSocket | ssl.SSLObject, name: str | None, context: ssl.SSLContext
+    ) -> None:
         try:
             if self._file.changed() and self._file.now is not None:
                 self.renew(self._file.now)
@@ -166,7 +179,9 @@ def context_of(pem: bytes) -> ssl.SSLContext:
     made = ssl.SSLContext(ssl.PROTOCOL_TLS_SERVER)
     made.minimum_version = ssl.TLSVersion.TLSv1_3
     with in_memory(pem) as descriptor:
-        made.load_cert_chain(path_of(descriptor), password=lambda: "")  # else it would ask at the terminal
+        made.load_cert_chain(
+            path_of(descriptor), password=lambda: ""
+        )  # else it would ask at the terminal
     return made
 
 
@@ -190,7 +205,9 @@ def _parsed(pem: bytes) -> x509.Certificate:
     try:
         from cryptography import x509  # who needs no certificate needs no such package
     except ImportError as error:
-        raise CertificateError("certificates cannot be read: apt-get install python3-cryptography") from error
+        raise CertificateError(
+            "certificates cannot be read: apt-get install python3-cryptography"
+        ) from error
     return x509.load_pem_x509_certificate(pem)
 
 
@@ -201,4 +218,9 @@ def _hosts(found: x509.Certificate) -> frozenset[str]:
         names = found.extensions.get_extension_for_class(x509.SubjectAlternativeName).value
     except x509.ExtensionNotFound:
         return frozenset()
-    return frozenset([*names.get_values_for_type(x509.DNSName), *map(str, names.get_values_for_type(x509.IPAddress))])
+    return frozenset(
+        [
+            *names.get_values_for_type(x509.DNSName),
+            *map(str, names.get_values_for_type(x509.IPAddress)),
+        ]
+    )

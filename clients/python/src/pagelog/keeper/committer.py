@@ -40,9 +40,16 @@ class Committer:
     by a statement that writes, for as long as that takes.
     """
 
-    def __init__(self, session: Session, idle: float, say: Callable[[str], None] = _nothing, beside: Session | None = None) -> None:
+    def __init__(
+        self,
+        session: Session,
+        idle: float,
+        say: Callable[[str], None] = _nothing,
+        beside: Session | None = None,
+    ) -> None:
         """Without a batch for `idle` seconds the connection is closed. What PostgreSQL refuses is said, once a minute. `beside` is connected in
-        any case, and keeps what is small while the connection is made, which may take longer than a whole switchover."""
+        any case, and keeps what is small while the connection is made, which may take longer than a whole switchover.
+        """
         self._session, self._beside = session, beside
         self._repeats = Repeats(lambda _, sentence: say(sentence))
         self._idle = idle
@@ -99,18 +106,27 @@ class Committer:
                 continue
             try:
                 kept = await self._keep([due.batch for due in batches])
-            except Exception as error:  # also what nobody expected: it ends the connection, and nothing else
+            except (
+                Exception
+            ) as error:  # also what nobody expected: it ends the connection, and nothing else
                 await self._failed(error)
                 kept = frozenset()
             for due in batches:
                 if due.batch.log in kept:
-                    self._answer(due, Kept(due.batch.new, due.batch.chain, due.batch.generation, is_told=True))
+                    self._answer(
+                        due,
+                        Kept(due.batch.new, due.batch.chain, due.batch.generation, is_told=True),
+                    )
                 else:  # beside what comes next: a row that is locked holds up no other database
                     self._begin_look_up(due)
 
     async def _keep(self, batches: Sequence[Batch]) -> frozenset[int]:
         is_there = self._session.referee.descriptor is not None and not self._warming
-        if self._beside is None or is_there or sum(len(block) for batch in batches for block in batch.blocks) > SMALL:
+        if (
+            self._beside is None
+            or is_there
+            or sum(len(block) for batch in batches for block in batch.blocks) > SMALL
+        ):
             return await self._session.keep(batches)
         if not self._warming:
             warming = asyncio.create_task(self.warm())
@@ -173,7 +189,11 @@ class Committer:
 
     def _looked_up(self, due: _Due, looking: asyncio.Task[None]) -> None:
         self._looking.discard(looking)
-        if not looking.cancelled() and (error := looking.exception()) is not None and not due.future.done():
+        if (
+            not looking.cancelled()
+            and (error := looking.exception()) is not None
+            and not due.future.done()
+        ):
             due.future.set_exception(error)
 
     def _answer(self, due: _Due, kept: Kept) -> None:

@@ -13,7 +13,20 @@ from pagelog.keeper.fates import Moves
 from pagelog.keeper.fate import Of
 from pagelog.keeper.haproxy import FrontError
 from pagelog.keeper.lines import Line, of_word
-from pagelog.keeper.machine import Action, Decision, Facts, Kind, Own, Rival, State, Stillness, decide, is_only_copy, state_of, went_back
+from pagelog.keeper.machine import (
+    Action,
+    Decision,
+    Facts,
+    Kind,
+    Own,
+    Rival,
+    State,
+    Stillness,
+    decide,
+    is_only_copy,
+    state_of,
+    went_back,
+)
 from pagelog.keeper.referee import Away, Doubt, KeeperError, Refused
 from pagelog.keeper.rows import Row, StandbyRow
 from pagelog.keeper.run import Seen, is_there
@@ -75,7 +88,9 @@ class Database:
         self._noted, self._noted_at = Seen(), float("-inf")
         self._known: tuple[str, str | None, bool] | None = None
         """Whether PostgreSQL knew this run, when it named that one."""
-        self._rest, self._rests = shared.settings.ttl, Backoff(shared.settings.ttl, max(LONGEST_REST, shared.settings.ttl))
+        self._rest, self._rests = shared.settings.ttl, Backoff(
+            shared.settings.ttl, max(LONGEST_REST, shared.settings.ttl)
+        )
         self._still = Stillness(shared.settings.ttl)
         self._acting: asyncio.Task[None] | None = None
         self._news = False
@@ -88,8 +103,17 @@ class Database:
 
     # Facts.
 
-    def see(self, row: Row, beat: int | None, others: tuple[StandbyRow, ...], *, is_noted: bool, began: float,
-            reports: Mapping[str, Mapping[str, Any]] = {}, rose: float = float("-inf")) -> None:  # fmt: skip
+    def see(
+        self,
+        row: Row,
+        beat: int | None,
+        others: tuple[StandbyRow, ...],
+        *,
+        is_noted: bool,
+        began: float,
+        reports: Mapping[str, Mapping[str, Any]] = {},
+        rose: float = float("-inf"),
+    ) -> None:
         """What a look has shown that began then. `beat` is the holder's, which was last seen to rise when it `rose`, and `is_noted` is of
         a standby of this keeper. `reports` are what the other keepers that are alive say of it."""
         if began <= self._switched_at:
@@ -98,29 +122,61 @@ class Database:
             self._ends.clear()  # PostgreSQL went back
         if (row.generation, row.archived) < (self.row.generation, self._confirmed):
             self._seen_back_at = seconds()
-        self.row, self.beat, self._others, self.is_noted, self.is_known = row, beat, others, is_noted, True
+        self.row, self.beat, self._others, self.is_noted, self.is_known = (
+            row,
+            beat,
+            others,
+            is_noted,
+            True,
+        )
         self._reports, self._rose = reports, rose
         self._confirmed = row.archived
         if self.served is not None and not is_noted:
             self.served.is_noted = False  # PostgreSQL has lost that
-        self.still_for = self._still.see((row.generation, row.run, row.archived, row.wanted, beat), seconds())
+        self.still_for = self._still.see(
+            (row.generation, row.run, row.archived, row.wanted, beat), seconds()
+        )
         self.beginning.see(seconds())
         served, archiver = self._seen_service(), self.work.archiver
         self._see_whether_it_went_back()
-        if self.served is not None and 0 < self.served.generation <= row.doubted and self.served.is_told_by_number:
+        if (
+            self.served is not None
+            and 0 < self.served.generation <= row.doubted
+            and self.served.is_told_by_number
+        ):
             self.served.is_told_by_number = False
             self.work.leave_quick_way()
-            self.shared.say(row.name, f"number {row.doubted} of its generations was given twice: clients of version 1 are told nothing of it")
-        is_idle = self.doing is Action.NOTHING  # else what is done now has the archiver, and its turn
-        if served is not None and archiver is not None and archiver.may_begin_again and self.holds and served.is_alive and is_idle:
+            self.shared.say(
+                row.name,
+                f"number {row.doubted} of its generations was given twice: clients of version 1 are told nothing of it",
+            )
+        is_idle = (
+            self.doing is Action.NOTHING
+        )  # else what is done now has the archiver, and its turn
+        if (
+            served is not None
+            and archiver is not None
+            and archiver.may_begin_again
+            and self.holds
+            and served.is_alive
+            and is_idle
+        ):
             self.work.begin(row, served)  # it was told that it is fenced, and is not
         if served is not None and self.holds and row.address is not None:
             self.succession.tend()
-        if served is not None and served.kind is Kind.STANDBY and row.wanted in ("*", self.shared.settings.name):
+        if (
+            served is not None
+            and served.kind is Kind.STANDBY
+            and row.wanted in ("*", self.shared.settings.name)
+        ):
             self.shared.spawn(self.shared.committer.warm(), row.name)
         self.note_seen()
         self._see_way(row)
-        if self.served is not None and self.served.table_number > row.table_number and self.served.identity == row.identity:
+        if (
+            self.served is not None
+            and self.served.table_number > row.table_number
+            and self.served.identity == row.identity
+        ):
             self.shared.spawn(self._put_table_back(self.served), row.name)
         self.kick()
 
@@ -128,8 +184,13 @@ class Database:
         """PostgreSQL went back to an older table than that of a service that is here, so that tokens would be good again which were
         changed; or the look is older than the change."""
         with suppress(KeeperError):  # the next look shows it again
-            if await self.shared.ask(self.shared.referee.put_table_back, self.row.id, served.identity, served.table):
-                self.shared.say(self.row.name, f"PostgreSQL has forgotten table {served.table_number}: it is put back")
+            if await self.shared.ask(
+                self.shared.referee.put_table_back, self.row.id, served.identity, served.table
+            ):
+                self.shared.say(
+                    self.row.name,
+                    f"PostgreSQL has forgotten table {served.table_number}: it is put back",
+                )
 
     def note_seen(self) -> None:
         """Notes what PostgreSQL has of the run that is held here, at most once in a ttl: a later life knows by that whether it went back."""
@@ -137,9 +198,14 @@ class Database:
         if served is None or served.process is None or not self.holds:
             return
         seen = Seen(served.generation, self.row.archived)
-        if seen != self._noted and (seen.generation != self._noted.generation or seconds() - self._noted_at >= self.shared.settings.ttl):
+        if seen != self._noted and (
+            seen.generation != self._noted.generation
+            or seconds() - self._noted_at >= self.shared.settings.ttl
+        ):
             self._noted, self._noted_at = seen, seconds()
-            with suppress(OSError):  # what a full disk takes away is that a later life may not see that PostgreSQL went back
+            with suppress(
+                OSError
+            ):  # what a full disk takes away is that a later life may not see that PostgreSQL went back
                 served.process.note_seen(seen)
 
     def _seen_service(self) -> Served | None:
@@ -164,7 +230,9 @@ class Database:
         if own is None or served is None:
             return
         if not served.is_apart and (archiver is None or not archiver.is_stuck):
-            if self.is_known and (row.run == own.run or (row.archived, row.chain) == (served.reached, served.chain)):
+            if self.is_known and (
+                row.run == own.run or (row.archived, row.chain) == (served.reached, served.chain)
+            ):
                 served.went_back = False
             elif went_back(row if self.is_known else None, own):
                 served.went_back = True
@@ -175,11 +243,30 @@ class Database:
         if served is None:
             return None
         share = served.share(settings.program.audit, settings.memory)
-        is_known = self._known[2] if self._known is not None and self._known[:2] == (served.run, self.row.run) else None
+        is_known = (
+            self._known[2]
+            if self._known is not None and self._known[:2] == (served.run, self.row.run)
+            else None
+        )
         back_for = 0.0 if served.back_since is None else seconds() - served.back_since
-        return Own(served.run, served.kind, served.generation, served.reached, served.is_alive, served.silent, share, served.went_back,
-                   served.is_open, served.was_closed, served.is_full and self._may_be_asked_for_more, is_known, served.is_apart,
-                   back_for, served.table_number, served.unreached)  # fmt: skip
+        return Own(
+            run=served.run,
+            kind=served.kind,
+            generation=served.generation,
+            reached=served.reached,
+            alive=served.is_alive,
+            silent=served.silent,
+            share=share,
+            went_back=served.went_back,
+            is_open=served.is_open,
+            was_closed=served.was_closed,
+            is_full=served.is_full and self._may_be_asked_for_more,
+            is_known=is_known,
+            is_apart=served.is_apart,
+            back_for=back_for,
+            table_number=served.table_number,
+            unreached=served.unreached,
+        )
 
     @property
     def _may_be_asked_for_more(self) -> bool:
@@ -191,11 +278,30 @@ class Database:
         settings, own = self.shared.settings, self._own()
         # Also where another keeper has failed at a later one meanwhile: two that fail would go on by turns without a rest.
         front = self.shared.front
-        is_unreached = front is not None and not front.tls.plain and front.away > 0  # what it would fill nobody could come to
+        is_unreached = (
+            front is not None and not front.tls.plain and front.away > 0
+        )  # what it would fill nobody could come to
         failed = self.row.generation if seconds() - self._failed_at < self._rest else -1
-        return Facts(settings.name, settings.ttl, self.row if self.is_known else None, own, self.still_for, self._others,
-                     self.is_noted, settings.standby, self.shared.ending, self.let_go, failed, self._rest, settings.succeed or 1.0,
-                     self.succession.stage, self._rival(), self._further(), self._settles(), is_unreached)  # fmt: skip
+        return Facts(
+            me=settings.name,
+            ttl=settings.ttl,
+            row=self.row if self.is_known else None,
+            own=own,
+            still=self.still_for,
+            others=self._others,
+            is_noted=self.is_noted,
+            stands_by=settings.standby,
+            ending=self.shared.ending,
+            let_go=self.let_go,
+            failed=failed,
+            rest=self._rest,
+            succeed_at=settings.succeed or 1.0,
+            successor=self.succession.stage,
+            rival=self._rival(),
+            further=self._further(),
+            settles=self._settles(),
+            is_unreached=is_unreached,
+        )
 
     # What others have, where PostgreSQL went back.
 
@@ -205,35 +311,62 @@ class Database:
         if row.run is None or self.holds:
             return Rival.NOT_KNOWN
         if row.holder == settings.name:
-            return Rival.LIVES if is_there(settings.program.folder, row.name, row.run) else Rival.GONE
+            return (
+                Rival.LIVES if is_there(settings.program.folder, row.name, row.run) else Rival.GONE
+            )
         # What a PostgreSQL that went back has of a report is of before: who lives says so anew.
-        if self.served is None or self.served.back_since is None or self._rose <= self.served.back_since:
+        if (
+            self.served is None
+            or self.served.back_since is None
+            or self._rose <= self.served.back_since
+        ):
             return Rival.SILENT
-        return Rival.LIVES if self._reports.get(row.holder or "", {}).get("run") == row.run else Rival.NOT_KNOWN
+        return (
+            Rival.LIVES
+            if self._reports.get(row.holder or "", {}).get("run") == row.run
+            else Rival.NOT_KNOWN
+        )
 
     def _further(self) -> str | None:
         """A keeper that has more of what PostgreSQL has lost than this one; of two that have as much it is the one whose name is first."""
         served, name = self.served, self.shared.settings.name
-        mine = (self.row.archived, "") if served is None else (max(served.hard, served.reached), name)
-        found = [(int(report["back"]), keeper) for keeper, report in self._reports.items() if report.get("back") is not None]
+        mine = (
+            (self.row.archived, "") if served is None else (max(served.hard, served.reached), name)
+        )
+        found = [
+            (int(report["back"]), keeper)
+            for keeper, report in self._reports.items()
+            if report.get("back") is not None
+        ]
         most = min(found, key=lambda each: (-each[0], each[1]), default=None)
         return most[1] if most is not None and (-most[0], most[1]) < (-mine[0], mine[1]) else None
 
     def _settles(self) -> bool:
         """Whether PostgreSQL went back just now, so that another keeper that is alive may have more than this one, and say so."""
-        since = max(self._seen_back_at, (self.served.back_since if self.served is not None else None) or float("-inf"))
+        since = max(
+            self._seen_back_at,
+            (self.served.back_since if self.served is not None else None) or float("-inf"),
+        )
         return bool(self._reports) and seconds() - since < self.shared.settings.ttl
 
     @property
     def back(self) -> int | None:
         """The end of the log of a run that went back with nothing: of a service that is here and may be the only copy of something."""
-        return self.served.hard if self.served is not None and self.served.back_since is not None else None
+        return (
+            self.served.hard
+            if self.served is not None and self.served.back_since is not None
+            else None
+        )
 
     @property
     def may_be_only_copy(self) -> bool:
         """Whether its service may have what PostgreSQL has lost."""
         own = self._own()
-        return own is not None and own.alive and (own.went_back or went_back(self.row if self.is_known else None, own))
+        return (
+            own is not None
+            and own.alive
+            and (own.went_back or went_back(self.row if self.is_known else None, own))
+        )
 
     @property
     def state(self) -> State:
@@ -248,20 +381,36 @@ class Database:
     @property
     def follows(self) -> int | None:
         """How far a standby of this keeper is, of what a statement that wrote has shown to be archived; None where it has none."""
-        return None if self.served is None or self.holds else min(self.served.reached, self._confirmed)
+        return (
+            None if self.served is None or self.holds else min(self.served.reached, self._confirmed)
+        )
 
     def has_noted(self, standby: StandbyRow) -> bool:
         """Whether this standby is noted of this keeper, and is the one that is here, if there is one: PostgreSQL may have gone back to
         another."""
-        is_other = self.served is not None and self.served.kind is Kind.STANDBY and self.served.run != standby.run
-        is_elsewhere = self.served is not None and self.served.process is not None and self.served.where.secure != standby.secure
+        is_other = (
+            self.served is not None
+            and self.served.kind is Kind.STANDBY
+            and self.served.run != standby.run
+        )
+        is_elsewhere = (
+            self.served is not None
+            and self.served.process is not None
+            and self.served.where.secure != standby.secure
+        )
         return standby.keeper == self.shared.settings.name and not is_other and not is_elsewhere
 
     @property
     def should_stand_by(self) -> bool:
         """Whether this keeper is to have a standby of it: another one has it, and serves."""
         settings, row = self.shared.settings, self.row
-        return settings.standby and self.is_known and row.address is not None and row.holder != settings.name and not self.shared.ending
+        return (
+            settings.standby
+            and self.is_known
+            and row.address is not None
+            and row.holder != settings.name
+            and not self.shared.ending
+        )
 
     @property
     def is_moving(self) -> bool:
@@ -283,7 +432,11 @@ class Database:
     @property
     def is_at_rest(self) -> bool:
         """Whether this keeper has no service of it, none of an earlier life either, and does nothing about it."""
-        is_mine = self.is_known and self.row.run is not None and self.row.holder == self.shared.settings.name
+        is_mine = (
+            self.is_known
+            and self.row.run is not None
+            and self.row.holder == self.shared.settings.name
+        )
         return self.served is None and not is_mine and (self._acting is None or self._acting.done())
 
     # Acting.
@@ -348,14 +501,18 @@ class Database:
                 self.succession.prepare()
                 return False
             case Action.SUCCEED:
-                return self.work.archiver is not None and await self.succession.switch(self.work.archiver)
+                return self.work.archiver is not None and await self.succession.switch(
+                    self.work.archiver
+                )
             case Action.LOOK_UP:
                 return await self._look_up()
             case Action.CONTINUE:
                 return await self.beginning.continue_run()
             case Action.UNWISH:
                 me = self.shared.settings.name
-                await self.shared.ask(lambda: self.shared.referee.wish(self.row.name, None, instead_of=me))
+                await self.shared.ask(
+                    lambda: self.shared.referee.wish(self.row.name, None, instead_of=me)
+                )
                 return False
             case _:
                 return await self.standing.follow()
@@ -372,8 +529,20 @@ class Database:
     async def new_served(self, run: str) -> Served:
         """What is to be the service of this run."""
         text, secret, number, _ = await self.shared.ask(self.shared.referee.table, self.row.id)
-        made = Served(self.row.name, run, text, secret, timeout=self.shared.settings.ttl, is_read_only=self.row.read_only, table_number=number)
-        made.identity, made.ancestor, made.front = self.row.identity, self.row.ancestor, self.shared.front
+        made = Served(
+            self.row.name,
+            run,
+            text,
+            secret,
+            timeout=self.shared.settings.ttl,
+            is_read_only=self.row.read_only,
+            table_number=number,
+        )
+        made.identity, made.ancestor, made.front = (
+            self.row.identity,
+            self.row.ancestor,
+            self.shared.front,
+        )
         return made
 
     async def lead(self, served: Served) -> None:
@@ -386,7 +555,13 @@ class Database:
     def _see_way(self, row: Row) -> None:
         """Publishes another way to its service, as of a front that had to take another port."""
         served = self.served
-        if served is None or served.process is None or not self.holds or row.address is None or self.doing is not Action.NOTHING:
+        if (
+            served is None
+            or served.process is None
+            or not self.holds
+            or row.address is None
+            or self.doing is not Action.NOTHING
+        ):
             return
         if served.where.secure != row.secure and served.is_open:
             self.shared.spawn(self._publish_way(served), row.name)
@@ -394,7 +569,9 @@ class Database:
     async def _publish_way(self, served: Served) -> None:
         with suppress(KeeperError):  # the next look shows it again
             if self.holds and self.served is served and served.process is not None:
-                await self.shared.ask(self.shared.referee.publish, self.row.id, served.run, served.where)
+                await self.shared.ask(
+                    self.shared.referee.publish, self.row.id, served.run, served.where
+                )
 
     async def filled(self, served: Served, archived: int, chain: bytes) -> None:
         """Fills it with what it lacks of the archive, up to this position."""
@@ -412,18 +589,36 @@ class Database:
 
     async def goes_on(self, successor: Served, switch: Switch) -> None:
         """The next generation has begun: what is asked of the one before is over, and its service is ended."""
-        before, name, generation, recorder = self.own, self.row.name, switch.next, self.work.recorder
+        before, name, generation, recorder = (
+            self.own,
+            self.row.name,
+            switch.next,
+            self.work.recorder,
+        )
         self._switched_at = seconds()
         self.leaving.add(before.run)
         self.work.stop()
         successor.kind, successor.generation, self.served = Kind.HOLDER, generation, successor
-        self.row = replace(self.row, generation=generation, run=successor.run, address=switch.address, secure=switch.secure, base=switch.end,
-                           archived=switch.end, shift=switch.shift, images=switch.images, chain=switch.chain, succeed=False,
-                           run_table=successor.table_number,
-                           next_generation=max(self.row.next_generation, generation + 1))  # fmt: skip
+        self.row = replace(
+            self.row,
+            generation=generation,
+            run=successor.run,
+            address=switch.address,
+            secure=switch.secure,
+            base=switch.end,
+            archived=switch.end,
+            shift=switch.shift,
+            images=switch.images,
+            chain=switch.chain,
+            succeed=False,
+            run_table=successor.table_number,
+            next_generation=max(self.row.next_generation, generation + 1),
+        )
         self.after, self.before = (generation, before.run), (before.generation, before.run)
         self.has_ended(before.run, switch.end)
-        self.shared.numbers.note(self.row.identity, generation)  # before a look shows it: a server that fails over may forget it
+        self.shared.numbers.note(
+            self.row.identity, generation
+        )  # before a look shows it: a server that fails over may forget it
         self.watch(successor)
         successor.note_place()
         self.note_seen()
@@ -482,11 +677,19 @@ class Database:
         """Answers `durable`, at once or later. An older client names no run: a number that two may have had tells it nothing."""
         served = self.served
         is_of_another = of is not None and served is not None and of != self.of(served)
-        if served is None or not self.holds or generation != served.generation or is_of_another or (of is None and not served.is_told_by_number):
+        if (
+            served is None
+            or not self.holds
+            or generation != served.generation
+            or is_of_another
+            or (of is None and not served.is_told_by_number)
+        ):
             if of is not None and of.run in self._ends:
                 line.say("over", self.row.name, generation, self._ends[of.run], *of_word(of))
             else:
-                self.shared.spawn(self.shared.tell_fate(line, self.row.name, generation, of, self), self.row.name)
+                self.shared.spawn(
+                    self.shared.tell_fate(line, self.row.name, generation, of, self), self.row.name
+                )
             return
         self.waits.of = self.of(served)
         if position <= served.reached:

@@ -40,7 +40,9 @@ class Seal:
         """By the key of a keeper's folder; None where it has none. Raises `OSError`."""
         with suppress(FileNotFoundError):
             key = (folder / _FILE).read_bytes()
-            return cls(key, run) if len(key) == _KEY else None  # a machine that died has left an empty one
+            return (
+                cls(key, run) if len(key) == _KEY else None
+            )  # a machine that died has left an empty one
         return None
 
     @classmethod
@@ -100,7 +102,9 @@ class Definition:
         if newest is None:
             return None
         found: dict[str, Any] = json.loads(newest[1])
-        return cls(found["identity"], found["text"], bytes.fromhex(found["secret"]), found["ancestor"])
+        return cls(
+            found["identity"], found["text"], bytes.fromhex(found["secret"]), found["ancestor"]
+        )
 
 
 def _found(memory: int, seal: Seal) -> list[tuple[int, bytes]]:

@@ -99,7 +99,10 @@ class Ending:
         await self._ended(served)
         for line in database.waits.taken():
             of = database.of(served) if line.version > 1 else None
-            self._shared.spawn(self._shared.tell_fate(line, database.row.name, served.generation, of), database.row.name)
+            self._shared.spawn(
+                self._shared.tell_fate(line, database.row.name, served.generation, of),
+                database.row.name,
+            )
         return await database.standing.stand_down() if served.kind is Kind.STANDBY else True
 
     async def _ended(self, served: Served) -> None:
@@ -126,8 +129,10 @@ class Ending:
             if not await asyncio.to_thread(process.end):
                 self._say(f"process {process.facts.pid} was killed, and does not end")
             return
-        self._say(f"the service of run {served.run}, process {process.facts.pid} at {process.address}, may be the only copy of its log: "
-                  "it is set aside")  # fmt: skip
+        self._say(
+            f"the service of run {served.run}, process {process.facts.pid} at {process.address}, may be the only copy of its log: "
+            "it is set aside"
+        )
         await self._close(served)
         while not await self._is_set_aside(process, served):
             await asyncio.sleep(self._shared.settings.ttl)
@@ -138,15 +143,22 @@ class Ending:
         try:
             await asyncio.to_thread(served.close)
         except PagelogError as error:
-            self._say(f"the service that is set aside could not be closed, so that clients may still write to it: {error}")
+            self._say(
+                f"the service that is set aside could not be closed, so that clients may still write to it: {error}"
+            )
 
     async def _is_set_aside(self, process: Run, served: Served) -> bool:
         """Whether that is noted: what is not noted is ended by the next life of this keeper."""
         try:
-            await asyncio.to_thread(process.note_seen, Seen(served.generation, max(served.reached, process.seen.archived)))
+            await asyncio.to_thread(
+                process.note_seen,
+                Seen(served.generation, max(served.reached, process.seen.archived)),
+            )
             await asyncio.to_thread(process.set_aside, served.shift, served.images)
         except OSError as error:
-            self._shared.repeats.say(self._database.row.name, f"it could not be noted that it is set aside: {error}")
+            self._shared.repeats.say(
+                self._database.row.name, f"it could not be noted that it is set aside: {error}"
+            )
             return False
         return True
 

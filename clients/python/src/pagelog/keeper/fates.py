@@ -51,7 +51,11 @@ class Questions:
     def __init__(self, session: Session, each: int = EACH_FATE) -> None:
         """`each` is how many one connection may have under way."""
         self.referee = session.referee
-        self._session, self._turns, self._quota = session, asyncio.Semaphore(_AT_ONCE), Quota(each, _MOST)
+        self._session, self._turns, self._quota = (
+            session,
+            asyncio.Semaphore(_AT_ONCE),
+            Quota(each, _MOST),
+        )
         self._askers = Quota(EACH_ASKER, _MOST)
         self._beside = asyncio.Semaphore(_BESIDE)
 
@@ -66,7 +70,9 @@ class Questions:
             async with self._turns:
                 return await self._session.ask(call, *arguments)
 
-    async def ask_beside(self, line: Line, asker: Asker, call: Callable[..., Any], *arguments: Any) -> Any:
+    async def ask_beside(
+        self, line: Line, asker: Asker, call: Callable[..., Any], *arguments: Any
+    ) -> Any:
         """The same of a call that asks nothing over the connection of the looks, and may take long."""
         with self._place(line, asker):
             async with self._beside:
@@ -87,7 +93,14 @@ class Questions:
             self._quota.release(line)
 
 
-async def tell_fate(questions: Questions, line: Line, name: str, generation: int, of: Of | None = None, asker: Asker = None) -> None:
+async def tell_fate(
+    questions: Questions,
+    line: Line,
+    name: str,
+    generation: int,
+    of: Of | None = None,
+    asker: Asker = None,
+) -> None:
     """What became of a generation that is not this keeper's: by a statement that writes, as its end is final."""
     try:
         fate = await questions.ask(line, asker, _fate, questions.referee, name, generation, of)
@@ -104,15 +117,28 @@ async def tell_fate(questions: Questions, line: Line, name: str, generation: int
 
 def _fate(referee: Referee, name: str, generation: int, of: Of | None) -> Fate:
     """An older client says a number alone, which is enough where one run has had it."""
-    return Fate(end=referee.fate(name, generation)) if of is None else referee.fate_of(name, generation, of)
+    return (
+        Fate(end=referee.fate(name, generation))
+        if of is None
+        else referee.fate_of(name, generation, of)
+    )
 
 
-async def tell_block(questions: Questions, line: Line, name: str, position: int, of: Of | None = None, asker: Asker = None) -> None:
+async def tell_block(
+    questions: Questions,
+    line: Line,
+    name: str,
+    position: int,
+    of: Of | None = None,
+    asker: Asker = None,
+) -> None:
     """Says which block the archive has at a position; `elsewhere` where PostgreSQL does not answer, or the client asks too much at once."""
     try:
         found = await questions.ask(line, asker, _block, questions.referee, name, position, of)
         if isinstance(found, int):
-            found = await questions.ask_beside(line, asker, _stored_block, questions.referee.another(), found, position)
+            found = await questions.ask_beside(
+                line, asker, _stored_block, questions.referee.another(), found, position
+            )
     except BrokenArchive:
         found = None
     except KeeperError:
@@ -123,10 +149,15 @@ async def tell_block(questions: Questions, line: Line, name: str, position: int,
 def _block(referee: Referee, name: str, position: int, of: Of | None) -> str | int | None:
     """By a statement that writes: a server that was cut off may have another block there. The id of the database where the store has it."""
     database = None if of is None else of.database
-    found = referee._ask(statements.BLOCK, {"me": referee.me, "name": name, "database": database, "position": position})
+    found = referee._ask(
+        statements.BLOCK,
+        {"me": referee.me, "name": name, "database": database, "position": position},
+    )
     if found:
         return str(found[0][0])
-    stored = referee._ask(statements.STORED_BLOCK, {"name": name, "database": database, "position": position})
+    stored = referee._ask(
+        statements.STORED_BLOCK, {"name": name, "database": database, "position": position}
+    )
     return int(stored[0][0]) if stored else None
 
 

@@ -111,13 +111,20 @@ class Front:
         """The address of a run; None where no port leads there."""
         led = self._led.get(run)
         is_led = led is not None and led.port != 0 and self._process is not None
-        return str(Address(self.tls.host.strip("[]"), led.port)) if is_led and led is not None else None
+        return (
+            str(Address(self.tls.host.strip("[]"), led.port))
+            if is_led and led is not None
+            else None
+        )
 
     def serve(self, run: str, address: str, owner: str) -> None:
         """Leads a port to a run's service, after it has seen that the front answers there. Where that cannot be done now, `tend` does it.
         Raises `FrontError`."""
         with self._lock:
-            if (known := self._led.get(run)) is None or (known.address, known.owner) != (address, owner):
+            if (known := self._led.get(run)) is None or (known.address, known.owner) != (
+                address,
+                owner,
+            ):
                 self._led[run] = Led(address, owner, 0 if known is None else known.port)
             elif known.port and self._process is not None:
                 return
@@ -197,7 +204,9 @@ class Front:
         try:
             self._process.ask("show version")
         except FrontError as error:
-            self._say(f"the front, process {self._process.process.facts.pid}, {'hangs' if self._process.process.is_alive else 'has ended'}: {error}")
+            self._say(
+                f"the front, process {self._process.process.facts.pid}, {'hangs' if self._process.process.is_alive else 'has ended'}: {error}"
+            )
             self._process.process.end()
             self._gone()
 
@@ -223,8 +232,14 @@ class Front:
             if (noted["run"], noted["form"]) != (left.name, self.tls.form):
                 return False
             process = Haproxy(self._folder, left, noted["certificate"], noted["authorities"])
-            ports, hosts, owners = (process.shown(name) if name in self._maps else {} for name in MAPS)
-            runs = {_numeric(facts.address): facts for facts in services_of(self._folder) if not facts.kept and facts.address is not None}
+            ports, hosts, owners = (
+                process.shown(name) if name in self._maps else {} for name in MAPS
+            )
+            runs = {
+                _numeric(facts.address): facts
+                for facts in services_of(self._folder)
+                if not facts.kept and facts.address is not None
+            }
             for port in ports:
                 facts = runs.get((hosts[port], ports[port]))
                 if facts is None:
@@ -245,7 +260,10 @@ class Front:
 
     def _start(self) -> None:
         """With the ports that it had before, as far as they can be had: a run whose port is another program's by now gets another."""
-        pair, authorities = self.certificate.read(), None if self._authorities is None else self._authorities.read()
+        pair, authorities = (
+            self.certificate.read(),
+            None if self._authorities is None else self._authorities.read(),
+        )
         with ExitStack() as stack:
             host, _, number = self.tls.lines.rpartition(":")
             lines = stack.enter_context(_bound(host, int(number)))
@@ -258,8 +276,22 @@ class Front:
             if not ports:
                 raise FrontError(f"none of its ports at {self.tls.host} can be had")
             self._settle(list(ports))
-            maps = {name: {led.port: value for led in self._led.values() if led.port and (value := self._value(name, led))} for name in MAPS}
-            process = Haproxy.start(self._folder, list(ports.values()), lines, pair.pem, b"" if authorities is None else authorities.pem, maps)
+            maps = {
+                name: {
+                    led.port: value
+                    for led in self._led.values()
+                    if led.port and (value := self._value(name, led))
+                }
+                for name in MAPS
+            }
+            process = Haproxy.start(
+                self._folder,
+                list(ports.values()),
+                lines,
+                pair.pem,
+                b"" if authorities is None else authorities.pem,
+                maps,
+            )
         self._process, self._in_force = process, (pair, authorities)
         try:
             self._check(int(number), host)
@@ -268,7 +300,9 @@ class Front:
             self._gone()
             raise
         self._note(list(ports))
-        self._say(f"the front is process {process.process.facts.pid}, with {len(ports)} ports; its certificate ends at {_time(pair.ends)}")
+        self._say(
+            f"the front is process {process.process.facts.pid}, with {len(ports)} ports; its certificate ends at {_time(pair.ends)}"
+        )
 
     def _known_ports(self) -> list[int]:
         """Those that runs have, and those of an earlier front."""
@@ -276,7 +310,11 @@ class Front:
             noted = [int(port) for port in json.loads(self._state.read_text())["ports"]]
         except (OSError, ValueError, KeyError, TypeError):
             noted = []
-        return [*(led.port for led in self._led.values() if led.port), *self._free, *(noted if isinstance(self.tls.ports, int) else ())]
+        return [
+            *(led.port for led in self._led.values() if led.port),
+            *self._free,
+            *(noted if isinstance(self.tls.ports, int) else ()),
+        ]
 
     def _settle(self, ports: list[int]) -> None:
         free = deque(port for port in self._free if port in ports)
@@ -293,14 +331,23 @@ class Front:
 
     def _note(self, ports: list[int]) -> None:
         assert self._process is not None
-        text = json.dumps({"run": self._process.process.name, "form": self.tls.form, "certificate": self._process.certificate,
-                           "authorities": self._process.authorities, "ports": ports})  # fmt: skip
+        text = json.dumps(
+            {
+                "run": self._process.process.name,
+                "form": self.tls.form,
+                "certificate": self._process.certificate,
+                "authorities": self._process.authorities,
+                "ports": ports,
+            }
+        )
         fresh = self._state.with_name("front.new")
         try:
             fresh.write_text(text)
             fresh.replace(self._state)
         except OSError as error:
-            self._say(f"the front could not be noted, so that a later life of the keeper starts another: {error}")
+            self._say(
+                f"the front could not be noted, so that a later life of the keeper starts another: {error}"
+            )
 
     # Its ports.
 
@@ -314,7 +361,10 @@ class Front:
         try:
             self._check(port, self.tls.host)
             self._process.ask(self._forget(port))
-            words = [f"add map front.{name} {port} {self._value(name, led)}" for name in reversed(self._maps)]
+            words = [
+                f"add map front.{name} {port} {self._value(name, led)}"
+                for name in reversed(self._maps)
+            ]
             self._process.tell(*words)  # last where it leads to: nobody is let through without
         except BaseException:
             self._free.append(port)
@@ -335,7 +385,9 @@ class Front:
         context = ssl.SSLContext(ssl.PROTOCOL_TLS_CLIENT)
         context.check_hostname, context.verify_mode = False, ssl.CERT_NONE
         try:
-            with socket.create_connection((host.strip("[]"), port), PATIENCE) as plain, context.wrap_socket(plain) as line:
+            with socket.create_connection(
+                (host.strip("[]"), port), PATIENCE
+            ) as plain, context.wrap_socket(plain) as line:
                 shown = line.getpeercert(binary_form=True)
         except OSError as error:
             raise FrontError(f"the front does not answer at {host}:{port}: {error}") from error
@@ -367,7 +419,9 @@ class Front:
         if process is not None and now is not None and now != pair:
             process.renew("cert", process.certificate, now.pem)
             self._in_force = now, authorities
-            self._say(f"the front has the certificate of {self.tls.file}, which ends at {_time(now.ends)}")
+            self._say(
+                f"the front has the certificate of {self.tls.file}, which ends at {_time(now.ends)}"
+            )
         if process is not None and theirs is not None and theirs != authorities:
             process.renew("ca-file", process.authorities, theirs.pem)
             self._in_force = now, theirs
@@ -392,7 +446,9 @@ def _remove(folder: Path) -> None:
 
 def _bound(host: str, port: int) -> socket.socket:
     """Who connects before the front is there waits, and is not refused. Raises `OSError`."""
-    family, kind, _, _, address = socket.getaddrinfo(host.strip("[]"), port, type=socket.SOCK_STREAM, flags=socket.AI_PASSIVE)[0]
+    family, kind, _, _, address = socket.getaddrinfo(
+        host.strip("[]"), port, type=socket.SOCK_STREAM, flags=socket.AI_PASSIVE
+    )[0]
     made = socket.socket(family, kind)
     try:
         made.setsockopt(socket.SOL_SOCKET, socket.SO_REUSEADDR, 1)
@@ -407,7 +463,9 @@ def _bound(host: str, port: int) -> socket.socket:
 def _numeric(address: str) -> tuple[str, str]:
     """The number of a host, and the port."""
     where = Address.parse(address)
-    return str(socket.getaddrinfo(where.host, where.port, type=socket.SOCK_STREAM)[0][4][0]), str(where.port)
+    return str(socket.getaddrinfo(where.host, where.port, type=socket.SOCK_STREAM)[0][4][0]), str(
+        where.port
+    )
 
 
 def _time(seconds: float) -> str:

@@ -19,8 +19,13 @@ from pagelog.keeper.ways import Way
 class FrontCare:
     """Of one keeper. `say` takes what comes again and again, and `spawn` makes a task."""
 
-    def __init__(self, tls: Tls, folder: Path, say: Callable[[str], None],
-                 spawn: Callable[[Coroutine[Any, Any, None], str], asyncio.Task[None]]) -> None:  # fmt: skip
+    def __init__(
+        self,
+        tls: Tls,
+        folder: Path,
+        say: Callable[[str], None],
+        spawn: Callable[[Coroutine[Any, Any, None], str], asyncio.Task[None]],
+    ) -> None:
         self.front = Front(tls, folder, say)
         self._folder, self._say, self._spawn = folder, say, spawn
         self._has_begun = False

@@ -40,7 +40,11 @@ class FrontedLine(Line):
             of = Of.read(keys["of"]) if "of" in keys else None
         except ValueError:
             return self.close()
-        if len(asked) > 1 and asked[0] != "hello" and not may_ask(self._answers, self.client, asked, of):
+        if (
+            len(asked) > 1
+            and asked[0] != "hello"
+            and not may_ask(self._answers, self.client, asked, of)
+        ):
             return self.say("denied", asked[1])
         super()._answer(line)
 

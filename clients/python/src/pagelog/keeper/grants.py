@@ -4,8 +4,8 @@ from __future__ import annotations
 
 from dataclasses import dataclass
 
-from pagelog.archive_postgres import PostgresEngine
-from pagelog.archive_session import statements_of
+from pagelog.archive.postgres import PostgresEngine
+from pagelog.archive.session import statements_of
 from pagelog.keeper.schema import script
 from pagelog.trail.statements import TABLES
 
@@ -35,6 +35,7 @@ RIGHTS = {
     "pagelog_object": Rights("SELECT, INSERT, UPDATE, DELETE", "SELECT"),
     "pagelog_pack": Rights("SELECT, INSERT, UPDATE, DELETE", "SELECT"),
     "pagelog_gone": Rights("SELECT, INSERT, UPDATE, DELETE", "SELECT"),
+    "pagelog_legal_hold": Rights("SELECT, INSERT, UPDATE, DELETE", "SELECT"),
     SECRETS: Rights("SELECT, UPDATE (text, secret, sealed, key)"),
     "pagelog_trail_list": Rights("SELECT, INSERT, UPDATE, DELETE", "SELECT"),
     "pagelog_trail_piece": Rights("SELECT, INSERT, UPDATE, DELETE", "SELECT"),
@@ -66,27 +67,46 @@ def grants(roles: Roles) -> str:
     may be repeated, as after each upgrade."""
     creates, keeps, looks = map(quoted, (roles.creates, roles.keeps, roles.looks))
     everyone = f"{creates}, {keeps}, {looks}"
-    return "\n".join((
-        *map(_role, (creates, keeps, looks)),
-        _of_database("REVOKE ALL ON DATABASE %I FROM PUBLIC", f"{keeps}, {looks}"),
-        _of_database(f"GRANT CONNECT ON DATABASE %I TO {everyone}"),
-        "REVOKE CREATE ON SCHEMA public FROM PUBLIC;",
-        f"GRANT USAGE, CREATE ON SCHEMA public TO {creates};",
-        f"GRANT USAGE ON SCHEMA public TO {keeps}, {looks};",
-        f"SET ROLE {creates};", f"{script(0)};", *_trails(), "RESET ROLE;",
-        *(line for table, rights in RIGHTS.items() for line in _to_table(table, rights, keeps, looks)),
-        *(f"GRANT {right} ON SEQUENCE {name} TO {keeps};" for name, right in SEQUENCES.items() if right),
-        "-- So that they see whether PostgreSQL has a synchronous standby.",
-        f"GRANT pg_read_all_stats TO {keeps}, {looks};",
-    ))  # fmt: skip
+    return "\n".join(
+        (
+            *map(_role, (creates, keeps, looks)),
+            _of_database("REVOKE ALL ON DATABASE %I FROM PUBLIC", f"{keeps}, {looks}"),
+            _of_database(f"GRANT CONNECT ON DATABASE %I TO {everyone}"),
+            "REVOKE CREATE ON SCHEMA public FROM PUBLIC;",
+            f"GRANT USAGE, CREATE ON SCHEMA public TO {creates};",
+            f"GRANT USAGE ON SCHEMA public TO {keeps}, {looks};",
+            f"SET ROLE {creates};",
+            f"{script(0)};",
+            *_trails(),
+            "RESET ROLE;",
+            *(
+                line
+                for table, rights in RIGHTS.items()
+                for line in _to_table(table, rights, keeps, looks)
+            ),
+            *(
+                f"GRANT {right} ON SEQUENCE {name} TO {keeps};"
+                for name, right in SEQUENCES.items()
+                if right
+            ),
+            "-- So that they see whether PostgreSQL has a synchronous standby.",
+            f"GRANT pg_read_all_stats TO {keeps}, {looks};",
+        )
+    )
 
 
 def _role(name: str) -> str:
-    return f"DO $$ BEGIN CREATE ROLE {name} LOGIN; EXCEPTION WHEN duplicate_object THEN NULL; END $$;"
+    return (
+        f"DO $$ BEGIN CREATE ROLE {name} LOGIN; EXCEPTION WHEN duplicate_object THEN NULL; END $$;"
+    )
 
 
 def _of_database(statement: str, revoked: str = "") -> str:
-    more = f" EXECUTE format('REVOKE ALL ON DATABASE %I FROM {revoked}', current_database());" if revoked else ""
+    more = (
+        f" EXECUTE format('REVOKE ALL ON DATABASE %I FROM {revoked}', current_database());"
+        if revoked
+        else ""
+    )
     return f"DO $$ BEGIN EXECUTE format('{statement}', current_database());{more} END $$;"
 
 
@@ -97,4 +117,8 @@ def _trails() -> list[str]:
 
 def _to_table(table: str, rights: Rights, keeps: str, looks: str) -> list[str]:
     to_looks = [f"GRANT {rights.looks} ON {table} TO {looks};"] if rights.looks else []
-    return [f"REVOKE ALL ON {table} FROM PUBLIC, {keeps}, {looks};", f"GRANT {rights.keeps} ON {table} TO {keeps};", *to_looks]
+    return [
+        f"REVOKE ALL ON {table} FROM PUBLIC, {keeps}, {looks};",
+        f"GRANT {rights.keeps} ON {table} TO {keeps};",
+        *to_looks,
+    ]

@@ -81,39 +81,85 @@ class Haproxy:
         self.certificate, self.authorities = certificate, authorities
 
     @classmethod
-    def start(cls, folder: Path, ports: Sequence[socket.socket], lines: socket.socket, pem: bytes, authorities: bytes,
-              maps: Mapping[str, Mapping[int, str]]) -> Haproxy:  # fmt: skip
+    def start(
+        cls,
+        folder: Path,
+        ports: Sequence[socket.socket],
+        lines: socket.socket,
+        pem: bytes,
+        authorities: bytes,
+        maps: Mapping[str, Mapping[int, str]],
+    ) -> Haproxy:
         """Starts it with sockets that are bound, and waits until it can be told something. It lets in who has a certificate of these
         authorities, or everybody if there are none. Raises `FrontError`."""
         for name in MAPS:
-            (folder / f"front.{name}").write_text("".join(f"{port} {value}\n" for port, value in maps[name].items()))
+            (folder / f"front.{name}").write_text(
+                "".join(f"{port} {value}\n" for port, value in maps[name].items())
+            )
         run = new_run()
         try:
             with ExitStack() as stack:
                 asked = stack.enter_context(private_socket(folder, ASKED))
                 own, theirs = (stack.enter_context(in_memory(each)) for each in (pem, authorities))
-                open_files = [asked.fileno(), own, theirs, lines.fileno(), *(each.fileno() for each in ports)]
+                open_files = [
+                    asked.fileno(),
+                    own,
+                    theirs,
+                    lines.fileno(),
+                    *(each.fileno() for each in ports),
+                ]
                 with said_in(folder, FRONT, run).open("wb") as errors:
-                    child = subprocess.Popen(["haproxy", "-db", "-f", "/dev/stdin"], stdin=subprocess.PIPE, stdout=subprocess.DEVNULL, cwd=folder,
-                                             stderr=errors, start_new_session=True, env=environment(), pass_fds=open_files)  # fmt: skip
-                made = cls(folder, Run.of_front(folder, run, child), path_of(own), path_of(theirs) if authorities else "")
+                    child = subprocess.Popen(
+                        ["haproxy", "-db", "-f", "/dev/stdin"],
+                        stdin=subprocess.PIPE,
+                        stdout=subprocess.DEVNULL,
+                        cwd=folder,
+                        stderr=errors,
+                        start_new_session=True,
+                        env=environment(),
+                        pass_fds=open_files,
+                    )
+                made = cls(
+                    folder,
+                    Run.of_front(folder, run, child),
+                    path_of(own),
+                    path_of(theirs) if authorities else "",
+                )
                 made._give(child, made._text(ports, lines, asked))
         except OSError as error:
             said_in(folder, FRONT, run).unlink(missing_ok=True)
-            reason = "haproxy is not installed: apt-get install haproxy" if isinstance(error, FileNotFoundError) else error
+            reason = (
+                "haproxy is not installed: apt-get install haproxy"
+                if isinstance(error, FileNotFoundError)
+                else error
+            )
             raise FrontError(f"it did not start: {reason}") from error
         made._wait()
         return made
 
-    def _text(self, ports: Sequence[socket.socket], lines: socket.socket, asked: socket.socket) -> str:
+    def _text(
+        self, ports: Sequence[socket.socket], lines: socket.socket, asked: socket.socket
+    ) -> str:
         limit = resource.getrlimit(resource.RLIMIT_NOFILE)[0]
         limit = _MOST if limit == resource.RLIM_INFINITY else min(limit, _MOST)
-        most = max(8, (limit - len(ports) - _SPARE) // 2)  # a connection has two descriptors; it raises no limit
+        most = max(
+            8, (limit - len(ports) - _SPARE) // 2
+        )  # a connection has two descriptors; it raises no limit
         verify = f" ca-file {self.authorities} verify required" if self.authorities else ""
         return _FORM.format(
-            threads=min(4, len(os.sched_getaffinity(0))), most=most, most_runs=most - most // 4, most_lines=most // 4, asked=asked.fileno(),
-            ports=",".join(f"fd@{each.fileno()}" for each in ports), lines=lines.fileno(), certificate=self.certificate, verify=verify,
-            owned=_OWNED if verify else "", heard=LINES, names=" proxy-v2-options ssl,cert-cn" if verify else "")  # fmt: skip
+            threads=min(4, len(os.sched_getaffinity(0))),
+            most=most,
+            most_runs=most - most // 4,
+            most_lines=most // 4,
+            asked=asked.fileno(),
+            ports=",".join(f"fd@{each.fileno()}" for each in ports),
+            lines=lines.fileno(),
+            certificate=self.certificate,
+            verify=verify,
+            owned=_OWNED if verify else "",
+            heard=LINES,
+            names=" proxy-v2-options ssl,cert-cn" if verify else "",
+        )
 
     def _give(self, child: subprocess.Popen[bytes], text: str) -> None:
         assert child.stdin is not None
@@ -162,7 +208,9 @@ class Haproxy:
         if "Success!" not in answers[1]:  # a broken one is answered by an empty text
             with suppress(FrontError):
                 self.ask(f"abort ssl {kind} {name}")
-            raise FrontError(f"it does not take another {kind}: {' '.join(' '.join(answers).split())}")
+            raise FrontError(
+                f"it does not take another {kind}: {' '.join(' '.join(answers).split())}"
+            )
 
     def shown(self, name: str) -> dict[int, str]:
         """What one of its maps has."""

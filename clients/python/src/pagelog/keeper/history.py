@@ -127,7 +127,9 @@ class Extent:
 def extent_of(referee: Referee, row: Row) -> Extent:
     """What is kept of a database."""
     span = spans(referee)[row.id]
-    [[first, last, now]] = referee._ask(_TIMES, {"log": row.id, "first": span.oldest, "last": row.archived})
+    [[first, last, now]] = referee._ask(
+        _TIMES, {"log": row.id, "first": span.oldest, "last": row.archived}
+    )
     return Extent(span.oldest, row.archived, first, last, now, span.bases)
 
 
@@ -182,19 +184,39 @@ def begin_again(referee: Referee, row: Row, position: int, name: str) -> bool:
         base, chain = _checked(referee, row.id, position)
     except Pruned as error:
         raise _pruned(row, position) from error
-    return made_at(referee, row, position, name, {"base": base, "chain": chain, "read_only": True, "table": None, "secret": None})
+    return made_at(
+        referee,
+        row,
+        position,
+        name,
+        {"base": base, "chain": chain, "read_only": True, "table": None, "secret": None},
+    )
 
 
 def made_at(referee: Referee, row: Row, position: int, name: str, values: dict[str, Any]) -> bool:
     """Makes a database of what another one was at a position, in one statement: `values` are its base, its digest, and what it is to have.
-    False where there is one of this name. Raises `KeeperError` where the position is pruned meanwhile."""
+    False where there is one of this name. Raises `KeeperError` where the position is pruned meanwhile.
+    """
     until = Bases(referee, row.id).came(position) if position else None
     ancestor = written_name(referee, row, position)
     try:
         identity, kept = str(uuid4()), referee.table(row.id)
-        stored = referee.stored(identity, values["table"] or kept.text, values["secret"] or kept.secret)
-        made = referee._ask(_MAKE, {**values, "log": row.id, "name": name, "position": position, "until": until, "ancestor": ancestor,
-                                    "identity": identity, **stored})  # fmt: skip
+        stored = referee.stored(
+            identity, values["table"] or kept.text, values["secret"] or kept.secret
+        )
+        made = referee._ask(
+            _MAKE,
+            {
+                **values,
+                "log": row.id,
+                "name": name,
+                "position": position,
+                "until": until,
+                "ancestor": ancestor,
+                "identity": identity,
+                **stored,
+            },
+        )
     except Refused as error:
         if isinstance(error.__cause__, psycopg.errors.UniqueViolation):
             return False

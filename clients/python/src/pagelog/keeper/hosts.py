@@ -29,7 +29,9 @@ def wait_by_poll(gen: PQGen[Result], fileno: int, timeout: float | None = None) 
         return result
 
 
-if waiting.wait is waiting.wait_select:  # else its compiled part waits, or a newer one of it, by `poll` as well
+if (
+    waiting.wait is waiting.wait_select
+):  # else its compiled part waits, or a newer one of it, by `poll` as well
     waiting.wait = wait_by_poll
 
 
@@ -46,7 +48,9 @@ def unverified(options: Mapping[str, Any]) -> list[str]:
     ask DNS."""
     if (options.get("sslmode") or os.environ.get("PGSSLMODE")) == "verify-full":
         return []
-    hosts = str(options.get("host") or options.get("hostaddr") or os.environ.get("PGHOST") or "").split(",")
+    hosts = str(
+        options.get("host") or options.get("hostaddr") or os.environ.get("PGHOST") or ""
+    ).split(",")
     return [host for host in hosts if not _is_own(host)]
 
 

@@ -14,7 +14,16 @@ import zlib
 from dataclasses import dataclass, field
 from typing import Callable, Iterable, Iterator, Mapping
 
-from pagelog.block import BLOCK_SIZE, EMPTY_BLOCK_SIZE, PAGE_SIZE, PAGES_OF_PARTITION, PUT_HEAD_SIZE, ZERO_SIZE, Put, encode_record
+from pagelog.block import (
+    BLOCK_SIZE,
+    EMPTY_BLOCK_SIZE,
+    PAGE_SIZE,
+    PAGES_OF_PARTITION,
+    PUT_HEAD_SIZE,
+    ZERO_SIZE,
+    Put,
+    encode_record,
+)
 
 PAGES = 64
 """Pages of a range."""
@@ -162,7 +171,10 @@ class Spilled:
         """All pages of a range."""
         found = os.pread(self._file.fileno(), PAGES * PAGE_SIZE, self._at(number * PAGES))
         found += bytes(PAGES * PAGE_SIZE - len(found))
-        return {number * PAGES + bit: bytearray(found[bit * PAGE_SIZE : (bit + 1) * PAGE_SIZE]) for bit in range(PAGES)}
+        return {
+            number * PAGES + bit: bytearray(found[bit * PAGE_SIZE : (bit + 1) * PAGE_SIZE])
+            for bit in range(PAGES)
+        }
 
 
 class SpilledPage:
@@ -187,7 +199,11 @@ def blocks_of(images: Iterable[Image]) -> Iterator[bytes]:
     size = EMPTY_BLOCK_SIZE
     for page, offset, data in _puts(images):
         while data:
-            new = [] if partitions and partitions[-1] == page // PAGES_OF_PARTITION else [page // PAGES_OF_PARTITION]
+            new = (
+                []
+                if partitions and partitions[-1] == page // PAGES_OF_PARTITION
+                else [page // PAGES_OF_PARTITION]
+            )
             room = BLOCK_SIZE - size - 2 * len(new) - PUT_HEAD_SIZE
             if records and room < min(len(data), _LEAST):
                 yield _block(records, partitions)

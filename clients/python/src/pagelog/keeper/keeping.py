@@ -77,15 +77,51 @@ class Keeper:
         self._by_name: dict[str, Database] = {}
         """Those that the last look has shown, and that were not dropped."""
         self.look = Look()
-        self.lines = settings.lines if settings.tls is None or settings.tls.plain else settings.tls.lines
-        self._session = Session(Referee(settings.url, settings.name, self.life, listens=True, requires_standby=settings.require_standby,
-                                        keys=settings.keys, store=settings.store), settings.ttl)  # fmt: skip
-        self._writer = Session(QuickReferee(settings.url, settings.name, self.life, requires_standby=settings.require_standby), 2 * settings.ttl)
-        committer = Committer(self._writer, settings.ttl, partial(self._say, "the archive"), beside=self._session)
-        self._shared = Shared(settings, self.life, self._session, committer, self._say, self._changed, self._trails(), self._ways())
+        self.lines = (
+            settings.lines if settings.tls is None or settings.tls.plain else settings.tls.lines
+        )
+        self._session = Session(
+            Referee(
+                settings.url,
+                settings.name,
+                self.life,
+                listens=True,
+                requires_standby=settings.require_standby,
+                keys=settings.keys,
+                store=settings.store,
+            ),
+            settings.ttl,
+        )
+        self._writer = Session(
+            QuickReferee(
+                settings.url, settings.name, self.life, requires_standby=settings.require_standby
+            ),
+            2 * settings.ttl,
+        )
+        committer = Committer(
+            self._writer, settings.ttl, partial(self._say, "the archive"), beside=self._session
+        )
+        self._shared = Shared(
+            settings,
+            self.life,
+            self._session,
+            committer,
+            self._say,
+            self._changed,
+            self._trails(),
+            self._ways(),
+        )
         self._server = Server(self)
-        self._care = None if settings.tls is None else FrontCare(
-            settings.tls, self._folder.path, partial(self._repeats.say, "the front"), self._shared.spawn)  # fmt: skip
+        self._care = (
+            None
+            if settings.tls is None
+            else FrontCare(
+                settings.tls,
+                self._folder.path,
+                partial(self._repeats.say, "the front"),
+                self._shared.spawn,
+            )
+        )
         self._shared.front = None if self._care is None else self._care.front
         self._places = Places(self.where)
         self._moving = Quota(EACH_WHERE, ALL_WHERE)
@@ -135,8 +171,14 @@ class Keeper:
 
     def _ways(self) -> QuickPlane:
         settings = self.settings
-        ways = QuickPlane(lambda: QuickReferee(settings.url, settings.name, self.life), idle=settings.ttl, deadline=2 * settings.ttl,
-                          confirms=settings.require_standby, has_trails=bool(settings.trail), say=partial(self._repeats.say, "the quick way"))  # fmt: skip
+        ways = QuickPlane(
+            lambda: QuickReferee(settings.url, settings.name, self.life),
+            idle=settings.ttl,
+            deadline=2 * settings.ttl,
+            confirms=settings.require_standby,
+            has_trails=bool(settings.trail),
+            say=partial(self._repeats.say, "the quick way"),
+        )
         if not ways.is_there:
             self._say("the keeper", "the quick way is not built: durable commits take longer")
         return ways
@@ -151,8 +193,11 @@ class Keeper:
 
     async def _say_of_encryption(self) -> None:
         if hosts := await asyncio.to_thread(unverified, options_of(self.settings.url)):
-            self._say("the referee", f"tokens and pages go to {', '.join(hosts)}, whoever that is, and may go there in the clear: "
-                      "the url has no sslmode=verify-full (docs/SECURITY.md)")  # fmt: skip
+            self._say(
+                "the referee",
+                f"tokens and pages go to {', '.join(hosts)}, whoever that is, and may go there in the clear: "
+                "the url has no sslmode=verify-full (docs/SECURITY.md)",
+            )
 
     # Its life.
 
@@ -167,7 +212,9 @@ class Keeper:
         for number in (signal.SIGTERM, signal.SIGINT):
             loop.add_signal_handler(number, self.end)
         if not self._folder.take() and self._folder.owner != self.settings.name:
-            raise KeeperError(f"keeper {self._folder.owner or 'another'} has the folder {self._folder.path}")
+            raise KeeperError(
+                f"keeper {self._folder.owner or 'another'} has the folder {self._folder.path}"
+            )
         self._may_have = has_services(self._folder.path)
         self._shared.spawn(self._say_of_encryption(), "the referee")
         if self.settings.tls is None or self.settings.tls.plain:
@@ -215,10 +262,14 @@ class Keeper:
         """The last report of a keeper that has handed over names no run that has ended."""
         if not self._stops:
             with suppress(KeeperError):
-                await self._session.ask(self._session.referee.look, {}, self._report())  # its lines are told nobody any more
+                await self._session.ask(
+                    self._session.referee.look, {}, self._report()
+                )  # its lines are told nobody any more
 
     def _is_over(self) -> bool:
-        has_handed_over = not self._may_have and all(each.is_at_rest for each in self.databases.values())
+        has_handed_over = not self._may_have and all(
+            each.is_at_rest for each in self.databases.values()
+        )
         return self._stops or (self._shared.ending and has_handed_over)
 
     async def _begin(self) -> None:
@@ -243,7 +294,11 @@ class Keeper:
             await asyncio.to_thread(self._shared.numbers.begin)
             self._folder.settle(self.life)
             await self._begin_front()
-            wanted = {row.run for row in look.rows if row.run is not None and row.holder == self.settings.name}
+            wanted = {
+                row.run
+                for row in look.rows
+                if row.run is not None and row.holder == self.settings.name
+            }
             self._shared.asides.begin()
             self._left = await asyncio.to_thread(orphans_of, self._folder.path, wanted)
             await self._see_to_orphans(look)
@@ -263,7 +318,9 @@ class Keeper:
         while self._left and not self._stops:
             process = self._left[-1]
             try:
-                orphan = await self._session.ask(seen_to, self._session.referee, look, process, self.settings.ttl, has_name)
+                orphan = await self._session.ask(
+                    seen_to, self._session.referee, look, process, self.settings.ttl, has_name
+                )
             except (KeeperError, RunnerError) as error:
                 self._say_of_referee(str(error))
                 if not has_name:
@@ -271,9 +328,14 @@ class Keeper:
                 await asyncio.sleep(rest.next())
                 continue
             self._left.pop()
-            goes_on = has_name and orphan.fate is Fate.CONTINUE and orphan.database not in self._orphans
+            goes_on = (
+                has_name and orphan.fate is Fate.CONTINUE and orphan.database not in self._orphans
+            )
             fate = orphan.fate if goes_on or orphan.fate is Fate.END else Fate.SET_ASIDE
-            self._say(process.facts.name, f"the service of run {process.name}, which an earlier life left, is {fate.value}: {orphan.why}")
+            self._say(
+                process.facts.name,
+                f"the service of run {process.name}, which an earlier life left, is {fate.value}: {orphan.why}",
+            )
             if self._shared.front is not None and fate is not Fate.CONTINUE:
                 await asyncio.to_thread(self._shared.front.drop, process.name)
             if fate is Fate.END:
@@ -293,12 +355,19 @@ class Keeper:
         try:
             await asyncio.to_thread(close_left, process, self.settings.ttl)
         except PagelogError as error:
-            self._say(process.facts.name, f"the service that is set aside could not be closed, so that clients may still write to it: {error}")
+            self._say(
+                process.facts.name,
+                f"the service that is set aside could not be closed, so that clients may still write to it: {error}",
+            )
         while True:
             try:
-                await asyncio.to_thread(process.set_aside, process.facts.shift, process.facts.images)
+                await asyncio.to_thread(
+                    process.set_aside, process.facts.shift, process.facts.images
+                )
             except OSError as error:
-                self._say(process.facts.name, f"it could not be noted that it is set aside: {error}")
+                self._say(
+                    process.facts.name, f"it could not be noted that it is set aside: {error}"
+                )
                 await asyncio.sleep(self.settings.ttl)
             else:
                 return self._shared.asides.add(process.facts)
@@ -309,13 +378,20 @@ class Keeper:
         over = self._folder.lives if self._folder.take() else ()
         self._folder.note(self.life)
         before, is_still = self._rival, self._rival_still >= self.settings.ttl
-        found = self._rival = await self._session.ask(self._session.referee.claim, self.lines, over, before if is_still else None)
+        found = self._rival = await self._session.ask(
+            self._session.referee.claim, self.lines, over, before if is_still else None
+        )
         if found is None:
             return True
         if before is not None and found.run == before.run and found.beat > before.beat:
-            raise NameInUse(f"the name {self.settings.name} is in use: {found}, and its heartbeat moves: give this keeper another name")
+            raise NameInUse(
+                f"the name {self.settings.name} is in use: {found}, and its heartbeat moves: give this keeper another name"
+            )
         if before is None or before.run != found.run:
-            self._say("the keeper", f"the name {self.settings.name} may be in use: {found}; its heartbeat is watched for a ttl")
+            self._say(
+                "the keeper",
+                f"the name {self.settings.name} may be in use: {found}; its heartbeat is watched for a ttl",
+            )
         self._rival_still = self._rival_stillness.see((found.run, found.beat), seconds())
         return False
 
@@ -327,14 +403,18 @@ class Keeper:
             look = await self._session.ask(self._session.referee.everything)
         except KeeperError as error:
             return self._say_of_referee(str(error))
-        wanted = {row.run for row in look.rows if row.run is not None} | {standby.run for standby in look.standbys}
+        wanted = {row.run for row in look.rows if row.run is not None} | {
+            standby.run for standby in look.standbys
+        }
         self._left = await asyncio.to_thread(orphans_of, self._folder.path, wanted)
         await self._see_to_orphans(look, has_name=False)
 
     async def _is_of_another_folder(self) -> bool:
         """Whether who has the name now is in another folder. Of this folder it adopts the services."""
         try:
-            found = (await self._session.ask(self._session.referee.everything)).keeper(self.settings.name)
+            found = (await self._session.ask(self._session.referee.everything)).keeper(
+                self.settings.name
+            )
         except KeeperError:
             return False  # the next life in this folder ends them
         return found is not None and found.run not in (self.life, *self._folder.lives)
@@ -354,7 +434,10 @@ class Keeper:
         for process in await asyncio.to_thread(orphans_of, self._folder.path, set()):
             if process.name in ended:
                 await asyncio.to_thread(process.end)
-                self._say(process.facts.name, "its service was ended: a keeper of another folder has the name")
+                self._say(
+                    process.facts.name,
+                    "its service was ended: a keeper of another folder has the name",
+                )
             else:
                 self._left.append(process)
         await self._see_to_orphans(self.look, has_name=False)
@@ -393,7 +476,9 @@ class Keeper:
     def _pause(self) -> float:
         """Seconds until the next look, if nothing is heard before."""
         usual = self.settings.ttl / LOOKS
-        return min(usual, _SOON) if any(each.is_awaited for each in self.databases.values()) else usual
+        return (
+            min(usual, _SOON) if any(each.is_awaited for each in self.databases.values()) else usual
+        )
 
     def _see_next_look(self) -> None:
         """The next one has come."""
@@ -402,11 +487,17 @@ class Keeper:
         self._next_look = None
 
     async def _look(self) -> None:
-        reached = {each.row.id: reached for each in self.databases.values() if each.is_known and (reached := each.follows) is not None}
+        reached = {
+            each.row.id: reached
+            for each in self.databases.values()
+            if each.is_known and (reached := each.follows) is not None
+        }
         self._see_next_look()
         began = seconds()
         try:
-            self.look = await self._session.ask(self._session.referee.look, reached, self._report(), self._see_front())
+            self.look = await self._session.ask(
+                self._session.referee.look, reached, self._report(), self._see_front()
+            )
         except Superseded:
             raise
         except KeeperError as error:
@@ -424,15 +515,26 @@ class Keeper:
         self._pages.see(self.look.pages, seconds())
         for row in self.look.rows:
             if row.identity not in self.databases and not row.dropped:
-                self.databases[row.identity] = Database(self._shared, row, self._orphans.pop(row.identity, None))
-        self._by_name = {row.name: self.databases[row.identity] for row in self.look.rows if not row.dropped}
+                self.databases[row.identity] = Database(
+                    self._shared, row, self._orphans.pop(row.identity, None)
+                )
+        self._by_name = {
+            row.name: self.databases[row.identity] for row in self.look.rows if not row.dropped
+        }
         for row in self.look.rows:
             if (database := self.databases.get(row.identity)) is None:
                 continue
             holder = self.look.keeper(row.holder)
             is_noted = any(map(database.has_noted, self.look.standbys_of(row.id)))
-            database.see(row, None if holder is None else holder.beat, self._others(row.id), is_noted=is_noted, began=began,
-                         reports=self._reports_of(row.name), rose=self._rose.get(row.holder or "", float("-inf")))  # fmt: skip
+            database.see(
+                row,
+                None if holder is None else holder.beat,
+                self._others(row.id),
+                is_noted=is_noted,
+                began=began,
+                reports=self._reports_of(row.name),
+                rose=self._rose.get(row.holder or "", float("-inf")),
+            )
             self._shared.proving.see(database)
             self._changed(row.name)
         for identity in self.databases.keys() - {row.identity for row in self.look.rows}:
@@ -457,9 +559,14 @@ class Keeper:
         """Where PostgreSQL has forgotten numbers of generations that it gave, it is told: none is given twice."""
         for row in forgotten:
             highest, doubted = self._shared.numbers.highest(row), self._shared.numbers.doubted(row)
-            self._say(row.name, f"PostgreSQL has forgotten generation {highest}, or given its number twice: the next ones get numbers above it")
+            self._say(
+                row.name,
+                f"PostgreSQL has forgotten generation {highest}, or given its number twice: the next ones get numbers above it",
+            )
             with suppress(KeeperError):  # the next look shows it again
-                await self._session.ask(self._session.referee.raise_numbers, row.identity, highest, doubted)
+                await self._session.ask(
+                    self._session.referee.raise_numbers, row.identity, highest, doubted
+                )
         try:
             if self._shared.numbers.is_changed:
                 await asyncio.to_thread(self._shared.numbers.save)
@@ -469,26 +576,38 @@ class Keeper:
     def _see_lives(self) -> None:
         now = seconds()
         for keeper in self.look.keepers:
-            seen = self._lives.setdefault(keeper.name, Stillness(self.settings.ttl)).see((keeper.run, keeper.beat), now)
+            seen = self._lives.setdefault(keeper.name, Stillness(self.settings.ttl)).see(
+                (keeper.run, keeper.beat), now
+            )
             (self._living.add if seen < self.settings.ttl else self._living.discard)(keeper.name)
             if keeper.beat > self._beats.get(keeper.name, keeper.beat):
                 self._rose[keeper.name] = now
             self._beats[keeper.name] = keeper.beat
 
     def _others(self, log: int) -> tuple[StandbyRow, ...]:
-        return tuple(standby for standby in self.look.standbys_of(log)
-                     if standby.keeper != self.settings.name and standby.keeper in self._living)  # fmt: skip
+        return tuple(
+            standby
+            for standby in self.look.standbys_of(log)
+            if standby.keeper != self.settings.name and standby.keeper in self._living
+        )
 
     def _reports_of(self, name: str) -> dict[str, Mapping[str, Any]]:
         """What the other keepers that are alive have last said of a database."""
-        return {keeper.name: keeper.report.get(name, {}) for keeper in self.look.keepers
-                if keeper.name != self.settings.name and keeper.name in self._living}  # fmt: skip
+        return {
+            keeper.name: keeper.report.get(name, {})
+            for keeper in self.look.keepers
+            if keeper.name != self.settings.name and keeper.name in self._living
+        }
 
     def _lost(self) -> list[Aside]:
         """The runs that are here and that PostgreSQL does not know, or of which it lacks something."""
         found = []
         for each in self.databases.values():
-            if each.back is not None and each.served is not None and each.served.process is not None:
+            if (
+                each.back is not None
+                and each.served is not None
+                and each.served.process is not None
+            ):
                 served, process = each.served, each.served.process
                 facts = replace(process.facts, shift=served.shift, images=served.images)
                 seen = Seen(served.generation, max(served.reached, process.seen.archived))
@@ -498,11 +617,19 @@ class Keeper:
     def _report(self) -> str:
         """What `kept` shows of the services of this keeper, measured for it and for what is decided until the next look; and what is
         decided of them, and of what nobody has."""
-        audit, limit, report = self.settings.program.audit, self.settings.memory, dict[str, Any](self._shared.asides.report(self._lost()))
+        audit, limit, report = (
+            self.settings.program.audit,
+            self.settings.memory,
+            dict[str, Any](self._shared.asides.report(self._lost())),
+        )
         report[NUMBERS] = {}  # as of a database: an older tool goes through them
         report[KEYS] = {"ids": self._key_ids()}
         for each in self.databases.values():
-            if each.row.dropped or (each.served is None and not each.leaving and each.row.holder not in (None, self.settings.name)):
+            if each.row.dropped or (
+                each.served is None
+                and not each.leaving
+                and each.row.holder not in (None, self.settings.name)
+            ):
                 continue
             said: dict[str, Any] = {"state": each.state.value, "why": str(each.decision or "")}
             report[each.row.name] = said
@@ -511,9 +638,13 @@ class Keeper:
             if each.served is not None and each.served.process is not None:
                 said.update(run=each.served.run, back=each.back, table=each.served.table_number)
                 memory = each.served.measure()
-                said.update(entries_left=audit - each.served.entries, memory=memory >> 20,
-                            memory_left=max(0, limit - memory) >> 20 if limit else None, hard=each.served.hard,
-                            stored=self._stored(each)["stored"])  # fmt: skip
+                said.update(
+                    entries_left=audit - each.served.entries,
+                    memory=memory >> 20,
+                    memory_left=max(0, limit - memory) >> 20 if limit else None,
+                    hard=each.served.hard,
+                    stored=self._stored(each)["stored"],
+                )
         return json.dumps(report)
 
     def _key_ids(self) -> list[str]:
@@ -533,11 +664,16 @@ class Keeper:
         """Where a database is, as the last look has shown it, or as it is here, for who came by TLS or without."""
         database = self._named(name)
         if database is None:
-            return ("unknown" if self.look.keepers else "nowhere", name)  # before its first look it knows of none
+            return (
+                "unknown" if self.look.keepers else "nowhere",
+                name,
+            )  # before its first look it knows of none
         row, served = database.row, database.served
         holder = self.look.keeper(row.holder)
         is_closed = database.holds and served is not None and not served.is_open
-        address, lines = row.told(is_secure), self._lines_of(None if database.holds else holder, is_secure)
+        address, lines = row.told(is_secure), self._lines_of(
+            None if database.holds else holder, is_secure
+        )
         if address is None or lines is None or is_closed or (holder is None and not database.holds):
             return ("nowhere", name)
         database.work.refresh()
@@ -550,7 +686,19 @@ class Keeper:
         if database.after is not None and database.after[0] == row.generation:
             keys += (Key(f"after={database.after[1]}"),)
         keys += self._pages.key(row, is_secure)
-        return ("at", name, row.generation, row.run, address, archived, lines, row.images, row.shift, row.base, *keys)
+        return (
+            "at",
+            name,
+            row.generation,
+            row.run,
+            address,
+            archived,
+            lines,
+            row.images,
+            row.shift,
+            row.base,
+            *keys,
+        )
 
     def _lines_of(self, holder: KeeperRow | None, is_secure: bool) -> str | None:
         """Where a keeper's lines are for such a client; None is this one."""
@@ -561,7 +709,11 @@ class Keeper:
     @property
     def wants_certificates(self) -> bool:
         """Whether who comes by TLS needs a certificate of the database that is asked of. Before its first look it knows nothing to tell."""
-        return self.settings.tls is not None and self.settings.tls.clients is not None and bool(self.look.keepers)
+        return (
+            self.settings.tls is not None
+            and self.settings.tls.clients is not None
+            and bool(self.look.keepers)
+        )
 
     def identity_of(self, name: str) -> str | None:
         """That of the database of this name, as the last look has shown it."""
@@ -599,15 +751,37 @@ class Keeper:
         """A standby of it, whichever keeper has it: the last look says how far it is, and of an own one what it has."""
         database = self._named(name)
         known = () if database is None else self.look.standbys_of(database.row.id)
-        found = next((each for each in known if each.keeper in self._living and each.told(is_secure) is not None), None)
+        found = next(
+            (
+                each
+                for each in known
+                if each.keeper in self._living and each.told(is_secure) is not None
+            ),
+            None,
+        )
         if database is None or found is None:
             return ("standby", name, "-", "-", "-", "-", "-")
         own, follows = database.served, database.follows
-        reached = follows if own is not None and own.run == found.run and follows is not None else found.reached
+        reached = (
+            follows
+            if own is not None and own.run == found.run and follows is not None
+            else found.reached
+        )
         keeper = self.look.keeper(found.keeper)
         lines = None if keeper is None else keeper.told(is_secure)
-        keys = of_word(Of(database.row.identity, found.run)) + (() if lines is None else (Key(f"lines={lines}"),))
-        return ("standby", name, found.told(is_secure), found.run, reached, found.images, found.shift, *keys)
+        keys = of_word(Of(database.row.identity, found.run)) + (
+            () if lines is None else (Key(f"lines={lines}"),)
+        )
+        return (
+            "standby",
+            name,
+            found.told(is_secure),
+            found.run,
+            reached,
+            found.images,
+            found.shift,
+            *keys,
+        )
 
     def pages(self, name: str, of: Of | None, is_secure: bool = False) -> tuple[object, ...]:
         """Its page servers that live, if it is the database that is meant: to who came by TLS those that have it."""
@@ -624,7 +798,9 @@ class Keeper:
         else:
             database.confirmed(line, position)
 
-    def durable(self, line: Line, name: str, generation: int, position: int, of: Of | None = None) -> None:
+    def durable(
+        self, line: Line, name: str, generation: int, position: int, of: Of | None = None
+    ) -> None:
         """Answers now or later. Of a database that has the name no more PostgreSQL knows what became."""
         database = self._named(name)
         if database is not None and (of is None or of.database == database.row.identity):
@@ -665,8 +841,18 @@ class Keeper:
     def full(self, line: Line, name: str, generation: int, of: Of | None = None) -> None:
         """Begins the next generation, if it is held here, once in each."""
         database = self._named(name)
-        is_meant = database is not None and self._is_of(database, of) and database.holds and database.own.generation == generation
-        if database is not None and is_meant and not database.own.is_full and self._may(line, database):
+        is_meant = (
+            database is not None
+            and self._is_of(database, of)
+            and database.holds
+            and database.own.generation == generation
+        )
+        if (
+            database is not None
+            and is_meant
+            and not database.own.is_full
+            and self._may(line, database)
+        ):
             database.own.is_full = True
             database.kick()
 
@@ -675,31 +861,54 @@ class Keeper:
         if NAME.fullmatch(name) is None:
             return line.say("block", name, position, "-", *of_word(of))
         database = self._named(name)
-        is_another = database is not None and of is not None and of.database != database.row.identity
-        self._shared.spawn(self._shared.tell_block(line, name, position, of, None if is_another else database), name)
+        is_another = (
+            database is not None and of is not None and of.database != database.row.identity
+        )
+        self._shared.spawn(
+            self._shared.tell_block(line, name, position, of, None if is_another else database),
+            name,
+        )
 
     def _held(self, name: str) -> int | None:
         """The generation of it that is held here."""
         database = self._named(name)
-        return database.served.generation if database is not None and database.holds and database.served is not None else None
+        return (
+            database.served.generation
+            if database is not None and database.holds and database.served is not None
+            else None
+        )
 
-    def turn(self, line: Line, words: list[str], of: Of | None = None, epoch: int | None = None) -> None:
+    def turn(
+        self, line: Line, words: list[str], of: Of | None = None, epoch: int | None = None
+    ) -> None:
         """Answers now or later. Who asks of another run gets no turn here, and ends nobody's."""
         word, name = words[:2]
         database, held = self._named(name), self._held(name)
         is_of_another = database is not None and not self._is_of(database, of)
         is_free = word == "back" or held is None  # to give back costs nobody anything
-        why = None if database is None or is_of_another or is_free else self._shared.proving.refusal(line, database)
+        why = (
+            None
+            if database is None or is_of_another or is_free
+            else self._shared.proving.refusal(line, database)
+        )
         if not is_of_another and why is None:
             self._turns.take(line, words, held, epoch)
         elif word == "turn":
-            line.say(*(("elsewhere", name) if why is None else ("denied", name, why.value)), *of_word(of))
+            line.say(
+                *(("elsewhere", name) if why is None else ("denied", name, why.value)), *of_word(of)
+            )
 
     def awaits(self, line: Line) -> bool:
         """Whether it has a turn, or anything is waited for over it."""
         shared = self._shared
-        return (line in self._places or line in self._moving or line in shared.questions or line in shared.block_questions
-                or line in self._turns or any(line in database.waits for database in self.databases.values()))  # fmt: skip
+        return (
+            line in self._places
+            or line in self._moving
+            or line in shared.questions
+            or line in shared.block_questions
+            or line in self._turns
+            or any(line in database.waits for database in self.databases.values())
+        )
 
     def gone(self, line: Line) -> None:
         """Nobody waits over it any more."""
@@ -712,19 +921,35 @@ class Keeper:
     def states(self) -> list[dict[str, Any]]:
         """What is known of each database, for the metrics."""
         return [
-            {"name": each.row.name, "state": each.state.value, "generation": each.row.generation, "archived": each.row.archived,
-             "behind": 0 if each.served is None else max(0, each.served.hard - each.served.reached), "waits": len(each.waits),
-             "unproved": self._shared.proving.unproved[each.row.name], "quick": int(each.work.is_quick), "standby": int(each.is_noted) if each.should_stand_by else None,
-             **self._shares(each.served), **self._stored(each), **self._pages.states(each.row)}
-            for each in list(self.databases.values()) if not each.row.dropped
-        ]  # fmt: skip
+            {
+                "name": each.row.name,
+                "state": each.state.value,
+                "generation": each.row.generation,
+                "archived": each.row.archived,
+                "behind": 0
+                if each.served is None
+                else max(0, each.served.hard - each.served.reached),
+                "waits": len(each.waits),
+                "unproved": self._shared.proving.unproved[each.row.name],
+                "quick": int(each.work.is_quick),
+                "standby": int(each.is_noted) if each.should_stand_by else None,
+                **self._shares(each.served),
+                **self._stored(each),
+                **self._pages.states(each.row),
+            }
+            for each in list(self.databases.values())
+            if not each.row.dropped
+        ]
 
     def _shares(self, served: Served | None) -> dict[str, float | None]:
         """How full the list and the memory of a service are, where that is known."""
         audit, limit = self.settings.program.audit, self.settings.memory
         if served is None:
             return {"list_share": None, "memory_share": None}
-        return {"list_share": served.entries / audit, "memory_share": served.held / limit if limit else None}
+        return {
+            "list_share": served.entries / audit,
+            "memory_share": served.held / limit if limit else None,
+        }
 
     def _stored(self, database: Database) -> dict[str, float | None]:
         """Up to where it is in the store, as the mover has said, and what is wrong there; None where it is not held here. Of a mover that says
@@ -734,16 +959,25 @@ class Keeper:
         if self._storing is None:
             return {"stored": None, "store_behind": 0, "store_foreign": 0, "store_broken": 0}
         report = self._storing.report(database.row.name)
-        return {"stored": report.get("stored"), "store_behind": report.get("behind"), "store_foreign": report.get("foreign"),
-                "store_broken": int(not report or report["broken"] is not None)}  # fmt: skip
+        return {
+            "stored": report.get("stored"),
+            "store_behind": report.get("behind"),
+            "store_foreign": report.get("foreign"),
+            "store_broken": int(not report or report["broken"] is not None),
+        }
 
     def itself(self) -> dict[str, float]:
         """What is known of the keeper, for the metrics."""
         plain, plain_ever = self._server.plain
         pair = None if self._care is None else self._care.front.certificate.now
-        return {"looks": self._looks, "synchronous_standbys": self.synchronous.count or 0, "set_aside": len(self._shared.asides),
-                "plain_lines": plain, "plain_connections": plain_ever,
-                **({} if pair is None else {"certificate_ends": pair.ends})}  # fmt: skip
+        return {
+            "looks": self._looks,
+            "synchronous_standbys": self.synchronous.count or 0,
+            "set_aside": len(self._shared.asides),
+            "plain_lines": plain,
+            "plain_connections": plain_ever,
+            **({} if pair is None else {"certificate_ends": pair.ends}),
+        }
 
     @property
     def shown(self) -> Shown | None:

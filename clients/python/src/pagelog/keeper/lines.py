@@ -181,7 +181,12 @@ class Line(asyncio.Protocol):
     @property
     def _has_line(self) -> bool:
         """Whether a whole line can be answered now."""
-        return self.is_open and not self._is_full and not self._is_lent and b"\n" in self._left[: LONGEST + 1]
+        return (
+            self.is_open
+            and not self._is_full
+            and not self._is_lent
+            and b"\n" in self._left[: LONGEST + 1]
+        )
 
     def _answer(self, line: bytes) -> None:
         try:
@@ -221,7 +226,14 @@ class Line(asyncio.Protocol):
         """A descriptor of its socket, for one who reads it in place of this, and closes it; until `take_back`. None where something is left
         to be read or written, or may not be done, or there is no descriptor to be had."""
         transport = self._transport if self.may_ring else None
-        if transport is None or transport.is_closing() or self._is_lent or self._is_full or self._left or transport.get_write_buffer_size():
+        if (
+            transport is None
+            or transport.is_closing()
+            or self._is_lent
+            or self._is_full
+            or self._left
+            or transport.get_write_buffer_size()
+        ):
             return None
         try:
             descriptor = os.dup(transport.get_extra_info("socket").fileno())
@@ -352,7 +364,9 @@ class Server:
         host, _, port = address.rpartition(":")
         loop = asyncio.get_running_loop()
         loop.set_exception_handler(self._hear_of_fault)
-        self._server = await loop.create_server(lambda: Line(self._answers, self._open), host.strip("[]"), int(port))
+        self._server = await loop.create_server(
+            lambda: Line(self._answers, self._open), host.strip("[]"), int(port)
+        )
         return f"{host}:{self._server.sockets[0].getsockname()[1]}"
 
     async def start_behind(self, listener: socket.socket) -> None:
@@ -361,7 +375,9 @@ class Server:
 
         loop = asyncio.get_running_loop()
         loop.set_exception_handler(self._hear_of_fault)
-        self._behind = await loop.create_unix_server(lambda: FrontedLine(self._answers, self._open), sock=listener)
+        self._behind = await loop.create_unix_server(
+            lambda: FrontedLine(self._answers, self._open), sock=listener
+        )
 
     async def stop(self) -> None:
         """Ends all connections."""
@@ -383,4 +399,8 @@ class Server:
         count = sum(self._open.drop_idle() for _ in range(_AT_ONCE))
         if time.monotonic() - self._said_at >= _SAID_AGAIN:
             self._said_at = time.monotonic()
-            _log.warning("the lines: nobody can connect: %s; %d idle connections were closed", error.strerror, count)
+            _log.warning(
+                "the lines: nobody can connect: %s; %d idle connections were closed",
+                error.strerror,
+                count,
+            )

@@ -23,7 +23,9 @@ _MOST_UNSENT = 1 << 20
 class Loader:
     """A connection over which the keeper writes blocks, as the primary of the first epoch."""
 
-    def __init__(self, address: str, credentials: Credentials, *, quorum: int = QUORUM, timeout: float = 10.0) -> None:
+    def __init__(
+        self, address: str, credentials: Credentials, *, quorum: int = QUORUM, timeout: float = 10.0
+    ) -> None:
         """Raises `Unreachable`."""
         self._prefix = Head(credentials.id, credentials.token, Role.PRIMARY, 0, EPOCH).prefix
         self._copies = range(quorum)
@@ -73,7 +75,12 @@ class Loader:
     def _add(self, group: Sequence[bytes], last: int) -> None:
         heads = [self._prefix + bytes((Operation.WRITE, copy)) for copy in self._copies]
         size = len(heads[0])
-        parts = [part for block in group for head in heads for part in ((size + len(block)).to_bytes(4, "big"), head, block)]
+        parts = [
+            part
+            for block in group
+            for head in heads
+            for part in ((size + len(block)).to_bytes(4, "big"), head, block)
+        ]
         report = self._prefix + bytes((Operation.REPORT,)) + last.to_bytes(8, "big")
         self._unsent += b"".join((*parts, len(report).to_bytes(4, "big"), report))
         self._owed += len(group) * len(heads) + 1

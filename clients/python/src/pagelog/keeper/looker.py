@@ -22,7 +22,11 @@ class Looker:
     again then, and finds out why."""
 
     def __init__(self, address: str, credentials: Credentials, timeout: float) -> None:
-        self._address, self._credentials, self._timeout = Address.parse(address), credentials, timeout
+        self._address, self._credentials, self._timeout = (
+            Address.parse(address),
+            credentials,
+            timeout,
+        )
         self._line: _Line | None = None
         self._epoch = FIRST_EPOCH
         """The highest one that it was told of. In one process epochs only rise."""
@@ -40,7 +44,9 @@ class Looker:
             replies = await self._replies(acts)
         match replies:
             case [State() as state, Entries() as entries]:
-                fits = not any(mismatch(act, self._epoch, reply) for act, reply in zip(acts, replies))
+                fits = not any(
+                    mismatch(act, self._epoch, reply) for act, reply in zip(acts, replies)
+                )
                 return (state, entries) if fits else None
         return None
 
@@ -71,8 +77,12 @@ class Looker:
         bodies = [Request(head, act).encode() for act in acts]
         if self._line is None:
             host, port, loop = self._address.host, self._address.port, asyncio.get_running_loop()
-            _, self._line = await loop.create_connection(_Line, host, port, happy_eyeballs_delay=_SILENT)
-        return await self._line.ask(b"".join(len(body).to_bytes(4, "big") + body for body in bodies), len(bodies))
+            _, self._line = await loop.create_connection(
+                _Line, host, port, happy_eyeballs_delay=_SILENT
+            )
+        return await self._line.ask(
+            b"".join(len(body).to_bytes(4, "big") + body for body in bodies), len(bodies)
+        )
 
 
 class _Line(asyncio.Protocol):
@@ -89,7 +99,11 @@ class _Line(asyncio.Protocol):
         """The bodies of so many replies. Raises `OSError`."""
         if self._transport is None:
             raise ConnectionError("the service ended the connection")
-        self._bodies, self._wanted, self._answered = [], count, asyncio.get_running_loop().create_future()
+        self._bodies, self._wanted, self._answered = (
+            [],
+            count,
+            asyncio.get_running_loop().create_future(),
+        )
         self._transport.write(frames)
         await self._answered
         return self._bodies
@@ -113,7 +127,9 @@ class _Line(asyncio.Protocol):
     def data_received(self, data: bytes) -> None:
         """Called by the loop. What nobody has asked for ends it."""
         self._in += data
-        while len(self._in) >= 4 and len(self._in) >= (end := 4 + int.from_bytes(self._in[:4], "big")):
+        while len(self._in) >= 4 and len(self._in) >= (
+            end := 4 + int.from_bytes(self._in[:4], "big")
+        ):
             self._bodies.append(bytes(self._in[4:end]))
             del self._in[:end]
         is_asked = self._answered is not None and not self._answered.done()

@@ -79,7 +79,8 @@ class Stage(Enum):
 class Own:
     """The run that this keeper has of the database. `silent` is for how many seconds its service has not answered, and `went_back`
     is whether PostgreSQL was seen to lack what it once had of this run. It `is_open` once clients were let in,
-    `was_closed` where nobody may write any more, and `is_full` where it had no memory for a writer."""
+    `was_closed` where nobody may write any more, and `is_full` where it had no memory for a writer.
+    """
 
     run: str
     kind: Kind
@@ -166,7 +167,11 @@ class Decision:
 
     def __str__(self) -> str:
         """As it is logged and shown."""
-        return self.sentence if self.action is Action.NOTHING else f"{self.action.value}: {self.sentence}"
+        return (
+            self.sentence
+            if self.action is Action.NOTHING
+            else f"{self.action.value}: {self.sentence}"
+        )
 
     def is_as(self, other: Decision | None) -> bool:
         """Whether action and reason are the same."""
@@ -189,7 +194,11 @@ def decide(facts: Facts) -> Decision:
     if decision.action is Action.TAKE and facts.is_unreached:
         return Decision(Action.NOTHING, "no client would reach its service here: the front is away")
     if decision.action in (Action.END, Action.TAKE) and is_only_copy(facts):
-        return Decision(Action.SET_ASIDE, f"{decision.why}; PostgreSQL went back, and the service is kept", decision.detail)
+        return Decision(
+            Action.SET_ASIDE,
+            f"{decision.why}; PostgreSQL went back, and the service is kept",
+            decision.detail,
+        )
     return decision
 
 
@@ -207,8 +216,16 @@ def _decide(facts: Facts) -> Decision:
         if own is None:
             return Decision(Action.NOTHING, "the referee has no such database")
         if facts.ending or not own.alive:
-            return Decision(Action.END, "the keeper ends" if facts.ending else "the service ended, of which the referee knows no database")
-        return Decision(Action.NOTHING, "the referee knows nothing of the database: PostgreSQL went back, and the service is kept")
+            return Decision(
+                Action.END,
+                "the keeper ends"
+                if facts.ending
+                else "the service ended, of which the referee knows no database",
+            )
+        return Decision(
+            Action.NOTHING,
+            "the referee knows nothing of the database: PostgreSQL went back, and the service is kept",
+        )
     if own is None and facts.is_noted:
         return Decision(Action.STAND_DOWN, "a standby is noted that is not there any more")
     if row.dropped:
@@ -216,16 +233,24 @@ def _decide(facts: Facts) -> Decision:
     if own is not None and own.run == row.run:
         decision = _of_the_holder(facts, row, own)
         goes_on = own.was_closed and decision.action is Action.NOTHING
-        return Decision(Action.FILL, f"{decision.why}: opened again", decision.detail) if goes_on else decision
+        return (
+            Decision(Action.FILL, f"{decision.why}: opened again", decision.detail)
+            if goes_on
+            else decision
+        )
     if own is not None and own.kind is Kind.HOLDER:
         return _of_a_run_that_is_over(facts, row, own)
     if own is not None and (not own.alive or own.silent >= facts.ttl):
         return Decision(Action.END, "the standby's service ended or hangs")
     if own is not None and own.share < ANEW_AT and is_only_copy(facts):
         return _of_what_went_back(facts, row, own)
-    if row.run is not None and row.holder == facts.me:  # also where the keeper ends: what it has is to be archived
+    if (
+        row.run is not None and row.holder == facts.me
+    ):  # also where the keeper ends: what it has is to be archived
         why = f"generation {row.generation} is of an earlier life of this keeper"
-        return Decision(Action.END if own else Action.ADOPT, why)  # a standby from before PostgreSQL went back is in its way
+        return Decision(
+            Action.END if own else Action.ADOPT, why
+        )  # a standby from before PostgreSQL went back is in its way
     if facts.ending:
         return Decision(Action.END if own else Action.NOTHING, "the keeper ends")
     return _of_a_released(facts, row) if row.run is None else _of_another_holder(facts, row)
@@ -240,11 +265,17 @@ def _of_the_holder(facts: Facts, row: Row, own: Own) -> Decision:
     if row.address is None or not own.is_open:
         return Decision(Action.FILL, f"generation {row.generation} begins at position {row.base}")
     if own.silent >= facts.ttl:
-        return Decision(Action.RELEASE, "the service has not answered for {} s", f"{own.silent:.1f}")
+        return Decision(
+            Action.RELEASE, "the service has not answered for {} s", f"{own.silent:.1f}"
+        )
     if facts.ending:
         return Decision(Action.CLOSE, "the keeper ends")
     if own.unreached >= facts.ttl and not row.paused:
-        return Decision(Action.CLOSE, "no client reaches the service: its front has been away for {} s", f"{own.unreached:.1f}")
+        return Decision(
+            Action.CLOSE,
+            "no client reaches the service: its front has been away for {} s",
+            f"{own.unreached:.1f}",
+        )
     has_old_table = own.has_old_table(row)
     if row.paused and not has_old_table:
         return Decision(Action.NOTHING, "serves; paused")
@@ -261,7 +292,9 @@ def _of_the_holder(facts: Facts, row: Row, own: Own) -> Decision:
 
 def _of_a_succession(facts: Facts, row: Row, own: Own) -> Decision:
     if facts.successor is not Stage.NONE:
-        return Decision(Action.NOTHING, f"serves; the service of the next generation: {facts.successor.value}")
+        return Decision(
+            Action.NOTHING, f"serves; the service of the next generation: {facts.successor.value}"
+        )
     if own.has_old_table(row):
         return Decision(Action.PREPARE, _CHANGED)
     if row.succeed:
@@ -277,9 +310,15 @@ def _of_a_wish(facts: Facts, row: Row) -> Decision:
     wanted = [standby for standby in facts.others if row.wanted in (standby.keeper, "*")]
     reached = max((standby.reached for standby in wanted), default=-1)
     if reached < 0:
-        return Decision(Action.NOTHING, f"serves; a switchover to {row.wanted} waits for its standby")
+        return Decision(
+            Action.NOTHING, f"serves; a switchover to {row.wanted} waits for its standby"
+        )
     if row.archived - reached > NEAR:
-        return Decision(Action.NOTHING, "serves; the standby that is wanted lacks {} blocks", str(row.archived - reached))
+        return Decision(
+            Action.NOTHING,
+            "serves; the standby that is wanted lacks {} blocks",
+            str(row.archived - reached),
+        )
     return Decision(Action.CLOSE, f"a switchover to {row.wanted} was asked for")
 
 
@@ -287,25 +326,37 @@ def _of_a_run_that_is_over(facts: Facts, row: Row, own: Own) -> Decision:
     if not own.alive:
         return Decision(Action.END, f"the service of generation {own.generation} ended")
     if facts.ending and own.is_known is None:
-        return Decision(Action.SET_ASIDE, "the keeper ends, and does not know whether PostgreSQL has this run")
+        return Decision(
+            Action.SET_ASIDE, "the keeper ends, and does not know whether PostgreSQL has this run"
+        )
     if own.is_known is None:
-        return Decision(Action.LOOK_UP, f"PostgreSQL has another run than that of generation {own.generation}")
+        return Decision(
+            Action.LOOK_UP, f"PostgreSQL has another run than that of generation {own.generation}"
+        )
     if is_only_copy(facts):
         return _of_what_went_back(facts, row, own)
     if row.run is None and row.generation == own.generation:
         return Decision(Action.END, f"generation {row.generation} was released")
-    return Decision(Action.END, f"generation {row.generation} of {row.holder or 'nobody'} has begun")
+    return Decision(
+        Action.END, f"generation {row.generation} of {row.holder or 'nobody'} has begun"
+    )
 
 
 def _of_what_went_back(facts: Facts, row: Row, own: Own) -> Decision:
     """PostgreSQL does not know this run, or lacks what it once had of it. Where no other run of the database is alive it continues, in a
-    new generation, and is archived again; else it is set aside. So nothing is ended, and nothing stands still."""
+    new generation, and is archived again; else it is set aside. So nothing is ended, and nothing stands still.
+    """
     back = "PostgreSQL went back"
     if facts.ending:
         return Decision(Action.SET_ASIDE, f"the keeper ends; {back}, and the service is kept")
     if own.is_apart:
-        return Decision(Action.SET_ASIDE, f"{back}, and has other blocks by now: `pagelogctl rescue {row.name}` shows and saves what is here")
-    if own.kind is Kind.HOLDER and row.generation >= own.generation:  # its clients may have been told that it is over
+        return Decision(
+            Action.SET_ASIDE,
+            f"{back}, and has other blocks by now: `pagelogctl rescue {row.name}` shows and saves what is here",
+        )
+    if (
+        own.kind is Kind.HOLDER and row.generation >= own.generation
+    ):  # its clients may have been told that it is over
         why = f"{back}, and another generation has begun since: `pagelogctl rescue {row.name}` shows and saves what is here"
         return Decision(Action.SET_ASIDE, why)
     if own.silent >= facts.ttl:
@@ -323,12 +374,16 @@ def _of_what_went_back(facts: Facts, row: Row, own: Own) -> Decision:
 
 def _of_a_rival(facts: Facts, row: Row, own: Own, back: str) -> Decision:
     if own.kind is Kind.STANDBY and row.holder != facts.me:
-        return Decision(Action.NOTHING, f"{back}; {row.holder} has it, and may archive again what is missing")
+        return Decision(
+            Action.NOTHING, f"{back}; {row.holder} has it, and may archive again what is missing"
+        )
     patience = PATIENCE * facts.ttl * (_SILENT if facts.rival is Rival.SILENT else 1)
     if facts.rival is Rival.LIVES or own.back_for >= patience:
         why = f"{back}, and {row.holder} has another run: `pagelogctl rescue {row.name}` shows and saves what is here"
         return Decision(Action.SET_ASIDE, why)
-    return Decision(Action.NOTHING, f"{back}, to a run of {row.holder}: whether that is alive is not known yet")
+    return Decision(
+        Action.NOTHING, f"{back}, to a run of {row.holder}: whether that is alive is not known yet"
+    )
 
 
 def _of_a_released(facts: Facts, row: Row) -> Decision:
@@ -337,16 +392,27 @@ def _of_a_released(facts: Facts, row: Row) -> Decision:
     if row.paused:
         return Decision(Action.NOTHING, "nobody has it; paused")
     if facts.further is not None and facts.still < facts.ttl:
-        return Decision(Action.NOTHING, f"nobody has it; PostgreSQL went back, and keeper {facts.further} has more of it")
+        return Decision(
+            Action.NOTHING,
+            f"nobody has it; PostgreSQL went back, and keeper {facts.further} has more of it",
+        )
     if facts.settles:
-        return Decision(Action.NOTHING, "nobody has it; PostgreSQL went back just now: who has more of it may say so")
+        return Decision(
+            Action.NOTHING,
+            "nobody has it; PostgreSQL went back just now: who has more of it may say so",
+        )
     if row.wanted not in (None, "*", facts.me) and facts.still < facts.ttl:
         return Decision(Action.NOTHING, f"nobody has it; {row.wanted} is wanted")
     if row.wanted == "*" and facts.let_go == row.generation and facts.still < facts.ttl:
         return Decision(Action.NOTHING, "nobody has it; any other keeper is wanted")
     if facts.failed == row.generation and facts.still < max(facts.ttl, facts.rest):
         return Decision(Action.NOTHING, "nobody has it; it could not be filled here just now")
-    if facts.own is None and facts.others and row.wanted != facts.me and facts.still < facts.ttl / 2:
+    if (
+        facts.own is None
+        and facts.others
+        and row.wanted != facts.me
+        and facts.still < facts.ttl / 2
+    ):
         return Decision(Action.NOTHING, f"nobody has it; {facts.others[0].keeper} has a standby")
     return Decision(Action.TAKE, "nobody has it")
 
@@ -354,14 +420,28 @@ def _of_a_released(facts: Facts, row: Row) -> Decision:
 def _of_another_holder(facts: Facts, row: Row) -> Decision:
     wait = facts.ttl * (1.5 if facts.own is None and facts.others else 1)
     # One after the other: until the holder has the newest table, a standby of before is as good as that.
-    if facts.own is not None and facts.own.has_old_table(row) and (row.run_table >= row.table_number or facts.still >= wait):
+    if (
+        facts.own is not None
+        and facts.own.has_old_table(row)
+        and (row.run_table >= row.table_number or facts.still >= wait)
+    ):
         return Decision(Action.END, f"{_CHANGED}: the standby is made anew")
     if facts.still >= wait and not row.paused:
-        return Decision(Action.TAKE, f"the beat of {row.holder} has stood still for {{}} s", f"{facts.still:.1f}")
+        return Decision(
+            Action.TAKE,
+            f"the beat of {row.holder} has stood still for {{}} s",
+            f"{facts.still:.1f}",
+        )
     if facts.own is not None:
         if facts.own.share >= ANEW_AT:
-            return Decision(Action.END, "the standby's list or memory is {} full: it is made anew", f"{facts.own.share:.0%}")
-        return Decision(Action.NOTHING, f"follows {row.holder} at position {{}}", str(facts.own.reached))
+            return Decision(
+                Action.END,
+                "the standby's list or memory is {} full: it is made anew",
+                f"{facts.own.share:.0%}",
+            )
+        return Decision(
+            Action.NOTHING, f"follows {row.holder} at position {{}}", str(facts.own.reached)
+        )
     if row.address is not None and (facts.stands_by or row.wanted in (facts.me, "*")):
         return Decision(Action.STAND_BY, f"{row.holder} has it")
     return Decision(Action.NOTHING, f"{row.holder} has it")
@@ -379,7 +459,11 @@ def state_of(facts: Facts, doing: Action = Action.NOTHING) -> State:
         return State.WENT_BACK
     if facts.own.kind is Kind.STANDBY:
         return State.TAKING if doing is Action.TAKE else State.STANDBY
-    return State.TAKING if doing is Action.FILL or facts.row is None or facts.row.address is None else State.SERVING
+    return (
+        State.TAKING
+        if doing is Action.FILL or facts.row is None or facts.row.address is None
+        else State.SERVING
+    )
 
 
 class Stillness:

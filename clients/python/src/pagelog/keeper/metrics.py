@@ -29,17 +29,30 @@ _GAUGES = {
 
 class KeeperCollector(Collector):
     """The databases of a keeper, as `states` returns them, and what it knows of itself: how many `looks` PostgreSQL has confirmed,
-    how many `synchronous_standbys` that has, how many services were `set_aside`, what comes without TLS, and when its certificate ends."""
+    how many `synchronous_standbys` that has, how many services were `set_aside`, what comes without TLS, and when its certificate ends.
+    """
 
-    def __init__(self, states: Callable[[], list[dict[str, Any]]], itself: Callable[[], Mapping[str, float]]) -> None:
+    def __init__(
+        self, states: Callable[[], list[dict[str, Any]]], itself: Callable[[], Mapping[str, float]]
+    ) -> None:
         self._states, self._itself = states, itself
 
     def collect(self) -> Iterable[Metric]:
         """The metrics of all databases."""
-        gauges = {name: GaugeMetricFamily(name, text, labels=["name"]) for name, text in _GAUGES.items()}
-        state = GaugeMetricFamily("pagelog_keeper_state", "1 for the state that the database has here.", labels=["name", "state"])
-        unproved = CounterMetricFamily("pagelog_keeper_unproved", "Lines of clients that have proved no principal, which `unproved` allows "
-                                       "or refuses.", labels=["name"])  # fmt: skip
+        gauges = {
+            name: GaugeMetricFamily(name, text, labels=["name"]) for name, text in _GAUGES.items()
+        }
+        state = GaugeMetricFamily(
+            "pagelog_keeper_state",
+            "1 for the state that the database has here.",
+            labels=["name", "state"],
+        )
+        unproved = CounterMetricFamily(
+            "pagelog_keeper_unproved",
+            "Lines of clients that have proved no principal, which `unproved` allows "
+            "or refuses.",
+            labels=["name"],
+        )
         for found in self._states():
             state.add_metric([found["name"], found["state"]], 1)
             for name, gauge in gauges.items():
@@ -57,14 +70,28 @@ class KeeperCollector(Collector):
             "Services here that were set aside, since PostgreSQL lacks what they have. Only a person ends one.",
             value=itself["set_aside"],
         )
-        looks = CounterMetricFamily("pagelog_keeper_looks", "Looks that PostgreSQL has confirmed: four in a ttl.", value=itself["looks"])
+        looks = CounterMetricFamily(
+            "pagelog_keeper_looks",
+            "Looks that PostgreSQL has confirmed: four in a ttl.",
+            value=itself["looks"],
+        )
         yield from (state, unproved, standbys, aside, looks, *_of_tls(itself), *gauges.values())
 
 
 def _of_tls(itself: Mapping[str, float]) -> Iterable[Metric]:
-    yield GaugeMetricFamily("pagelog_keeper_plain_lines", "Connections to its lines without TLS that are open.", value=itself.get("plain_lines", 0))
-    yield CounterMetricFamily("pagelog_keeper_plain_connections", "Connections to its lines that came without TLS.",
-                              value=itself.get("plain_connections", 0))  # fmt: skip
+    yield GaugeMetricFamily(
+        "pagelog_keeper_plain_lines",
+        "Connections to its lines without TLS that are open.",
+        value=itself.get("plain_lines", 0),
+    )
+    yield CounterMetricFamily(
+        "pagelog_keeper_plain_connections",
+        "Connections to its lines that came without TLS.",
+        value=itself.get("plain_connections", 0),
+    )
     if "certificate_ends" in itself:
-        yield GaugeMetricFamily("pagelog_keeper_certificate_ends", "When its certificate ends, in seconds since 1970.",
-                                value=itself["certificate_ends"])  # fmt: skip
+        yield GaugeMetricFamily(
+            "pagelog_keeper_certificate_ends",
+            "When its certificate ends, in seconds since 1970.",
+            value=itself["certificate_ends"],
+        )

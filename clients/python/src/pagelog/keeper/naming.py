@@ -30,6 +30,10 @@ def written_name(referee: Referee, row: Row, position: int) -> str | None:
 
 def _name_in(data: bytes) -> str | None:
     for record in reversed(Block.decode(data).records):
-        if isinstance(record, Put) and (record.page, record.offset) == (0, _NAME_AT) and len(record.data) == 1 + record.data[0]:
+        if (
+            isinstance(record, Put)
+            and (record.page, record.offset) == (0, _NAME_AT)
+            and len(record.data) == 1 + record.data[0]
+        ):
             return record.data[1:].decode("utf-8", "replace")
     return None

@@ -59,10 +59,17 @@ class Numbers:
             if row.dropped:
                 self._note_gone(row.plain_name, row.identity)
         for row in seen:
-            if not row.dropped and (before := self._named.get(row.name, row.identity)) != row.identity:
+            if (
+                not row.dropped
+                and (before := self._named.get(row.name, row.identity)) != row.identity
+            ):
                 self._note_gone(row.name, before)
         self._named.update({row.name: row.identity for row in seen if not row.dropped})
-        return [row for row in seen if not row.dropped and (row.next_generation <= self.highest(row) or row in twice)]
+        return [
+            row
+            for row in seen
+            if not row.dropped and (row.next_generation <= self.highest(row) or row in twice)
+        ]
 
     def _note_gone(self, name: str, database: str) -> None:
         """This one has the name no more."""
@@ -82,7 +89,10 @@ class Numbers:
 
     def doubted(self, row: Row) -> int:
         """The numbers up to which are to be doubted, where PostgreSQL went back: none where this very run had its generation before."""
-        is_same = self._runs.get(row.identity, {}).get(row.generation) == row.run and (row.identity, row.generation) not in self._first
+        is_same = (
+            self._runs.get(row.identity, {}).get(row.generation) == row.run
+            and (row.identity, row.generation) not in self._first
+        )
         is_known = row.generation == 0 or is_same
         return 0 if is_known and self.dropped(row) < row.generation else self.highest(row)
 

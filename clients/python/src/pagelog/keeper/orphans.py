@@ -31,7 +31,8 @@ class Fate(Enum):
 @dataclass(frozen=True)
 class Found:
     """What is known of a service. `origin` is what PostgreSQL knows of its run, `row` the database of its name that it has today, and
-    `seen` what an earlier life has noted. `is_behind` is whether the archive has all of its log, `was_written` whether a client has."""
+    `seen` what an earlier life has noted. `is_behind` is whether the archive has all of its log, `was_written` whether a client has.
+    """
 
     seen: Seen = Seen()
     origin: Origin | None = None
@@ -49,12 +50,17 @@ def fate_of(found: Found) -> tuple[Fate, str]:
         return Fate.END, "its database was dropped"
     if origin is not None and origin.ended is not None:
         if found.seen.archived > origin.ended:
-            return Fate.SET_ASIDE, f"PostgreSQL went back: it had the run up to position {found.seen.archived}, and now its end is {origin.ended}"
+            return (
+                Fate.SET_ASIDE,
+                f"PostgreSQL went back: it had the run up to position {found.seen.archived}, and now its end is {origin.ended}",
+            )
         return Fate.END, "its generation has ended"
     if not found.answers:
         return Fate.SET_ASIDE, "it does not answer, and PostgreSQL does not know its run"
     if found.row is None:
-        if found.was_dropped and found.seen.generation == 0 and not found.was_written:  # as a standby's
+        if (
+            found.was_dropped and found.seen.generation == 0 and not found.was_written
+        ):  # as a standby's
             return Fate.END, "it held nothing, and its database was dropped"
         return Fate.SET_ASIDE, "PostgreSQL has no such database"
     if found.is_behind and not found.was_written:
@@ -73,7 +79,9 @@ class Orphan:
     database: str = ""
 
 
-def seen_to(referee: Referee, look: Look, process: Run, timeout: float, has_name: bool = True) -> Orphan:
+def seen_to(
+    referee: Referee, look: Look, process: Run, timeout: float, has_name: bool = True
+) -> Orphan:
     """Asks PostgreSQL and the service. `has_name` is whether the keeper that asks is registered. Raises `KeeperError` where PostgreSQL
     does not answer."""
     if process.facts.address is None:
@@ -91,10 +99,19 @@ def seen_to(referee: Referee, look: Look, process: Run, timeout: float, has_name
     served = Served(name, process.name, text, secret, timeout=timeout, is_read_only=row.read_only)
     shift, images = process.facts.shift, process.facts.images
     chain = referee.chain_of_base(row.id, images) if images else b""
-    served.kind, served.generation, served.identity, served.ancestor = Kind.HOLDER, seen.generation, row.identity, row.ancestor
-    served.adopt(process, images, _NO_DIGEST if chain is None else chain, shift=shift, images=images)
+    served.kind, served.generation, served.identity, served.ancestor = (
+        Kind.HOLDER,
+        seen.generation,
+        row.identity,
+        row.ancestor,
+    )
+    served.adopt(
+        process, images, _NO_DIGEST if chain is None else chain, shift=shift, images=images
+    )
     try:
-        was_written, is_behind = served.was_written(), chain is not None and _is_behind(referee, row, served)
+        was_written, is_behind = served.was_written(), chain is not None and _is_behind(
+            referee, row, served
+        )
     except KeeperError:
         raise
     except PagelogError:
@@ -108,7 +125,9 @@ def close_left(process: Run, timeout: float) -> None:
     remember the secret of its keepers stays as it is."""
     definition = process.definition
     if definition is not None:
-        served = Served(process.facts.name, process.name, definition.text, definition.secret, timeout=timeout)
+        served = Served(
+            process.facts.name, process.name, definition.text, definition.secret, timeout=timeout
+        )
         served.serve(process)
         served.close()
 

@@ -35,7 +35,9 @@ class LivingPages:
         self._all = Counter(row.log for row in rows)
         known, self._stillness = self._stillness, {}
         for row in rows:
-            stillness = self._stillness[row.run] = known.get(row.run) or Stillness(2 * self._patience)
+            stillness = self._stillness[row.run] = known.get(row.run) or Stillness(
+                2 * self._patience
+            )
             if stillness.see(row.beat, now) < self._patience:
                 living.setdefault(row.log, []).append(row)
         self._living = living
@@ -50,14 +52,32 @@ class LivingPages:
         how many stores are set aside."""
         living = self._living.get(row.id, ())
         behind = max((max(0, row.archived - each.position) for each in living), default=None)
-        return {"pages": len(living), "pages_gone": self._all[row.id] - len(living), "pages_behind": behind, "pages_aside": self._asides[row.id]}
+        return {
+            "pages": len(living),
+            "pages_gone": self._all[row.id] - len(living),
+            "pages_behind": behind,
+            "pages_aside": self._asides[row.id],
+        }
 
     def _told(self, row: Row, is_secure: bool) -> list[tuple[str, PagesRow]]:
         """Those that are told to who came by TLS or without, each with its address for that."""
-        return [(address, each) for each in self._living.get(row.id, ()) if (address := each.told(is_secure)) is not None]
+        return [
+            (address, each)
+            for each in self._living.get(row.id, ())
+            if (address := each.told(is_secure)) is not None
+        ]
 
     def words(self, row: Row, of: Of | None, is_secure: bool) -> tuple[object, ...]:
         """The answer to `pages`: of each its address, run, position and oldest position; first those that have most."""
         found = sorted(self._told(row, is_secure), key=lambda told: -told[1].position)[:MOST]
-        told = [word for address, each in found for word in (address, each.run, each.position, each.oldest)]
-        return ("pages", row.name, *told, *of_word(None if of is None else Of(row.identity, of.run)))
+        told = [
+            word
+            for address, each in found
+            for word in (address, each.run, each.position, each.oldest)
+        ]
+        return (
+            "pages",
+            row.name,
+            *told,
+            *of_word(None if of is None else Of(row.identity, of.run)),
+        )

@@ -54,7 +54,12 @@ class Verdict(Enum):
 class Proving:
     """Judges what was proved. `allows`: who has proved nothing is answered all the same. `unproved` counts its lines, by the database."""
 
-    def __init__(self, allows: bool, read: Callable[[int], Coroutine[Any, Any, TableOf]], spawn: Callable[..., asyncio.Task[None]]) -> None:
+    def __init__(
+        self,
+        allows: bool,
+        read: Callable[[int], Coroutine[Any, Any, TableOf]],
+        spawn: Callable[..., asyncio.Task[None]],
+    ) -> None:
         """`read` reads the newest table of a database, and `spawn` begins a task for it."""
         self.unproved = Counter[str]()
         self._allows, self._read, self._spawn = allows, read, spawn
@@ -73,12 +78,20 @@ class Proving:
         if (token := tokens.get(proof.principal)) is None:
             return Verdict.WRONG
         wanted = proof_of(token, line.nonce, row.name, proof.principal, str(proof.of))
-        return Verdict.PROVED if hmac.compare_digest(proof.code.encode(), wanted.encode()) else Verdict.WRONG
+        return (
+            Verdict.PROVED
+            if hmac.compare_digest(proof.code.encode(), wanted.encode())
+            else Verdict.WRONG
+        )
 
     def refusal(self, line: Line, database: Database) -> Verdict | None:
         """Why what costs or tells is refused; None where it may be asked. From then on the line knows who asks."""
         verdict = self.judge(line, database)
-        line.asker = (database.row.identity, line.proof.principal) if verdict is Verdict.PROVED and line.proof is not None else None
+        line.asker = (
+            (database.row.identity, line.proof.principal)
+            if verdict is Verdict.PROVED and line.proof is not None
+            else None
+        )
         if verdict is Verdict.NOT_KNOWN:
             self.read(database)
         elif verdict is not Verdict.PROVED:
@@ -95,7 +108,9 @@ class Proving:
         """A look has shown it. Where others may prove something by its table, that is not to be an older one."""
         known = self._tables.get(database.row.identity)
         if known is not None and known[0] > _number_of(database):
-            del self._tables[database.row.identity]  # PostgreSQL went back: another table may get this number
+            del self._tables[
+                database.row.identity
+            ]  # PostgreSQL went back: another table may get this number
         elif known is not None and self._newest(database) is None:
             self.read(database)
 
@@ -103,7 +118,9 @@ class Proving:
         """The task that reads the newest table: one of each database, however many ask."""
         identity = database.row.identity
         if (task := self._reading.get(identity)) is None:
-            task = self._reading[identity] = self._spawn(self._read_table(database), database.row.name)
+            task = self._reading[identity] = self._spawn(
+                self._read_table(database), database.row.name
+            )
             task.add_done_callback(lambda _: self._reading.pop(identity))
         return task
 
@@ -129,4 +146,7 @@ class Proving:
 def _number_of(database: Database) -> int:
     """That of the newest table: a service may have one that no look has shown yet."""
     row, served = database.row, database.served
-    return max(row.table_number, served.table_number if served is not None and served.identity == row.identity else 0)
+    return max(
+        row.table_number,
+        served.table_number if served is not None and served.identity == row.identity else 0,
+    )

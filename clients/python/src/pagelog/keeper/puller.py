@@ -29,7 +29,11 @@ class Puller:
     again then, and finds out why."""
 
     def __init__(self, address: str, credentials: Credentials, timeout: float) -> None:
-        self._address, self._credentials, self._timeout = Address.parse(address), credentials, timeout
+        self._address, self._credentials, self._timeout = (
+            Address.parse(address),
+            credentials,
+            timeout,
+        )
         self._socket: socket.socket | None = None
         self._in = bytearray()
         self._epoch = FIRST_EPOCH
@@ -46,7 +50,11 @@ class Puller:
         if told is not None and told > epoch:
             self._epoch = epoch = told
             reply = await self._reply(act, epoch)
-        if not isinstance(reply, Blocks) or len(reply.blocks) == PULL_MAX or mismatch(act, epoch, reply) is not None:
+        if (
+            not isinstance(reply, Blocks)
+            or len(reply.blocks) == PULL_MAX
+            or mismatch(act, epoch, reply) is not None
+        ):
             return None
         found = {block.lsn: block.data for block in reply.blocks}
         return [found.get(lsn) or Block.of(lsn).data for lsn in range(position + 1, reply.next)]
@@ -63,7 +71,9 @@ class Puller:
         """The bytes of the lines of the audit list from this number on, to its end; None where they are not known, or too many."""
         found, epoch = b"", max(epoch, self._epoch)
         for _ in range(_MOST_QUESTIONS):
-            body = await self._asked(Role.OPERATOR, epoch, Audit(first + len(found) // LINE_SIZE, AUDIT_MAX))
+            body = await self._asked(
+                Role.OPERATOR, epoch, Audit(first + len(found) // LINE_SIZE, AUDIT_MAX)
+            )
             count = int.from_bytes((body or b"")[1:3], "big")
             if not body or body[0] != Kind.ENTRIES or len(body) != 3 + count * LINE_SIZE:
                 return None
@@ -94,7 +104,9 @@ class Puller:
         return self._frame(Role.OPERATOR, max(epoch, self._epoch), Audit(1, AUDIT_MAX))
 
     def _frame(self, role: Role, epoch: int, act: Act) -> bytes:
-        body = Request(Head(self._credentials.id, self._credentials.token, role, 0, epoch), act).encode()
+        body = Request(
+            Head(self._credentials.id, self._credentials.token, role, 0, epoch), act
+        ).encode()
         return len(body).to_bytes(4, "big") + body
 
     def close(self) -> None:

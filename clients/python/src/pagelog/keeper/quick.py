@@ -30,7 +30,9 @@ class Prepared:
     @property
     def connection(self) -> int | None:
         """The address of libpq's connection."""
-        address: int | None = getattr(self._connection.pgconn, "pgconn_ptr")  # which the protocol of psycopg's types lacks
+        address: int | None = getattr(
+            self._connection.pgconn, "pgconn_ptr"
+        )  # which the protocol of psycopg's types lacks
         return address
 
     def _number(self, found: re.Match[str]) -> str:

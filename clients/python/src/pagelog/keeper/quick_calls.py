@@ -24,15 +24,25 @@ class List(ctypes.Structure):
     seen: int
 
     _fields_ = [
-        ("id", ctypes.c_char_p), ("of", ctypes.c_char_p), ("kept", ctypes.c_uint64), ("seen", ctypes.c_uint64), ("digest", ctypes.c_uint8 * SHA),
-    ]  # fmt: skip
+        ("id", ctypes.c_char_p),
+        ("of", ctypes.c_char_p),
+        ("kept", ctypes.c_uint64),
+        ("seen", ctypes.c_uint64),
+        ("digest", ctypes.c_uint8 * SHA),
+    ]
 
     @classmethod
     def from_list(cls, one: TrailList | None) -> List:
         """That of a trail."""
         if one is None:
             return cls()
-        return cls(str(one.id).encode(), str(one.of).encode(), one.kept, one.seen, (ctypes.c_uint8 * SHA)(*one.digest))
+        return cls(
+            str(one.id).encode(),
+            str(one.of).encode(),
+            one.kept,
+            one.seen,
+            (ctypes.c_uint8 * SHA)(*one.digest),
+        )
 
     def with_lines(self, one: TrailList) -> TrailList:
         """It, as it is with the lines that are kept by now."""
@@ -43,21 +53,41 @@ class Start(ctypes.Structure):
     """A database."""
 
     _fields_ = [
-        ("key", ctypes.c_uint64), ("name", ctypes.c_char_p), ("generation", ctypes.c_uint64), ("of", ctypes.c_char_p),
-        ("takes_unnamed", ctypes.c_int), ("log", ctypes.c_char_p), ("run", ctypes.c_char_p), ("reached", ctypes.c_uint64),
-        ("noted", ctypes.c_void_p), ("shift", ctypes.c_uint64), ("chain", ctypes.c_uint8 * DIGEST), ("chain_len", ctypes.c_size_t),
-        ("pull", ctypes.c_char_p), ("pull_len", ctypes.c_size_t), ("list", List), ("audit", ctypes.c_char_p), ("audit_len", ctypes.c_size_t),
-        ("service", ctypes.c_int), ("service_ms", ctypes.c_int), ("referee_ms", ctypes.c_int), ("idle_ms", ctypes.c_int),
-    ]  # fmt: skip
+        ("key", ctypes.c_uint64),
+        ("name", ctypes.c_char_p),
+        ("generation", ctypes.c_uint64),
+        ("of", ctypes.c_char_p),
+        ("takes_unnamed", ctypes.c_int),
+        ("log", ctypes.c_char_p),
+        ("run", ctypes.c_char_p),
+        ("reached", ctypes.c_uint64),
+        ("noted", ctypes.c_void_p),
+        ("shift", ctypes.c_uint64),
+        ("chain", ctypes.c_uint8 * DIGEST),
+        ("chain_len", ctypes.c_size_t),
+        ("pull", ctypes.c_char_p),
+        ("pull_len", ctypes.c_size_t),
+        ("list", List),
+        ("audit", ctypes.c_char_p),
+        ("audit_len", ctypes.c_size_t),
+        ("service", ctypes.c_int),
+        ("service_ms", ctypes.c_int),
+        ("referee_ms", ctypes.c_int),
+        ("idle_ms", ctypes.c_int),
+    ]
 
 
 class SessionStart(ctypes.Structure):
     """A connection to PostgreSQL."""
 
     _fields_ = [
-        ("key", ctypes.c_uint64), ("connection", ctypes.c_void_p), ("keep", ctypes.c_char_p), ("keep_block", ctypes.c_char_p),
-        ("keep_lines", ctypes.c_char_p), ("flushed", ctypes.c_char_p),
-    ]  # fmt: skip
+        ("key", ctypes.c_uint64),
+        ("connection", ctypes.c_void_p),
+        ("keep", ctypes.c_char_p),
+        ("keep_block", ctypes.c_char_p),
+        ("keep_lines", ctypes.c_char_p),
+        ("flushed", ctypes.c_char_p),
+    ]
 
 
 class Event(ctypes.Structure):
@@ -71,9 +101,14 @@ class Event(ctypes.Structure):
     len: int
 
     _fields_ = [
-        ("key", ctypes.c_uint64), ("news", ctypes.c_int), ("end", ctypes.c_int), ("descriptor", ctypes.c_int), ("position", ctypes.c_uint64),
-        ("len", ctypes.c_size_t), ("data", ctypes.c_char * LINE),
-    ]  # fmt: skip
+        ("key", ctypes.c_uint64),
+        ("news", ctypes.c_int),
+        ("end", ctypes.c_int),
+        ("descriptor", ctypes.c_int),
+        ("position", ctypes.c_uint64),
+        ("len", ctypes.c_size_t),
+        ("data", ctypes.c_char * LINE),
+    ]
 
     @property
     def text(self) -> bytes:
@@ -96,13 +131,22 @@ def library() -> ctypes.CDLL | None:
     made.way_reached.restype, made.plane_due.restype = ctypes.c_uint64, ctypes.c_size_t
     plane = way = ctypes.c_void_p
     for name, kinds in (
-        ("plane_new", [ctypes.c_int]), ("plane_run", [plane]), ("plane_stop", [plane]), ("plane_free", [plane]), ("plane_due", [plane]),
-        ("plane_lend", [plane, ctypes.POINTER(SessionStart)]), ("plane_retract", [plane, ctypes.c_uint64]),
-        ("plane_next", [plane, ctypes.POINTER(Event)]), ("way_new", [plane, ctypes.POINTER(Start)]),
-        ("way_add", [way, ctypes.c_int, ctypes.c_uint64, ctypes.c_int]), ("way_kick", [way]), ("way_stop", [way]), ("way_free", [way]),
+        ("plane_new", [ctypes.c_int]),
+        ("plane_run", [plane]),
+        ("plane_stop", [plane]),
+        ("plane_free", [plane]),
+        ("plane_due", [plane]),
+        ("plane_lend", [plane, ctypes.POINTER(SessionStart)]),
+        ("plane_retract", [plane, ctypes.c_uint64]),
+        ("plane_next", [plane, ctypes.POINTER(Event)]),
+        ("way_new", [plane, ctypes.POINTER(Start)]),
+        ("way_add", [way, ctypes.c_int, ctypes.c_uint64, ctypes.c_int]),
+        ("way_kick", [way]),
+        ("way_stop", [way]),
+        ("way_free", [way]),
         ("way_watch", [way, ctypes.c_int]),
         ("way_list_of", [way, ctypes.POINTER(List)]),
         ("way_reached", [way, ctypes.c_uint8 * DIGEST, ctypes.POINTER(ctypes.c_size_t)]),
-    ):  # fmt: skip
+    ):
         getattr(made, name).argtypes = kinds
     return made

@@ -23,9 +23,34 @@ if TYPE_CHECKING:
 
 SESSIONS = 4
 """Of all databases: what is due while they are busy goes together with the next statement."""
-_OF_MANY = ["chains", "logs", "runs", "generations", "olds", "news", "bytes", "owners", "lsns", "crcs", "starts", "lengths"]
-_OF_LINES = ["line_digest", "line_logs", "line_lists", "line_firsts", "line_counts", "line_seens", "line_days", "line_ofs", "line_starts",
-             "line_lengths", "line_before", "line_data"]  # fmt: skip
+_OF_MANY = [
+    "chains",
+    "logs",
+    "runs",
+    "generations",
+    "olds",
+    "news",
+    "bytes",
+    "owners",
+    "lsns",
+    "crcs",
+    "starts",
+    "lengths",
+]
+_OF_LINES = [
+    "line_digest",
+    "line_logs",
+    "line_lists",
+    "line_firsts",
+    "line_counts",
+    "line_seens",
+    "line_days",
+    "line_ofs",
+    "line_starts",
+    "line_lengths",
+    "line_before",
+    "line_data",
+]
 VALUES = {
     statements.KEEP: _OF_MANY,
     statements.KEEP_BLOCK: ["new", "chain", "id", "run", "generation", "old", "crc", "bytes"],
@@ -40,9 +65,16 @@ class QuickPlane:
     """The thread, for any number of databases: each has a way from `way_of` until that ends."""
 
     def __init__(
-        self, make: Callable[[], QuickReferee], *, idle: float, deadline: float, confirms: bool = False, has_trails: bool = False,
-        say: Callable[[str], None] = lambda _: None, most: int = SESSIONS,
-    ) -> None:  # fmt: skip
+        self,
+        make: Callable[[], QuickReferee],
+        *,
+        idle: float,
+        deadline: float,
+        confirms: bool = False,
+        has_trails: bool = False,
+        say: Callable[[str], None] = lambda _: None,
+        most: int = SESSIONS,
+    ) -> None:
         """Without a question for `idle` seconds a database gives its way back, and without a way the sessions are closed. `deadline` is
         for a statement, in seconds. If it `confirms`, nothing is told before a synchronous standby is known to have it. Why a session is
         not to be had it will `say`. `make` makes each."""
@@ -82,7 +114,9 @@ class QuickPlane:
         """How many databases have new blocks that wait for a session."""
         return 0 if self._address is None else int(self.library.plane_due(self._address))
 
-    async def way_of(self, row: Row, served: Served, told: Callable[[], None], lines: TrailList | None = None) -> QuickWay | None:
+    async def way_of(
+        self, row: Row, served: Served, told: Callable[[], None], lines: TrailList | None = None
+    ) -> QuickWay | None:
         """One for this database, begun; None where it is not to be had yet. `told` is called where there is news of it. Behind `lines` of
         its audit list those are kept that speak of its blocks. Who gets one has to `run` it."""
         if self._found is None or not self._is_connected():
@@ -91,7 +125,9 @@ class QuickPlane:
             line = await served.pulling_line()
             self._begin()
             self._last_key += 1
-            way = self._ways[self._last_key] = QuickWay(self, self._last_key, row, served, line, told, lines)
+            way = self._ways[self._last_key] = QuickWay(
+                self, self._last_key, row, served, line, told, lines
+            )
         except (MemoryError, OSError):
             return None
         self.connect_more()
@@ -121,8 +157,14 @@ class QuickPlane:
     def connected(self, session: QuickSessionOf) -> None:
         """It has its statements: it is lent."""
         keep, keep_block, flushed, *more = (each.name for each in session.statements)
-        start = SessionStart(session.key, session.statements[0].connection, keep, keep_block, more[0] if more else None,
-                             flushed if self.confirms else None)  # fmt: skip
+        start = SessionStart(
+            session.key,
+            session.statements[0].connection,
+            keep,
+            keep_block,
+            more[0] if more else None,
+            flushed if self.confirms else None,
+        )
         try:
             self._begin()
             session.is_lent = bool(self.library.plane_lend(self.address, ctypes.byref(start)))
@@ -225,7 +267,10 @@ class QuickSessionOf:
     @property
     def may_connect(self) -> bool:
         """Whether it can begin to: after a failure not at once again."""
-        return not (self._is_over or self.is_lent or self.statements or self.is_connecting) and time.monotonic() >= self.not_before
+        return (
+            not (self._is_over or self.is_lent or self.statements or self.is_connecting)
+            and time.monotonic() >= self.not_before
+        )
 
     def connect(self) -> None:
         """Begins to."""
@@ -254,7 +299,9 @@ class QuickSessionOf:
                 self._plane.failed(error)
             return
         self.statements = made.result()
-        assert all(each.names == names for each, names in zip(self.statements, self._plane.values.values()))
+        assert all(
+            each.names == names for each, names in zip(self.statements, self._plane.values.values())
+        )
         self._lent_at = time.monotonic()
         self._plane.connected(self)
 

@@ -46,14 +46,25 @@ class QuickWay:
     """The thread's way of one database: it is on it from the beginning until its end."""
 
     def __init__(
-        self, plane: QuickPlane, key: int, row: Row, served: Served, line: tuple[int, bytes, bytes], told: Callable[[], None],
+        self,
+        plane: QuickPlane,
+        key: int,
+        row: Row,
+        served: Served,
+        line: tuple[int, bytes, bytes],
+        told: Callable[[], None],
         lines: TrailList | None = None,
-    ) -> None:  # fmt: skip
+    ) -> None:
         """`line` is a connection to the service, and a pull and a question for its audit list as frames. `told` is called where there is
-        news of it. Behind `lines` of the list those are kept that speak of the blocks. Raises `MemoryError`."""
+        news of it. Behind `lines` of the list those are kept that speak of the blocks. Raises `MemoryError`.
+        """
         self._plane, self._library, self._told = plane, plane.library, told
         self._service, pull, audit = line
-        self._name, self._generation, self._of = row.name, served.generation, Of(row.identity, served.run)
+        self._name, self._generation, self._of = (
+            row.name,
+            served.generation,
+            Of(row.identity, served.run),
+        )
         self._noted = served.acknowledged  # as long as the thread may write there
         self._lent: dict[int, Line] = {}
         self._is_over = self._stops = False
@@ -63,12 +74,26 @@ class QuickWay:
         self.lines = lines
         """How far the list is kept, once it has ended; None where that is not known."""
         start = Start(
-            key, row.name.encode(), served.generation, f"of={self._of}".encode(), served.is_told_by_number, str(row.id).encode(),
-            served.run.encode(), served.reached, None if self._noted is None else self._noted.address, served.shift,
-            (ctypes.c_uint8 * DIGEST)(*served.chain), len(served.chain), pull, len(pull), List.from_list(lines), audit,
-            len(audit), self._service,
+            key,
+            row.name.encode(),
+            served.generation,
+            f"of={self._of}".encode(),
+            served.is_told_by_number,
+            str(row.id).encode(),
+            served.run.encode(),
+            served.reached,
+            None if self._noted is None else self._noted.address,
+            served.shift,
+            (ctypes.c_uint8 * DIGEST)(*served.chain),
+            len(served.chain),
+            pull,
+            len(pull),
+            List.from_list(lines),
+            audit,
+            len(audit),
+            self._service,
             *(round(1000 * each) for each in (served.timeout, plane.deadline, plane.idle)),
-        )  # fmt: skip
+        )
         self._way: int | None = self._library.way_new(plane.address, ctypes.byref(start))
         if self._way is None:
             os.close(self._service)
@@ -88,7 +113,11 @@ class QuickWay:
         if self._is_over or self._stops or not len(waits):
             return False
         for line, positions in waits.now().items():
-            if len(positions) == 1 and positions[0] < _MOST and (descriptor := line.lend()) is not None:
+            if (
+                len(positions) == 1
+                and positions[0] < _MOST
+                and (descriptor := line.lend()) is not None
+            ):
                 waits.gone(line)
                 self._lent[descriptor] = line
                 if not self._library.way_add(self._way, descriptor, positions[0], line.version > 1):
@@ -136,7 +165,11 @@ class QuickWay:
             self.stop()
         line = self._lent.pop(descriptor)
         of = f" of={self._of}" if line.version > 1 else ""
-        question = f"durable {self._name} {self._generation} {position}{of}\n".encode() if position else b""
+        question = (
+            f"durable {self._name} {self._generation} {position}{of}\n".encode()
+            if position
+            else b""
+        )
         os.close(descriptor)
         line.take_back(question + data)
 

@@ -147,7 +147,7 @@ static bool receive(struct way *way, bool *lacks_memory) {
         return false;
     }
     way->in_len += (size_t)got;
-    return way->in_len < 4 || (size_t)number_in(way->in, 4) <= REPLY_MOST;
+    return true;
 }
 
 /* Takes a reply with blocks, or that of the end of the log. What was asked behind the end is passed over: it is asked for again. */
@@ -215,8 +215,11 @@ static enum way_end take_replies(struct way *way) {
     while (end == WAY_STOPPED && (way->pulls > 0 || way->awaits_lines) && way->in_len - at >= 4) {
         const uint8_t *body = way->in + at + 4;
         size_t len = (size_t)number_in(way->in + at, 4);
+        if (len > REPLY_MOST) {
+            return WAY_SERVICE;
+        }
         if (way->in_len - at - 4 < len) {
-            break;
+            break; /* there is room for the rest of it the next time */
         }
         end = way->pulls > 0 ? take_pulled(way, body, len) : take_listed(way, body, len);
         at += 4 + len;

@@ -8,7 +8,7 @@ import time
 from concurrent.futures import Executor, ThreadPoolExecutor
 from typing import Any, Callable, TypeVar
 
-from pagelog.archive_engine import engine_of
+from pagelog.archive.engine import engine_of
 from pagelog.errors import AuditListFull
 from pagelog.keeper.fate import Of
 from pagelog.libpq import plain_url
@@ -69,7 +69,9 @@ class Turn:
         else:
             self._work.add_done_callback(lambda _: self.leave())
 
-    async def spend(self, thread: Executor, work: Callable[[], _Result], *, is_short: bool = False) -> _Result | None:
+    async def spend(
+        self, thread: Executor, work: Callable[[], _Result], *, is_short: bool = False
+    ) -> _Result | None:
         """What this returns in the thread, in the caller's turn; None where it `is_short` and has not done soon."""
         made = asyncio.get_running_loop().run_in_executor(thread, work)
         self._work = made
@@ -87,7 +89,9 @@ class Trails:
         self.engine = engine_of(self.url)
         self.thread = ThreadPoolExecutor(1)
 
-    def recorder(self, served: Served, of: Of, say: Callable[[str, str], None], *, is_waited_for: bool) -> Recorder:
+    def recorder(
+        self, served: Served, of: Of, say: Callable[[str, str], None], *, is_waited_for: bool
+    ) -> Recorder:
         """Of one run, which this keeper holds."""
         return Recorder(self, served, of, say, is_waited_for)
 
@@ -103,9 +107,17 @@ class Trails:
 
 class Recorder:
     """The trail of one run. What it cannot do it says, and tries again later: no batch needs it to be kept, and the end of a run that is
-    closed waits for it no longer than a ttl. Where it `is_waited_for` the first blocks wait for it too, and not long."""
+    closed waits for it no longer than a ttl. Where it `is_waited_for` the first blocks wait for it too, and not long.
+    """
 
-    def __init__(self, trails: Trails, served: Served, of: Of, say: Callable[[str, str], None], is_waited_for: bool = False) -> None:
+    def __init__(
+        self,
+        trails: Trails,
+        served: Served,
+        of: Of,
+        say: Callable[[str, str], None],
+        is_waited_for: bool = False,
+    ) -> None:
         self._trails, self._served, self._of, self._say = trails, served, of, say
         self._operator = served.operator()  # it connects once it asks
         self._due = asyncio.Event()
@@ -135,9 +147,16 @@ class Recorder:
         """Keeps what is new as often as `look` says, until the list is another keeper's, or full. A list that is begun ends the one before:
         where another keeper is about to end that, it has a ttl for it."""
         ends, was_said = time.monotonic() + self._trails.ttl, False
-        while self._served.is_after_release and time.monotonic() < ends and await self._call(self._is_open):
+        while (
+            self._served.is_after_release
+            and time.monotonic() < ends
+            and await self._call(self._is_open)
+        ):
             if not was_said:
-                self._say(self._served.database, "its audit list is kept once the one before has ended, or after a ttl")
+                self._say(
+                    self._served.database,
+                    "its audit list is kept once the one before has ended, or after a ttl",
+                )
             was_said = True
             await asyncio.sleep(self._trails.ttl / 64)
         while not self._is_over:
@@ -174,7 +193,10 @@ class Recorder:
         found = None if one is None else await self._served.lines_at_once(one.kept + 1)
         if one is not None and found:
             return Lines(*piece_behind(one, found, now()))
-        if not self._is_over and await self.turn.spend(self._trails.thread, self._keep, is_short=True) is None:
+        if (
+            not self._is_over
+            and await self.turn.spend(self._trails.thread, self._keep, is_short=True) is None
+        ):
             self._due.set()
             self._say_without()
         return None
@@ -186,12 +208,16 @@ class Recorder:
             return None
         found: list[Entry] = []
         try:
-            while len(found) % AUDIT_MAX == 0 and (more := self._operator.audit(one.kept + 1 + len(found))):
+            while len(found) % AUDIT_MAX == 0 and (
+                more := self._operator.audit(one.kept + 1 + len(found))
+            ):
                 found += more
         except Exception as error:
             self._tell(error)
             return None
-        return Lines(*piece_behind(one, b"".join(map(encode_entry, found)), now())) if found else None
+        return (
+            Lines(*piece_behind(one, b"".join(map(encode_entry, found)), now())) if found else None
+        )
 
     def settle(self, lines: Lines, *, is_kept: bool) -> None:
         """Whether these lines are kept is known; where it is not, the trail is asked next time. The turn is the caller's."""
@@ -202,7 +228,8 @@ class Recorder:
 
     def lend(self, wanted: Callable[[], None]) -> TrailList | None:
         """The list, for one who keeps its lines with the blocks in place of this, until `take_back`; None where that cannot be. `wanted` is
-        called once it is needed here, as once a day to prune. The turn is the caller's until then."""
+        called once it is needed here, as once a day to prune. The turn is the caller's until then.
+        """
         one = None if self._is_over or self._keeper is None else self._keeper.list
         self._wanted = None if one is None else wanted
         return one
@@ -229,7 +256,10 @@ class Recorder:
 
     def _say_without(self) -> None:
         if not self._is_without:
-            self._say(self._served.database, "blocks are archived without their lines: its audit list is not kept yet")
+            self._say(
+                self._served.database,
+                "blocks are archived without their lines: its audit list is not kept yet",
+            )
         self._is_without = True
 
     async def _call(self, work: Callable[[], bool | None]) -> bool | None:
@@ -261,7 +291,9 @@ class Recorder:
     def _is_open(self) -> bool:
         """Whether the list before has not ended."""
         lists: list[TrailList] = []
-        self._tried(lambda: lists.extend(self._trails.trail(self._served.database, self._of).lists()))
+        self._tried(
+            lambda: lists.extend(self._trails.trail(self._served.database, self._of).lists())
+        )
         return any(one.ended is None for one in lists)
 
     def _tried(self, work: Callable[[], None]) -> bool:
@@ -271,7 +303,9 @@ class Recorder:
             self._said, self._met_other = "", False
             return True
         except Exception as error:  # whatever it is: blocks wait for no trail
-            is_other = isinstance(error, OtherKeeper)  # or it was this one, by a statement in doubt that came late
+            is_other = isinstance(
+                error, OtherKeeper
+            )  # or it was this one, by a statement in doubt that came late
             self._is_over = isinstance(error, AuditListFull) or (is_other and self._met_other)
             self._met_other = is_other
             self._tell(error)
@@ -289,8 +323,14 @@ class Recorder:
         if self._keeper is None:
             served = self._served
             trail, tables = self._trails.trail(served.database, self._of), served.texts()
-            self._keeper = TrailKeeper(self._operator, trail, generation=served.generation, of=str(self._of), start=Start(tables[0], KEEPER),
-                                       tables=tables)  # fmt: skip
+            self._keeper = TrailKeeper(
+                self._operator,
+                trail,
+                generation=served.generation,
+                of=str(self._of),
+                start=Start(tables[0], KEEPER),
+                tables=tables,
+            )
         if self._keeper.list is None:
             self._check_name()
         return self._keeper
@@ -298,9 +338,16 @@ class Recorder:
     def _check_name(self) -> None:
         """No list is begun of a run that PostgreSQL does not know, or under a name that is another database's by now. Raises `OtherKeeper`."""
         served = self._served
-        known = {"name": served.database, "database": self._of.database, "generation": served.generation, "run": served.run}
+        known = {
+            "name": served.database,
+            "database": self._of.database,
+            "generation": served.generation,
+            "run": served.run,
+        }
         if not self._trails.engine.rows(_IS_OF_THE_NAME, **known):
-            raise OtherKeeper(f"generation {served.generation} of {served.database} is not that of run {served.run}")
+            raise OtherKeeper(
+                f"generation {served.generation} of {served.database} is not that of run {served.run}"
+            )
 
     def _prune(self, keeper: TrailKeeper) -> None:
         today = now() // DAY

@@ -9,7 +9,11 @@ def is_refusal(error: psycopg.Error) -> bool:
     """Whether the statement was rolled back, as the server has said in going on. One that ends the session, or itself, may have
     committed before; so may one whose completion is unknown, or that a lost line ended."""
     is_ended = error.diag.severity_nonlocalized in ("FATAL", "PANIC")
-    return error.sqlstate is not None and not is_ended and not error.sqlstate.startswith(("57P", "08", "40003"))
+    return (
+        error.sqlstate is not None
+        and not is_ended
+        and not error.sqlstate.startswith(("57P", "08", "40003"))
+    )
 
 
 def line_of(error: Exception) -> str:

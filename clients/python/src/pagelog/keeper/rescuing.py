@@ -43,8 +43,16 @@ def saved_as(referee: Referee, of: Definition, served: Served, name: str) -> int
         raise KeeperError(f"there is a database {name}")
     run = f"rescue {secrets.token_hex(8)}"
     ancestor, identity = served.database if of.ancestor is None else of.ancestor, str(uuid4())
-    [[log]] = referee._ask(_MAKE, {"name": name, "run": run, "ancestor": ancestor, "identity": identity,
-                                   **referee.stored(identity, of.text, of.secret)})  # fmt: skip
+    [[log]] = referee._ask(
+        _MAKE,
+        {
+            "name": name,
+            "run": run,
+            "ancestor": ancestor,
+            "identity": identity,
+            **referee.stored(identity, of.text, of.secret),
+        },
+    )
     end = served.end_of_log()
     base = _base(referee, served, log, run)
     chain = _blocks(referee, served, Batch(log, run, 0, base.position, base.chain, ()), end)

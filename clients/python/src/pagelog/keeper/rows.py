@@ -216,7 +216,11 @@ class Look:
 
     def decisions_of(self, row: Row) -> dict[str, str]:
         """What each keeper has decided of a database, and why, as its last report says; an older keeper reports none."""
-        return {keeper.name: found["why"] for keeper in self.keepers if "why" in (found := keeper.report.get(row.name, {}))}
+        return {
+            keeper.name: found["why"]
+            for keeper in self.keepers
+            if "why" in (found := keeper.report.get(row.name, {}))
+        }
 
     def pages_of(self, log: int) -> tuple[PagesRow, ...]:
         """The page servers of a database, those that have gone among them."""
@@ -275,12 +279,26 @@ class Kept:
 
 def told(holder: str | None, why: Mapping[str, str]) -> str:
     """What was decided of a database, by keeper, for a person: what its holder says, or all where it has none."""
-    return why.get(holder, "") if holder is not None else "; ".join(f"{keeper} says: {why[keeper]}" for keeper in sorted(why))
+    return (
+        why.get(holder, "")
+        if holder is not None
+        else "; ".join(f"{keeper} says: {why[keeper]}" for keeper in sorted(why))
+    )
 
 
-def look_of(keepers: list[Any], rows: list[Any], standbys: list[Any], names: str, count: int | None, pages: list[Any]) -> Look:
+def look_of(
+    keepers: list[Any],
+    rows: list[Any],
+    standbys: list[Any],
+    names: str,
+    count: int | None,
+    pages: list[Any],
+) -> Look:
     """From the columns of the statement."""
-    return Look(tuple(map(Row.of, rows)), tuple(KeeperRow(**found) for found in keepers),
-                tuple(StandbyRow(**found) for found in standbys), Synchronous(names, count),
-                tuple(PagesRow(**found) for found in pages))  # fmt: skip
-
+    return Look(
+        tuple(map(Row.of, rows)),
+        tuple(KeeperRow(**found) for found in keepers),
+        tuple(StandbyRow(**found) for found in standbys),
+        Synchronous(names, count),
+        tuple(PagesRow(**found) for found in pages),
+    )

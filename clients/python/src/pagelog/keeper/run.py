@@ -72,12 +72,19 @@ class Facts:
         """Of the text of its file. Raises `ValueError` or `TypeError`."""
         found = json.loads(text)
         known = {each.name for each in fields(cls)} - {"others"}
-        return cls(**{key: found[key] for key in found if key in known}, others={key: found[key] for key in found if key not in known})
+        return cls(
+            **{key: found[key] for key in found if key in known},
+            others={key: found[key] for key in found if key not in known},
+        )
 
     @property
     def text(self) -> str:
         """That of its file. 0.1.0 takes none with a fact that it does not know, and could not end a process of another user."""
-        known = {key: value for key, value in vars(self).items() if key != "others" and (key != "runner" or value is not None)}
+        known = {
+            key: value
+            for key, value in vars(self).items()
+            if key != "others" and (key != "runner" or value is not None)
+        }
         return json.dumps({**self.others, **known})
 
     @property
@@ -103,7 +110,12 @@ class Run:
     """A running service, that this keeper started or adopted. It outlives its keeper."""
 
     def __init__(
-        self, folder: Path, facts: Facts, descriptor: int, child: Child | None = None, acknowledged: Acknowledged | None = None
+        self,
+        folder: Path,
+        facts: Facts,
+        descriptor: int,
+        child: Child | None = None,
+        acknowledged: Acknowledged | None = None,
     ) -> None:
         self.folder = folder
         self.facts = facts
@@ -128,7 +140,11 @@ class Run:
     def _memory(self) -> Iterator[int | None]:
         """A descriptor of the memory that its keepers share with it; None of a process that has none, or has ended. Raises `RunnerError`."""
         pid, runner = self.facts.pid, self._runner
-        memory = memory_of(pid) if runner is None or is_allowed(pid) else runner.memory_of(pid, self.descriptor)
+        memory = (
+            memory_of(pid)
+            if runner is None or is_allowed(pid)
+            else runner.memory_of(pid, self.descriptor)
+        )
         try:
             yield memory if self.is_alive else None  # else its number may be another process's by now
         finally:
@@ -160,21 +176,43 @@ class Run:
         return self.facts.address
 
     @classmethod
-    def start(cls, program: Program, name: str, run: str, table: str, *, listen: str | None = None) -> Run:
+    def start(
+        cls, program: Program, name: str, run: str, table: str, *, listen: str | None = None
+    ) -> Run:
         """Starts a service with this table, and waits until it listens. Raises `NotStarted`.
 
         It waits for its table until it is noted, and ends where its keeper is killed before: nobody would know of it.
         """
         said = said_in(program.folder, name, run)
-        words = [program.path, "serve", "--listen", listen or f"{program.host}:0", "--table", "/dev/stdin", "--primary", str(KEEPER),
-                 "--dbs", "1", "--workers", str(WORKERS), "--connections", str((1 << 32) - 1), "--audit", str(program.audit),
-                 "--idle-polls", "0"]  # fmt: skip
+        words = [
+            program.path,
+            "serve",
+            "--listen",
+            listen or f"{program.host}:0",
+            "--table",
+            "/dev/stdin",
+            "--primary",
+            str(KEEPER),
+            "--dbs",
+            "1",
+            "--workers",
+            str(WORKERS),
+            "--connections",
+            str((1 << 32) - 1),
+            "--audit",
+            str(program.audit),
+            "--idle-polls",
+            "0",
+        ]
         child = None
         descriptor = None
         try:
             child, acknowledged = _started(words, said, program.runner)
             descriptor = child.descriptor if isinstance(child, Hired) else os.pidfd_open(child.pid)
-            facts = replace(_facts_of(name, run, child.pid), runner=None if program.runner is None else str(program.runner.path))
+            facts = replace(
+                _facts_of(name, run, child.pid),
+                runner=None if program.runner is None else str(program.runner.path),
+            )
             made = cls(program.folder, facts, descriptor, child, acknowledged)
             made._note()
             _give(child, table)
@@ -250,7 +288,11 @@ class Run:
     def seen(self) -> Seen:
         """What was noted so last, and exactly up to where it was acknowledged; nothing where neither can be read."""
         seen, acknowledged = seen_of(self.folder, self.facts), self.acknowledged
-        return seen if acknowledged is None else replace(seen, archived=max(seen.archived, acknowledged.position))
+        return (
+            seen
+            if acknowledged is None
+            else replace(seen, archived=max(seen.archived, acknowledged.position))
+        )
 
     def _note(self, **facts: Any) -> None:
         self.facts = replace(self.facts, **facts)
@@ -306,8 +348,18 @@ def _started(words: list[str], said: Path, runner: Runner | None) -> tuple[Child
         with open(said, "wb", opener=_private) as errors:
             if runner is not None:
                 return runner.start(words, errors.fileno(), memory), acknowledged
-            return subprocess.Popen(words, stdin=subprocess.PIPE, stdout=subprocess.PIPE, stderr=errors, start_new_session=True,
-                                    env=environment(), pass_fds=(memory,)), acknowledged  # fmt: skip
+            return (
+                subprocess.Popen(
+                    words,
+                    stdin=subprocess.PIPE,
+                    stdout=subprocess.PIPE,
+                    stderr=errors,
+                    start_new_session=True,
+                    env=environment(),
+                    pass_fds=(memory,),
+                ),
+                acknowledged,
+            )
     finally:
         os.close(memory)
 
@@ -320,7 +372,11 @@ def _private(path: str, flags: int) -> int:
 def environment() -> dict[str, str]:
     """What a service inherits: it needs nothing, and the keeper's own may have the password of PostgreSQL. The program is found by PATH,
     and may be a script."""
-    return {name: value for name in ("PATH", "LANG", "TZ") if (value := os.environ.get(name)) is not None}
+    return {
+        name: value
+        for name in ("PATH", "LANG", "TZ")
+        if (value := os.environ.get(name)) is not None
+    }
 
 
 def has_services(folder: Path) -> bool:
@@ -395,7 +451,12 @@ def orphans_of(folder: Path, wanted: set[str]) -> list[Run]:
             os.close(descriptor)
         else:
             found.append(Run(folder, facts, descriptor))
-    left = [file for end in ("said", "seen") for file in folder.glob(f"*.{end}") if not file.with_suffix(".json").exists()]
+    left = [
+        file
+        for end in ("said", "seen")
+        for file in folder.glob(f"*.{end}")
+        if not file.with_suffix(".json").exists()
+    ]
     for file in (*left, *folder.glob("*.new")):
         file.unlink(missing_ok=True)
     return found
@@ -437,7 +498,9 @@ def _opened(facts: Facts) -> int | None:
         return None
     try:
         now = _facts_of(facts.name, facts.run, facts.pid)
-        if (now.started, now.boot) == (facts.started, facts.boot) and not is_readable(descriptor, 0):
+        if (now.started, now.boot) == (facts.started, facts.boot) and not is_readable(
+            descriptor, 0
+        ):
             return descriptor
     except (OSError, ValueError, IndexError):
         pass
@@ -448,7 +511,9 @@ def _opened(facts: Facts) -> int | None:
 def _facts_of(name: str, run: str, pid: int) -> Facts:
     """The facts of a process that runs. Its name, in parentheses, may have spaces."""
     fields = Path(f"/proc/{pid}/stat").read_text().rpartition(")")[2].split()
-    return Facts(name, run, pid, int(fields[19]), Path("/proc/sys/kernel/random/boot_id").read_text().strip())
+    return Facts(
+        name, run, pid, int(fields[19]), Path("/proc/sys/kernel/random/boot_id").read_text().strip()
+    )
 
 
 def is_readable(descriptor: int, patience: float) -> bool:

@@ -71,16 +71,22 @@ class Runner:
         """Raises `RunnerError` unless it is there, as another user, and this process sees the processes of that."""
         found, _ = self._asked({"who": True})
         if found["user"] == os.geteuid():
-            raise RunnerError(f"the runner at {self.path} runs as this very user: services would have all that their keeper may read")
+            raise RunnerError(
+                f"the runner at {self.path} runs as this very user: services would have all that their keeper may read"
+            )
         self._see(found["pid"])
 
     def start(self, words: Sequence[str], errors: int, memory: int) -> Hired:
         """Starts a process with these descriptors, and no other but its own input and output. Raises `RunnerError`."""
-        found, (descriptor, stdin, stdout) = self._asked({"start": list(words)}, errors, memory, wants=3)
+        found, (descriptor, stdin, stdout) = self._asked(
+            {"start": list(words)}, errors, memory, wants=3
+        )
         made = Hired(self, found["pid"], descriptor, stdin, stdout)
         try:
             if self._see(made.pid) == os.geteuid():
-                raise RunnerError(f"the runner at {self.path} has started a service as this very user")
+                raise RunnerError(
+                    f"the runner at {self.path} has started a service as this very user"
+                )
         except RunnerError:
             has_ended = made.has_ended
             with suppress(RunnerError):
@@ -106,9 +112,13 @@ class Runner:
         try:
             return os.stat(f"/proc/{pid}").st_uid
         except OSError as error:
-            raise RunnerError(f"processes of the runner at {self.path} are hidden from this one, as by ProtectProc= or hidepid: {error}") from error
+            raise RunnerError(
+                f"processes of the runner at {self.path} are hidden from this one, as by ProtectProc= or hidepid: {error}"
+            ) from error
 
-    def _asked(self, request: dict[str, Any], *descriptors: int, wants: int | None = None) -> tuple[dict[str, Any], list[int]]:
+    def _asked(
+        self, request: dict[str, Any], *descriptors: int, wants: int | None = None
+    ) -> tuple[dict[str, Any], list[int]]:
         """Asks again while nobody answers: what was begun by a request whose reply was lost has no table, and ends."""
         deadline, waits = time.monotonic() + PATIENCE, Backoff(0.02, 0.5)
         while True:
@@ -116,17 +126,25 @@ class Runner:
                 found, opened = self._reply(json.dumps(request).encode(), descriptors, deadline)
             except (OSError, EOFError) as error:
                 if time.monotonic() >= deadline:
-                    raise RunnerError(f"no runner of services answers at {self.path}: {error}") from error
+                    raise RunnerError(
+                        f"no runner of services answers at {self.path}: {error}"
+                    ) from error
                 time.sleep(waits.next())
                 continue
             if "error" not in found and (wants is None or len(opened) == wants):
                 return found, opened
             for each in opened:
                 os.close(each)
-            raise RunnerError(f"the runner at {self.path}: {found.get('error', 'it has no descriptor left')}")
+            raise RunnerError(
+                f"the runner at {self.path}: {found.get('error', 'it has no descriptor left')}"
+            )
 
-    def _reply(self, request: bytes, descriptors: Sequence[int], deadline: float) -> tuple[dict[str, Any], list[int]]:
-        with socket.socket(socket.AF_UNIX, socket.SOCK_SEQPACKET) as line, near(self.path.parent, self.path.name) as path:
+    def _reply(
+        self, request: bytes, descriptors: Sequence[int], deadline: float
+    ) -> tuple[dict[str, Any], list[int]]:
+        with socket.socket(socket.AF_UNIX, socket.SOCK_SEQPACKET) as line, near(
+            self.path.parent, self.path.name
+        ) as path:
             line.settimeout(max(0.01, deadline - time.monotonic()))
             line.connect(path)
             socket.send_fds(line, [request], descriptors)

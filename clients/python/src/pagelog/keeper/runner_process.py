@@ -58,7 +58,9 @@ class RunnerProcess:
                 self._accept()
             elif (line := self._lines.pop(descriptor, None)) is not None:
                 self._poll.unregister(descriptor)
-                with line, suppress(Exception):  # whoever sends that gets no reply, and all others do
+                with line, suppress(
+                    Exception
+                ):  # whoever sends that gets no reply, and all others do
                     self._answer(line)
             elif (child := self._children.pop(descriptor, None)) is not None:
                 self._poll.unregister(descriptor)
@@ -81,9 +83,13 @@ class RunnerProcess:
     def _answer(self, line: socket.socket) -> None:
         text, opened = received(line)
         try:
-            _, user, _ = struct.unpack("3i", line.getsockopt(socket.SOL_SOCKET, socket.SO_PEERCRED, 12))
+            _, user, _ = struct.unpack(
+                "3i", line.getsockopt(socket.SOL_SOCKET, socket.SO_PEERCRED, 12)
+            )
             if user not in self._users:
-                return _reply(line, {"error": f"user {user} may not ask it: it runs services --for others"})
+                return _reply(
+                    line, {"error": f"user {user} may not ask it: it runs services --for others"}
+                )
             request = json.loads(text)
             try:
                 self._do(line, request, opened)
@@ -107,8 +113,16 @@ class RunnerProcess:
 
     def _start(self, line: socket.socket, words: list[str], errors: int, memory: int) -> None:
         """Its input is a pipe of this user, since a service opens it by its path."""
-        child = subprocess.Popen(words, stdin=subprocess.PIPE, stdout=subprocess.PIPE, stderr=errors, start_new_session=True, cwd="/",
-                                 env=environment(), pass_fds=(memory,))  # fmt: skip
+        child = subprocess.Popen(
+            words,
+            stdin=subprocess.PIPE,
+            stdout=subprocess.PIPE,
+            stderr=errors,
+            start_new_session=True,
+            cwd="/",
+            env=environment(),
+            pass_fds=(memory,),
+        )
         assert child.stdin is not None and child.stdout is not None
         with child.stdin, child.stdout:
             try:
@@ -119,7 +133,9 @@ class RunnerProcess:
                 raise
             self._children[descriptor] = child
             self._poll.register(descriptor, select.POLLIN)
-            _reply(line, {"pid": child.pid}, descriptor, child.stdin.fileno(), child.stdout.fileno())
+            _reply(
+                line, {"pid": child.pid}, descriptor, child.stdin.fileno(), child.stdout.fileno()
+            )
 
     def _show_memory(self, line: socket.socket, pid: int, process: int) -> None:
         memory = memory_of(pid)

@@ -169,7 +169,7 @@ _PACKS = (
         raw bigint NOT NULL, state smallint NOT NULL DEFAULT 0, PRIMARY KEY (log, number))""",
     "CREATE INDEX IF NOT EXISTS pagelog_pack_key ON pagelog_pack (key)",
     "CREATE INDEX IF NOT EXISTS pagelog_pack_open ON pagelog_pack (log, number) WHERE state < 2",
-    # packs: so many numbers were given to packs of the database.
+    # packs: so many numbers were given to packs of the database, to manifests, and to what is done to packs.
     "ALTER TABLE pagelog_store ADD COLUMN IF NOT EXISTS packs bigint NOT NULL DEFAULT 0",
     # pack: the number of the pack that has the image, at this place, with so many bytes; digest: how their SHA-256 begins. Its data is empty
     # once the pack has state 2.
@@ -201,12 +201,46 @@ _HELD = (
     "ALTER TABLE pagelog_log ADD COLUMN IF NOT EXISTS held timestamptz",
 )
 
+_INSTEAD = (
+    # instead: the pack comes in the place of some of which little is needed still; its images are in these.
+    "ALTER TABLE pagelog_pack ADD COLUMN IF NOT EXISTS instead boolean NOT NULL DEFAULT false",
+)
+
+_LEGAL_HOLDS = (
+    # The object `key` has a legal hold in the store, or is about to get one, since the database is held.
+    """CREATE TABLE IF NOT EXISTS pagelog_legal_hold (
+        log integer NOT NULL REFERENCES pagelog_log, key text NOT NULL, PRIMARY KEY (log, key))""",
+    "CREATE INDEX IF NOT EXISTS pagelog_legal_hold_key ON pagelog_legal_hold (key)",
+    # Who may do something with objects may do the same with these.
+    """DO $$ DECLARE one record; BEGIN
+      FOR one IN SELECT CASE a.grantee WHEN 0 THEN 'PUBLIC' ELSE a.grantee::regrole::text END AS name, a.privilege_type AS kind
+        FROM pg_class c, aclexplode(c.relacl) a WHERE c.oid = 'pagelog_object'::regclass AND a.grantee <> c.relowner
+      LOOP EXECUTE format('GRANT %s ON pagelog_legal_hold TO %s', one.kind, one.name); END LOOP;
+    END $$""",
+)
+
 _PAGES_SECURE = (
     # secure: as in the tables above, of the page server's run.
     "ALTER TABLE pagelog_pages ADD COLUMN IF NOT EXISTS secure text",
 )
 
-STEPS = (_FIRST, _LIVES, _IDENTITY, _TRAILS, _TABLE_NUMBERS, _SEALED, _SECURE, _PAGES, _STORE, _ASIDE, _PACKS, _HELD, _PAGES_SECURE)
+STEPS = (
+    _FIRST,
+    _LIVES,
+    _IDENTITY,
+    _TRAILS,
+    _TABLE_NUMBERS,
+    _SEALED,
+    _SECURE,
+    _PAGES,
+    _STORE,
+    _ASIDE,
+    _PACKS,
+    _HELD,
+    _PAGES_SECURE,
+    _INSTEAD,
+    _LEGAL_HOLDS,
+)
 """What brings the tables from each version to the next one. Tables of version 1 have no number: they are older than it."""
 VERSION = len(STEPS)
 
@@ -232,6 +266,10 @@ _LOCK = 7_074_611_203_551
 def script(version: int) -> str:
     """The steps from a version on, as one transaction."""
     made = [statement for step in STEPS[version:] for statement in step]
-    numbers = ("CREATE TABLE IF NOT EXISTS pagelog_schema (version integer PRIMARY KEY, came timestamptz NOT NULL DEFAULT now())",
-               f"INSERT INTO pagelog_schema (version) VALUES ({VERSION}) ON CONFLICT DO NOTHING")  # fmt: skip
-    return ";\n".join((f"BEGIN; SELECT pg_advisory_xact_lock({_LOCK})", *made, *numbers, _GRANTED, "COMMIT"))
+    numbers = (
+        "CREATE TABLE IF NOT EXISTS pagelog_schema (version integer PRIMARY KEY, came timestamptz NOT NULL DEFAULT now())",
+        f"INSERT INTO pagelog_schema (version) VALUES ({VERSION}) ON CONFLICT DO NOTHING",
+    )
+    return ";\n".join(
+        (f"BEGIN; SELECT pg_advisory_xact_lock({_LOCK})", *made, *numbers, _GRANTED, "COMMIT")
+    )

@@ -72,21 +72,31 @@ class Keys:
         key = self._keys[id]
         nonce = secrets.token_bytes(_NONCE)
         plain = json.dumps({"text": text, "secret": secret.hex()}).encode()
-        return Stored(INSTEAD, b"", nonce + _cipher(key).encrypt(nonce, plain, _associated(identity)), id)
+        return Stored(
+            INSTEAD, b"", nonce + _cipher(key).encrypt(nonce, plain, _associated(identity)), id
+        )
 
     def open(self, identity: str, stored: Stored) -> tuple[str, bytes]:
         """The text and the secret. Raises `NoKey`, and `CredentialsError`."""
         if stored.sealed is None or stored.key is None:
             return stored.text, stored.secret
         if (key := self._read().get(stored.key)) is None:
-            where = "no [archive] key_file is named" if self._file is None else f"{self._file} has it not"
+            where = (
+                "no [archive] key_file is named"
+                if self._file is None
+                else f"{self._file} has it not"
+            )
             raise NoKey(f"the table is sealed by key {stored.key}, and {where}")
         from cryptography.exceptions import InvalidTag
 
         try:
-            plain = _cipher(key).decrypt(stored.sealed[:_NONCE], stored.sealed[_NONCE:], _associated(identity))
+            plain = _cipher(key).decrypt(
+                stored.sealed[:_NONCE], stored.sealed[_NONCE:], _associated(identity)
+            )
         except (InvalidTag, ValueError) as error:
-            raise NoKey(f"the table is not what was sealed by key {stored.key} for this database") from error
+            raise NoKey(
+                f"the table is not what was sealed by key {stored.key} for this database"
+            ) from error
         found = json.loads(plain)
         return str(found["text"]), bytes.fromhex(found["secret"])
 
@@ -102,16 +112,22 @@ class Keys:
         except OSError as error:
             raise CredentialsError(f"[archive] key_file: {self._file}: {error.strerror}") from error
         except UnicodeDecodeError as error:
-            raise CredentialsError(f"[archive] key_file: {self._file}: a key is 64 hexadecimal digits a line") from error
+            raise CredentialsError(
+                f"[archive] key_file: {self._file}: a key is 64 hexadecimal digits a line"
+            ) from error
         return self._keys
 
 
 def _keys_of(file: Path, told: os.stat_result, text: str) -> dict[str, bytes]:
     if stat.S_ISREG(told.st_mode) and told.st_mode & 0o077:
-        raise CredentialsError(f"[archive] key_file: others may read {file.name}: chmod 600 {file.name}")
+        raise CredentialsError(
+            f"[archive] key_file: others may read {file.name}: chmod 600 {file.name}"
+        )
     lines = [line.strip() for line in text.splitlines() if line.strip()]
     if not lines or not all(_KEY.fullmatch(line) for line in lines):
-        raise CredentialsError(f"[archive] key_file: {file}: a key is 64 hexadecimal digits a line, as of `openssl rand -hex 32`")
+        raise CredentialsError(
+            f"[archive] key_file: {file}: a key is 64 hexadecimal digits a line, as of `openssl rand -hex 32`"
+        )
     return {id_of(key): key for key in map(bytes.fromhex, lines)}
 
 
@@ -123,5 +139,7 @@ def _cipher(key: bytes) -> Any:
     try:
         from cryptography.hazmat.primitives.ciphers.aead import AESGCM
     except ImportError as error:
-        raise CredentialsError("[archive] key_file needs python3-cryptography: apt-get install python3-cryptography") from error
+        raise CredentialsError(
+            "[archive] key_file needs python3-cryptography: apt-get install python3-cryptography"
+        ) from error
     return AESGCM(key)

@@ -44,8 +44,17 @@ class Served:
     thread at a time calls each of its methods; `look`, `pulled` and the others may run side by side, and what is done
     `at_once` is the event loop's."""
 
-    def __init__(self, name: str, run: str, text: str, secret: bytes, *, timeout: float, is_read_only: bool = False,
-                 table_number: int = 1) -> None:  # fmt: skip
+    def __init__(
+        self,
+        name: str,
+        run: str,
+        text: str,
+        secret: bytes,
+        *,
+        timeout: float,
+        is_read_only: bool = False,
+        table_number: int = 1,
+    ) -> None:
         self.database = name
         self.run = run
         self.kind = Kind.HOLDER
@@ -130,7 +139,9 @@ class Served:
         if self.front is None:
             return None
         place, is_only = self.front.place(self.run), not self.front.tls.plain
-        return Way(place or NOWHERE, is_only).text(self.run) if place is not None or is_only else None
+        return (
+            Way(place or NOWHERE, is_only).text(self.run) if place is not None or is_only else None
+        )
 
     @property
     def hangs(self) -> bool:
@@ -166,7 +177,9 @@ class Served:
         """Has its process remember of which database it is, for `rescue`. Want of memory, or of a runner, is no reason to end it."""
         if self.process is not None and self.identity:
             with suppress(OSError, RunnerError):
-                self.process.remember(Definition(self.identity, self._text, self._secret, self.ancestor))
+                self.process.remember(
+                    Definition(self.identity, self._text, self._secret, self.ancestor)
+                )
 
     def lead(self) -> None:
         """Has its keeper's front lead to it, if there is one. Raises `FrontError` where that is the only way to it, and does not now: it
@@ -209,7 +222,9 @@ class Served:
     def operator(self) -> Operator:
         """A keeper's operator over a connection of its own, for another thread."""
         assert self.process is not None
-        return Operator(self._connection(self.process), keeper_of(self._secret, self.database, self.run))
+        return Operator(
+            self._connection(self.process), keeper_of(self._secret, self.database, self.run)
+        )
 
     def texts(self) -> tuple[bytes, bytes]:
         """The tables of this run: closed, as it begins, and open."""
@@ -257,12 +272,16 @@ class Served:
         """A connection that fills it. Raises `Unreachable`."""
         assert self.process is not None
         credentials = keeper_of(self._secret, self.database, self.run)
-        return Loader(self.process.address, credentials, quorum=quorum_of(self._text), timeout=self.timeout)
+        return Loader(
+            self.process.address, credentials, quorum=quorum_of(self._text), timeout=self.timeout
+        )
 
     def _begin(self, bases: Bases, archived: int, loader: Loader) -> None:
         """With the images of the newest base. Its last block of them then has the base's position."""
         if self._has_part:
-            raise BrokenArchive(f"{self.database}: the service has a part of the images that it was to begin with")
+            raise BrokenArchive(
+                f"{self.database}: the service has a part of the images that it was to begin with"
+            )
         base = bases.newest(archived)
         if base is not NOTHING:
             self._has_part = True
@@ -277,7 +296,9 @@ class Served:
         """How far it was loaded. What is above `reached` was not compared with what is archived."""
         return self._ahead[0] if self._ahead is not None else self.reached
 
-    def load(self, loader: Loader, pieces: Iterable[Sequence[bytes]], archived: int, wanted: bytes) -> None:
+    def load(
+        self, loader: Loader, pieces: Iterable[Sequence[bytes]], archived: int, wanted: bytes
+    ) -> None:
         """Loads the blocks behind `loaded`, up to a position at which they have the digest that is wanted."""
         at, chain = self._ahead or (self.reached, self.chain)
 
@@ -290,16 +311,22 @@ class Served:
 
         loader.load(at + 1 - self.shift, with_lsns())
         if (at, chain) != (archived, wanted):
-            raise BrokenArchive(f"{self.database}: the blocks up to {archived} are not those that were archived")
+            raise BrokenArchive(
+                f"{self.database}: the blocks up to {archived} are not those that were archived"
+            )
         self.reached, self.chain, self.hard, self._ahead = archived, chain, archived, None
 
     def check(self, archived: int, chain: bytes) -> None:
         """Raises `BrokenArchive` where it does not have exactly what is archived."""
         if (self.reached, self.chain) != (archived, chain):
-            raise BrokenArchive(f"{self.database}: the service was filled with other blocks than the {archived} that are archived")
+            raise BrokenArchive(
+                f"{self.database}: the service was filled with other blocks than the {archived} that are archived"
+            )
         hard = self.end_of_log()
         if hard != archived:
-            raise BrokenArchive(f"{self.database}: the service has {hard} blocks where {archived} are archived")
+            raise BrokenArchive(
+                f"{self.database}: the service has {hard} blocks where {archived} are archived"
+            )
 
     def adopt(self, process: Run, reached: int, chain: bytes, *, shift: int, images: int) -> None:
         """Takes a process that an earlier life of the keeper has started; so much is archived of it."""
@@ -321,7 +348,9 @@ class Served:
             at, found = at + len(blocks), digest(found, blocks)
         return (at, found) == (archived, chain)
 
-    def continues(self, archived: int, chain: bytes, *, is_before: bool) -> tuple[int, bytes] | None:
+    def continues(
+        self, archived: int, chain: bytes, *, is_before: bool
+    ) -> tuple[int, bytes] | None:
         """From where it has to be archived again, a position with its digest: from what is archived, if it has exactly that. Where it began
         with images of a later position, which the archive lacks, it is these, if the archive is known to be of what was before.
         None where the archive has something else."""
@@ -365,7 +394,10 @@ class Served:
 
     async def looked_at_once(self) -> bool:
         """As `look`, without a thread; False where `look` has to see to it. Raises `TimedOut`."""
-        while self._quick_looker is not None and (found := await self._quick_looker.look(self._probe)) is not None:
+        while (
+            self._quick_looker is not None
+            and (found := await self._quick_looker.look(self._probe)) is not None
+        ):
             if not self._has_more(*found):
                 return True
         return False
@@ -432,7 +464,11 @@ class Served:
         Raises `OSError`."""
         assert self.process is not None
         made = await asyncio.to_thread(connected, Address.parse(self.process.address), self.timeout)
-        return made.detach(), self._puller.frame(self._reader.epoch), self._puller.audit_frame(self._reader.epoch)
+        return (
+            made.detach(),
+            self._puller.frame(self._reader.epoch),
+            self._puller.audit_frame(self._reader.epoch),
+        )
 
     async def lines_at_once(self, first: int) -> bytes | None:
         """The bytes of the audit list's lines from this number on, without a thread; None where they are not to be had so."""
@@ -459,11 +495,17 @@ class Served:
     def logged(self, position: int, end: int) -> Iterator[list[bytes]]:
         """The blocks of its log behind a position, up to another one, over a connection of their own: nobody waits for them."""
         assert self.process is not None
-        with Reader(self._connection(self.process), keeper_of(self._secret, self.database, self.run)) as reader:
+        with Reader(
+            self._connection(self.process), keeper_of(self._secret, self.database, self.run)
+        ) as reader:
             while position < end:
-                blocks = self._blocks_of(reader.span(position + 1 - self.shift, pulls=PULLS))[: end - position]
+                blocks = self._blocks_of(reader.span(position + 1 - self.shift, pulls=PULLS))[
+                    : end - position
+                ]
                 if not blocks:
-                    raise BrokenArchive(f"the log of {self.database} ends at {position} in place of {end}")
+                    raise BrokenArchive(
+                        f"the log of {self.database} ends at {position} in place of {end}"
+                    )
                 yield blocks
                 position += len(blocks)
 

@@ -56,46 +56,119 @@ class Settings:
 
     @classmethod
     def of(
-        cls, name: str, lines: str, serve: str, folder: Path, program: str, url: str, section: Mapping[str, Any], keep: str | int | None = None,
+        cls,
+        name: str,
+        lines: str,
+        serve: str,
+        folder: Path,
+        program: str,
+        url: str,
+        section: Mapping[str, Any],
+        keep: str | int | None = None,
         key_file: Path | None = None,
-        store: StoreSettings | None = None, runner: Path | None = None,
+        store: StoreSettings | None = None,
+        runner: Path | None = None,
     ) -> Settings:
         """From the options and the section. Raises `CredentialsError` for what the section may not have."""
         kinds: dict[str, type | tuple[type, ...]] = {
-            "ttl": (int, float), "standby": bool, "memory": int, "audit": int, "metrics": str, "require_standby": bool,
-            "console": str, "console_token": str, "trail": int, "succeed": (int, float), "unproved": bool,
-            "tls": str, "tls_lines": str, "tls_clients": str, "tls_ports": (str, int), "plain": bool,
-        }  # fmt: skip
+            "ttl": (int, float),
+            "standby": bool,
+            "memory": int,
+            "audit": int,
+            "metrics": str,
+            "require_standby": bool,
+            "console": str,
+            "console_token": str,
+            "trail": int,
+            "succeed": (int, float),
+            "unproved": bool,
+            "tls": str,
+            "tls_lines": str,
+            "tls_clients": str,
+            "tls_ports": (str, int),
+            "plain": bool,
+        }
         for key, value in section.items():
             if key not in kinds:
                 raise CredentialsError(f"[keeper] has no {key}: it has {', '.join(kinds)}")
-            if not isinstance(value, kinds[key]) or (isinstance(value, bool) and kinds[key] is not bool):
+            if not isinstance(value, kinds[key]) or (
+                isinstance(value, bool) and kinds[key] is not bool
+            ):
                 raise CredentialsError(f"[keeper]: {key} is {value!r}")
-        ttl, audit, share = float(section.get("ttl", TTL)), section.get("audit", 1 << 24), float(section.get("succeed", SUCCEED_AT))
-        if ttl <= 0 or not 1 <= audit <= 1 << 24 or section.get("memory", 0) < 0 or section.get("trail", 0) < 0 or not 0 <= share < ROLL_AT:
-            raise CredentialsError(f"[keeper]: ttl is above 0, audit 1 to 16777216, memory and trail not below 0, succeed 0 to below {ROLL_AT}")
+        ttl, audit, share = (
+            float(section.get("ttl", TTL)),
+            section.get("audit", 1 << 24),
+            float(section.get("succeed", SUCCEED_AT)),
+        )
+        if (
+            ttl <= 0
+            or not 1 <= audit <= 1 << 24
+            or section.get("memory", 0) < 0
+            or section.get("trail", 0) < 0
+            or not 0 <= share < ROLL_AT
+        ):
+            raise CredentialsError(
+                f"[keeper]: ttl is above 0, audit 1 to 16777216, memory and trail not below 0, succeed 0 to below {ROLL_AT}"
+            )
         token = section.get("console_token")
         tls = _tls_of(serve, section)
         inner = serve if tls is None or tls.plain else "127.0.0.1"
-        return cls(name, lines, Program(program, inner, folder, audit, runner=None if runner is None else Runner(runner)), url, ttl, section.get("standby", True),
-                   section.get("memory", MEMORY), section.get("metrics"), section.get("console"), None if token is None else Path(token),
-                   section.get("require_standby", False), section.get("trail", 0), share, keep, section.get("unproved", True), Keys(key_file), store,
-                   tls)  # fmt: skip
+        return cls(
+            name=name,
+            lines=lines,
+            program=Program(
+                program, inner, folder, audit, runner=None if runner is None else Runner(runner)
+            ),
+            url=url,
+            ttl=ttl,
+            standby=section.get("standby", True),
+            memory=section.get("memory", MEMORY),
+            metrics=section.get("metrics"),
+            console=section.get("console"),
+            console_token=None if token is None else Path(token),
+            require_standby=section.get("require_standby", False),
+            trail=section.get("trail", 0),
+            succeed=share,
+            keep=keep,
+            unproved=section.get("unproved", True),
+            keys=Keys(key_file),
+            store=store,
+            tls=tls,
+        )
 
 
 def _tls_of(serve: str, section: Mapping[str, Any]) -> Tls | None:
     """What the section says of TLS. Raises `CredentialsError`."""
-    file, lines, ports = section.get("tls"), section.get("tls_lines"), section.get("tls_ports", PORTS)
+    file, lines, ports = (
+        section.get("tls"),
+        section.get("tls_lines"),
+        section.get("tls_ports", PORTS),
+    )
     if file is None:
-        if others := [key for key in ("tls_lines", "tls_clients", "tls_ports", "plain") if key in section]:
-            raise CredentialsError(f"[keeper] has {others[0]} without tls, the file with certificate and key")
+        if others := [
+            key for key in ("tls_lines", "tls_clients", "tls_ports", "plain") if key in section
+        ]:
+            raise CredentialsError(
+                f"[keeper] has {others[0]} without tls, the file with certificate and key"
+            )
         return None
     if lines is None or not re.fullmatch(r"\S+:[1-9]\d{0,4}", lines):
-        raise CredentialsError("[keeper]: tls_lines is HOST:PORT, where clients reach the lines by TLS")
+        raise CredentialsError(
+            "[keeper]: tls_lines is HOST:PORT, where clients reach the lines by TLS"
+        )
     if not _are_ports(ports):
-        raise CredentialsError("[keeper]: tls_ports is FIRST-LAST, or how many of the system's ports, 1 to 16384")
+        raise CredentialsError(
+            "[keeper]: tls_ports is FIRST-LAST, or how many of the system's ports, 1 to 16384"
+        )
     clients = section.get("tls_clients")
-    return Tls(Path(file), serve, lines, None if clients is None else Path(clients), section.get("plain", True), ports)
+    return Tls(
+        Path(file),
+        serve,
+        lines,
+        None if clients is None else Path(clients),
+        section.get("plain", True),
+        ports,
+    )
 
 
 def _are_ports(ports: str | int) -> bool:

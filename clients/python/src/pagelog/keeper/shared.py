@@ -57,7 +57,9 @@ class Shared:
         self.numbers = Numbers(self.settings.program.folder)
         self.block_questions = Questions(self.session, EACH_BLOCK)
         """A queue of their own: nobody who asks for blocks keeps a writer from what became of its commits."""
-        self.proving = Proving(self.settings.unproved, partial(self.ask, self.referee.table), self.spawn)
+        self.proving = Proving(
+            self.settings.unproved, partial(self.ask, self.referee.table), self.spawn
+        )
 
     @property
     def referee(self) -> Referee:
@@ -73,27 +75,56 @@ class Shared:
         if archived <= served.reached:
             return
         if 0 < served.loaded and archived <= served.loaded + PIECE:
-            piece = await self.session.ask(self.session.referee.few_blocks, log, served.loaded + 1, archived)
+            piece = await self.session.ask(
+                self.session.referee.few_blocks, log, served.loaded + 1, archived
+            )
             if piece is not None:  # else the store has some: the looks do not wait for that
                 return await asyncio.to_thread(served.fill, [piece], archived, chain)
-        referee = Referee(self.settings.url, self.settings.name, self.life, store=self.settings.store)
+        referee = Referee(
+            self.settings.url, self.settings.name, self.life, store=self.settings.store
+        )
         try:
             await asyncio.to_thread(served.follow, referee, log, archived, chain)
         finally:
             referee.close()
 
-    async def tell_fate(self, line: Line, name: str, generation: int, of: Of | None, database: Database | None = None) -> None:
+    async def tell_fate(
+        self,
+        line: Line,
+        name: str,
+        generation: int,
+        of: Of | None,
+        database: Database | None = None,
+    ) -> None:
         """Says what became of a generation that is not this keeper's. `database` is the one that is asked for, where it is known here: of
         another one nobody can prove anything."""
         if not await self._refuses(line, database, name, of):
-            await tell_fate(self.questions, line, name, generation, of, line.asker if database is not None else None)
+            await tell_fate(
+                self.questions,
+                line,
+                name,
+                generation,
+                of,
+                line.asker if database is not None else None,
+            )
 
-    async def tell_block(self, line: Line, name: str, position: int, of: Of | None, database: Database | None = None) -> None:
+    async def tell_block(
+        self, line: Line, name: str, position: int, of: Of | None, database: Database | None = None
+    ) -> None:
         """Says which block the archive has."""
         if not await self._refuses(line, database, name, of):
-            await tell_block(self.block_questions, line, name, position, of, line.asker if database is not None else None)
+            await tell_block(
+                self.block_questions,
+                line,
+                name,
+                position,
+                of,
+                line.asker if database is not None else None,
+            )
 
-    async def _refuses(self, line: Line, database: Database | None, name: str, of: Of | None) -> bool:
+    async def _refuses(
+        self, line: Line, database: Database | None, name: str, of: Of | None
+    ) -> bool:
         """Whether who asks is told that it has to prove who it is."""
         why = None if database is None else await self.proving.settled_refusal(line, database)
         if why is not None:

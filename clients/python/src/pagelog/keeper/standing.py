@@ -40,7 +40,9 @@ class Standing:
         except PagelogError as error:
             self._say(f"the standby was given up: {error}")
             return False
-        database.served = served  # not before: one that could not be started would be followed in vain
+        database.served = (
+            served  # not before: one that could not be started would be followed in vain
+        )
         database.watch(served)
         await self._catch_up(served)
         return False
@@ -53,7 +55,9 @@ class Standing:
         except (Away, Doubt):
             raise
         except PagelogError as error:
-            if not await self._shared.ask(self._shared.referee.lacks, database.row):  # else it may be the only copy: the next look shows that
+            if not await self._shared.ask(
+                self._shared.referee.lacks, database.row
+            ):  # else it may be the only copy: the next look shows that
                 await self.give_up(served, error)
             return False  # the next look has another made
         if not served.is_noted:
@@ -64,11 +68,21 @@ class Standing:
 
     async def _note_standby(self, served: Served) -> None:
         where = served.where
-        place = (where.address, served.run, served.reached, served.shift, served.images, served.table_number, where.secure)
+        place = (
+            where.address,
+            served.run,
+            served.reached,
+            served.shift,
+            served.images,
+            served.table_number,
+            where.secure,
+        )
         await self._shared.ask(self._shared.referee.stand_by, self._database.row.id, *place)
         served.is_noted = self._database.is_noted = True
         served.note_place()
-        await self._shared.ask(self._shared.referee.take, Row(0, ""), "")  # changes nothing, and is quicker the next time
+        await self._shared.ask(
+            self._shared.referee.take, Row(0, ""), ""
+        )  # changes nothing, and is quicker the next time
 
     async def stand_down(self) -> bool:
         """No standby of this keeper is noted any more."""
@@ -79,8 +93,14 @@ class Standing:
     async def follow(self) -> bool:
         """A standby follows the archive, as far as a look has shown it, and never more."""
         database = self._database
-        is_asked_for = database.served is not None and database.served.table_number < database.row.table_number
-        if database.row.paused and not is_asked_for and database.succession.stage in (Stage.MAKING, Stage.READY):
+        is_asked_for = (
+            database.served is not None and database.served.table_number < database.row.table_number
+        )
+        if (
+            database.row.paused
+            and not is_asked_for
+            and database.succession.stage in (Stage.MAKING, Stage.READY)
+        ):
             await database.succession.give_up()  # others wait for its turn, and a pause may last
         served = database.served if database.is_known else None
         if served is None or served.kind is not Kind.STANDBY:

@@ -2,8 +2,10 @@
 
 from pagelog.keeper.schema import CHANNEL, FORMAT
 
-PAGES_COLUMNS = ("run, log, machine, address, position, oldest, table_number, beat, aside, secure, "
-                 "EXTRACT(epoch FROM now() - seen)::float AS silent")  # fmt: skip
+PAGES_COLUMNS = (
+    "run, log, machine, address, position, oldest, table_number, beat, aside, secure, "
+    "EXTRACT(epoch FROM now() - seen)::float AS silent"
+)
 _ALL = f"""  (SELECT COALESCE(json_agg(k), '[]') FROM (SELECT name, run, lines, beat, report, secure FROM pagelog_keeper) k),
   (SELECT COALESCE(json_agg(l), '[]') FROM (
     SELECT id, name, generation, run, holder, address, archived, base, shift, images, encode(chain, 'hex') AS chain, wanted,
@@ -58,7 +60,9 @@ FROM pg_database d WHERE d.datname = current_database()
 """
 """Whether anybody may connect, whether this role may change that, and whether another role has a right to a table."""
 
-RELEASED = f"pg_notify('{CHANNEL}', concat_ws(' ', name, generation, archived, encode(chain, 'hex')))"
+RELEASED = (
+    f"pg_notify('{CHANNEL}', concat_ws(' ', name, generation, archived, encode(chain, 'hex')))"
+)
 
 REACHED = """
 SELECT (pg_current_wal_flush_lsn() - '0/0')::bigint, (SELECT (max(flush_lsn) - '0/0')::bigint FROM pg_stat_replication
@@ -261,8 +265,10 @@ WITH gone AS (
 SELECT id, pg_notify('{CHANNEL}', '') FROM gone
 """
 DROP = _DROP.format(trail="")
-DROP_WITH_TRAIL = _DROP.format(trail=""",
-renamed AS (UPDATE pagelog_trail_list t SET log = gone.name FROM gone WHERE t.log = %(name)s)""")
+DROP_WITH_TRAIL = _DROP.format(
+    trail=""",
+renamed AS (UPDATE pagelog_trail_list t SET log = gone.name FROM gone WHERE t.log = %(name)s)"""
+)
 
 PUBLISH = """
 WITH told AS (
@@ -274,7 +280,9 @@ UPDATE pagelog_generation g SET shift = %(shift)s, images = %(images)s FROM told
 TABLE = """
 SELECT l.identity, l.table_number, t.text, t.secret, t.sealed, t.key FROM pagelog_table t JOIN pagelog_log l ON l.id = t.log WHERE t.log = %s
 """
-_STORED = "text = %(text)s, secret = %(secret)s::bytea, sealed = %(sealed)s::bytea, key = %(key)s::text"
+_STORED = (
+    "text = %(text)s, secret = %(secret)s::bytea, sealed = %(sealed)s::bytea, key = %(key)s::text"
+)
 
 CREATE = f"""
 WITH made AS (

@@ -56,9 +56,17 @@ class Storing:
     async def _run_once(self) -> int | None:
         source = str(Path(__file__).resolve().parents[2])
         process = await asyncio.create_subprocess_exec(
-            sys.executable, "-m", "pagelog.store.moving", stdin=asyncio.subprocess.PIPE, stdout=asyncio.subprocess.PIPE, limit=_LINE,
-            env={**os.environ, "PYTHONPATH": os.pathsep.join(filter(None, (source, os.environ.get("PYTHONPATH"))))},
-        )  # fmt: skip
+            sys.executable,
+            "-m",
+            "pagelog.store.moving",
+            stdin=asyncio.subprocess.PIPE,
+            stdout=asyncio.subprocess.PIPE,
+            limit=_LINE,
+            env={
+                **os.environ,
+                "PYTHONPATH": os.pathsep.join(filter(None, (source, os.environ.get("PYTHONPATH")))),
+            },
+        )
         try:
             assert process.stdin is not None and process.stdout is not None
             with suppress(OSError):  # it has ended
@@ -96,7 +104,12 @@ class Storing:
         elif report["away"]:
             self._say(name, f"what goes to the store waits: {report['away']}")
         elif before[0] or before[1]:
-            self._say(name, f"blocks go to the store again: it has all up to position {report['stored']}")
+            self._say(
+                name, f"blocks go to the store again: it has all up to position {report['stored']}"
+            )
         if report["foreign"] != before[2] and report["foreign"]:
-            self._say(name, f"the store has {report['foreign']} objects that PostgreSQL does not know, up to position {report['foreign_end']}: it went "
-                      "back, and they may be the only copy of something: they are left alone")  # fmt: skip
+            self._say(
+                name,
+                f"the store has {report['foreign']} objects that PostgreSQL does not know, up to position {report['foreign_end']}: it went "
+                "back, and they may be the only copy of something: they are left alone",
+            )

@@ -72,9 +72,11 @@ class Succession:
         store = self._shared.settings.store
         served, few = self._database.own, self._few(MANY * (1 if store is None else store.bases))
         many = max(few, few // MANY * 2 * self._pages)
-        if self._stage is Stage.NONE and served.reached - max(self.base, served.images, self._tried) >= many and (
-            self._basing is None or self._basing.done()
-        ):  # fmt: skip
+        if (
+            self._stage is Stage.NONE
+            and served.reached - max(self.base, served.images, self._tried) >= many
+            and (self._basing is None or self._basing.done())
+        ):
             self._basing = self._shared.spawn(self._tended(served), self._database.row.name)
 
     async def _tended(self, served: Served) -> None:
@@ -92,11 +94,15 @@ class Succession:
     async def _make_base(self, served: Served) -> None:
         settings, row, began = self._shared.settings, self._database.row, seconds()
         self._tried = served.reached
-        wish = Wish(settings.url, row.id, served.reached, served.chain.hex(), settings.keep, settings.store)
+        wish = Wish(
+            settings.url, row.id, served.reached, served.chain.hex(), settings.keep, settings.store
+        )
         made = await made_of(wish, served.reached - max(self.base, served.images))
         self.base, self._pages = made.position, made.pages
         pruned = f", and {made.pruned} blocks were pruned" if made.pruned else ""
-        self._say(f"a base of {made.pages} pages was made at position {made.position} in {seconds() - began:.1f} s{pruned}")
+        self._say(
+            f"a base of {made.pages} pages was made at position {made.position} in {seconds() - began:.1f} s{pruned}"
+        )
 
     # Before the fence.
 
@@ -117,11 +123,20 @@ class Succession:
 
     async def _made(self, served: Served) -> None:
         """A service with the images of a base, and the blocks after it but for the last few. The base is a ttl old by then, so that
-        who reads at a position of the last ttl can go on in the next generation; but not where the present service may soon be full."""
+        who reads at a position of the last ttl can go on in the next generation; but not where the present service may soon be full.
+        """
         settings, began = self._shared.settings, seconds()
-        self._referee = Referee(settings.url, settings.name, self._shared.life, requires_standby=settings.require_standby, store=settings.store)
+        self._referee = Referee(
+            settings.url,
+            settings.name,
+            self._shared.life,
+            requires_standby=settings.require_standby,
+            store=settings.store,
+        )
         row = self._database.row
-        given = await self._ask(number, row.id, served.run, served.generation, self._shared.numbers.least(row))
+        given = await self._ask(
+            number, row.id, served.run, served.generation, self._shared.numbers.least(row)
+        )
         if given is None:
             raise Refused("the database is another's")
         self._number = given
@@ -140,7 +155,11 @@ class Succession:
             await self._follow(served)
             left = began + settings.ttl - seconds()
             if served.reached - successor.reached <= NEAR:
-                if left <= 0 or served.is_full or served.share(settings.program.audit, settings.memory) >= HURRY_AT:
+                if (
+                    left <= 0
+                    or served.is_full
+                    or served.share(settings.program.audit, settings.memory) >= HURRY_AT
+                ):
                     return
                 await asyncio.sleep(min(left, settings.ttl / 16))
 
@@ -164,7 +183,9 @@ class Succession:
             await asyncio.to_thread(self._bring, served, successor, reached, chain)
         except PagelogError as error:
             self._say_again(f"the next service is filled from PostgreSQL: {error}")
-            await asyncio.to_thread(successor.follow, self._referee, self._database.row.id, reached, chain)
+            await asyncio.to_thread(
+                successor.follow, self._referee, self._database.row.id, reached, chain
+            )
 
     def _bring(self, served: Served, successor: Served, reached: int, chain: bytes) -> None:
         """Loads what is archived from the present service, which has it: PostgreSQL is asked for the images alone. In a thread."""
@@ -172,7 +193,9 @@ class Succession:
         successor.begin(self._referee, self._database.row.id, reached)
         if successor.reached < reached:
             successor.fill(served.logged(successor.loaded, reached), reached, chain)
-        successor.begun = successor.begun or (0 if successor.process is None else successor.process.memory)
+        successor.begun = successor.begun or (
+            0 if successor.process is None else successor.process.memory
+        )
 
     async def give_up(self) -> None:
         """Ends what was made. The present generation is as it was."""
@@ -215,7 +238,9 @@ class Succession:
                 raise Refused("the table was changed meanwhile")
             await self._follow(served)
             await asyncio.to_thread(successor.open)  # nobody knows where it is, nor has its tokens
-            await successor.pulled_at_once(successor.reached)  # the first batch finds its connection made
+            await successor.pulled_at_once(
+                successor.reached
+            )  # the first batch finds its connection made
             await self._ask(rehearse)
             with successor.loader() as loader:
                 if not await self._near(served, archiver):
@@ -238,11 +263,15 @@ class Succession:
                 break
         return True
 
-    async def _switch(self, served: Served, successor: Served, loader: Loader, archiver: Archiver) -> bool:
+    async def _switch(
+        self, served: Served, successor: Served, loader: Loader, archiver: Archiver
+    ) -> bool:
         began = seconds()
         try:
             async with turn_of(archiver.lining) as recorder:
-                switch, closed, is_done = await self._ask(self._moved, served, successor, loader, recorder)
+                switch, closed, is_done = await self._ask(
+                    self._moved, served, successor, loader, recorder
+                )
                 is_done = is_done or await self._switched(switch)
                 archiver.settle(switch.lines, is_kept=is_done)
         except PagelogError as error:
@@ -253,9 +282,11 @@ class Succession:
             await self._fail(Refused("the database is another's, or its archive went on"))
             await self._open_again(served)
             return True
-        self._say(f"generation {switch.next} begins at position {switch.end}, from images at {switch.images}: closed in "
-                  f"{1000 * (closed - began):.1f} ms, switched in {1000 * (seconds() - closed):.1f} ms, with {len(switch.blocks)} blocks of "
-                  f"generation {switch.generation}")  # fmt: skip
+        self._say(
+            f"generation {switch.next} begins at position {switch.end}, from images at {switch.images}: closed in "
+            f"{1000 * (closed - began):.1f} ms, switched in {1000 * (seconds() - closed):.1f} ms, with {len(switch.blocks)} blocks of "
+            f"generation {switch.generation}"
+        )
         self._successor = None
         self._rests.reset()
         try:
@@ -265,7 +296,12 @@ class Succession:
         return True
 
     def _moved(
-        self, referee: Referee, served: Served, successor: Served, loader: Loader, recorder: Recorder | None
+        self,
+        referee: Referee,
+        served: Served,
+        successor: Served,
+        loader: Loader,
+        recorder: Recorder | None,
     ) -> tuple[Switch, float, bool]:
         """From the fence to the switch, in a thread, with no step of the event loop between. Returns what was asked, when, and
         whether the next generation has begun for certain."""
@@ -320,21 +356,40 @@ def _closed(log: int, number: int, served: Served, successor: Served, loader: Lo
     try:
         end = patiently(served, served.close)
     except OutOfMemory:
-        served.is_broken = True  # it can be fenced by its end alone, after which another is filled in its place
+        served.is_broken = (
+            True  # it can be fenced by its end alone, after which another is filled in its place
+        )
         raise
     blocks = _pulled(served, successor.reached, end)
     known = served.reached - successor.reached
     if digest(successor.chain, blocks[:known]) != served.chain:
-        raise BrokenArchive(f"the service has other blocks up to {served.reached} than those that are archived")
+        raise BrokenArchive(
+            f"the service has other blocks up to {served.reached} than those that are archived"
+        )
     rest = tuple(blocks[known:])
     chain = digest(served.chain, rest)
     successor.load(loader, [blocks], end, chain)
     if not successor.is_alive:
-        raise Refused("the next service has ended")  # where there is nothing to load, nothing else has shown it
+        raise Refused(
+            "the next service has ended"
+        )  # where there is nothing to load, nothing else has shown it
     where = successor.where
     assert where.address is not None
-    return Switch(log, served.run, served.generation, served.reached, rest, chain, number, successor.run, where.address,
-                  successor.shift, successor.images, table_number=successor.table_number, secure=where.secure)  # fmt: skip
+    return Switch(
+        log=log,
+        run=served.run,
+        generation=served.generation,
+        old=served.reached,
+        blocks=rest,
+        chain=chain,
+        next=number,
+        next_run=successor.run,
+        address=where.address,
+        shift=successor.shift,
+        images=successor.images,
+        table_number=successor.table_number,
+        secure=where.secure,
+    )
 
 
 def _pulled(served: Served, position: int, end: int) -> list[bytes]:
@@ -343,6 +398,8 @@ def _pulled(served: Served, position: int, end: int) -> list[bytes]:
     while position + len(blocks) < end:
         piece: Sequence[bytes] = patiently(served, partial(served.pulled, position + len(blocks)))
         if not piece:
-            raise BrokenArchive(f"the log of {served.database} ends at {position + len(blocks)} in place of {end}")
+            raise BrokenArchive(
+                f"the log of {served.database} ends at {position + len(blocks)} in place of {end}"
+            )
         blocks += piece
     return blocks[: end - position]

@@ -45,7 +45,9 @@ def number(referee: Referee, log: int, run: str, generation: int, least: int = 0
 
     None where the run holds the database no more.
     """
-    found = referee._ask(statements.NUMBER, {"id": log, "run": run, "generation": generation, "least": least})
+    found = referee._ask(
+        statements.NUMBER, {"id": log, "run": run, "generation": generation, "least": least}
+    )
     return int(found[0][0]) if found else None
 
 
@@ -55,11 +57,29 @@ def succeed(referee: Referee, switch: Switch) -> bool:
     Returns whether it does. It does not where PostgreSQL has gone back, and has not given the number of its generation.
     """
     statement = statements.SUCCEED if switch.lines is None else statements.SUCCEED_WITH_LINES
-    return bool(referee._ask(statement, {
-        "id": switch.log, "run": switch.run, "generation": switch.generation, "me": referee.me, "next": switch.next, "next_run": switch.next_run,
-        "address": switch.address, "secure": switch.secure, "shift": switch.shift, "images": switch.images, "old": switch.old, "new": switch.end,
-        "chain": switch.chain, "table_number": switch.table_number, **values_of_blocks(switch.blocks), **values_of_lines([(switch.log, switch.lines)]),
-    }))  # fmt: skip
+    return bool(
+        referee._ask(
+            statement,
+            {
+                "id": switch.log,
+                "run": switch.run,
+                "generation": switch.generation,
+                "me": referee.me,
+                "next": switch.next,
+                "next_run": switch.next_run,
+                "address": switch.address,
+                "secure": switch.secure,
+                "shift": switch.shift,
+                "images": switch.images,
+                "old": switch.old,
+                "new": switch.end,
+                "chain": switch.chain,
+                "table_number": switch.table_number,
+                **values_of_blocks(switch.blocks),
+                **values_of_lines([(switch.log, switch.lines)]),
+            },
+        )
+    )
 
 
 def release(referee: Referee, last: Batch) -> int | None:
@@ -77,7 +97,11 @@ def has_begun(referee: Referee, switch: Switch) -> bool | None:
     if referee.kept(switch.log, switch.next_run) is not None:
         return True
     kept = referee.kept(switch.log, switch.run)
-    return None if kept is not None and kept.archived == switch.old and has_newest_table(referee, switch) else False
+    return (
+        None
+        if kept is not None and kept.archived == switch.old and has_newest_table(referee, switch)
+        else False
+    )
 
 
 def has_newest_table(referee: Referee, switch: Switch) -> bool:
@@ -88,7 +112,22 @@ def has_newest_table(referee: Referee, switch: Switch) -> bool:
 
 def rehearse(referee: Referee) -> None:
     """Asks for a switch from no run, which changes nothing: the connection has in its caches then what the statement needs."""
-    succeed(referee, Switch(0, "", 0, 0, (), b"", 0, "", "", 0, 0))
+    succeed(
+        referee,
+        Switch(
+            log=0,
+            run="",
+            generation=0,
+            old=0,
+            blocks=(),
+            chain=b"",
+            next=0,
+            next_run="",
+            address="",
+            shift=0,
+            images=0,
+        ),
+    )
 
 
 def rehearse_release(referee: Referee) -> None:
@@ -98,6 +137,10 @@ def rehearse_release(referee: Referee) -> None:
 
 def wish_for(referee: Referee, name: str) -> bool:
     """Asks the holder for a succession. False without a database of that name."""
-    return bool(referee._ask(
-        "WITH told AS (UPDATE pagelog_log SET succeed = true WHERE name = %s AND format = %s AND NOT dropped RETURNING id) "
-        f"SELECT id, pg_notify('{CHANNEL}', '') FROM told", (name, FORMAT)))  # fmt: skip
+    return bool(
+        referee._ask(
+            "WITH told AS (UPDATE pagelog_log SET succeed = true WHERE name = %s AND format = %s AND NOT dropped RETURNING id) "
+            f"SELECT id, pg_notify('{CHANNEL}', '') FROM told",
+            (name, FORMAT),
+        )
+    )

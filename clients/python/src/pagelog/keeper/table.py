@@ -45,7 +45,9 @@ def proof_of(token: bytes, nonce: str, name: str, principal: int, of: str) -> st
 
     The text has spaces, which that of `token_of` never has: whatever a keeper says as a nonce, no proof is a token of a run.
     """
-    return hmac.new(token, f"prove {nonce} {name} {principal} {of}".encode(), hashlib.sha256).hexdigest()
+    return hmac.new(
+        token, f"prove {nonce} {name} {principal} {of}".encode(), hashlib.sha256
+    ).hexdigest()
 
 
 def tokens_of(text: str) -> dict[int, bytes]:
@@ -104,12 +106,16 @@ def table_of_run(text: str, secret: bytes, name: str, run: str, form: Form) -> s
     table = read_table(text)
     principals = [{"id": KEEPER, "token": token_of(secret, name, run).hex()}]
     for each in table["principal"]:
-        principals.append({"id": each["id"], "token": token_of(bytes.fromhex(each["token"]), name, run).hex()})
+        principals.append(
+            {"id": each["id"], "token": token_of(bytes.fromhex(each["token"]), name, run).hex()}
+        )
     rows: list[dict[str, Any]] = [{"verdict": "allow", "who": KEEPER}]
     if form is Form.OPEN:
         rows.append({"verdict": "deny", "op": ["set_table"]})
     else:
-        rows += [{"verdict": "deny", "role": role} for role in ("primary", "page_server", "operator")]
+        rows += [
+            {"verdict": "deny", "role": role} for role in ("primary", "page_server", "operator")
+        ]
     rows += table.get("row", [])
     counts = [f"{key} = {table[key]}" for key in ("copies", "quorum") if key in table]
     return "\n".join([*counts, *_tables("principal", principals), *_tables("row", rows)]) + "\n"
@@ -117,4 +123,11 @@ def table_of_run(text: str, secret: bytes, name: str, run: str, form: Form) -> s
 
 def _tables(key: str, tables: list[dict[str, Any]]) -> list[str]:
     """An array of tables in TOML. Words and numbers are written as in JSON."""
-    return [line for table in tables for line in (f"[[{key}]]", *(f"{name} = {json.dumps(value)}" for name, value in table.items()))]
+    return [
+        line
+        for table in tables
+        for line in (
+            f"[[{key}]]",
+            *(f"{name} = {json.dumps(value)}" for name, value in table.items()),
+        )
+    ]

@@ -105,14 +105,24 @@ class Turns:
 
     def next(self, generation: int) -> Turns:
         """Ends the turns of this generation, and begins those of a later one, which this keeper has too."""
-        is_used = self._holder is not None or time.monotonic() < self._given_back + LATELY * self._ttl
+        is_used = (
+            self._holder is not None or time.monotonic() < self._given_back + LATELY * self._ttl
+        )
         was_idle = generation == self.generation + 1 and not is_used and not self._is_early
         self.end()
         turns = Turns(self.name, generation, self._after, was_idle=was_idle, ttl=self._ttl)
         turns._given_back = self._given_back
         return turns
 
-    def ask(self, line: Line, *, now: bool, mine: bool = False, heartbeat: bool = False, slices: bool = False) -> None:
+    def ask(
+        self,
+        line: Line,
+        *,
+        now: bool,
+        mine: bool = False,
+        heartbeat: bool = False,
+        slices: bool = False,
+    ) -> None:
         """Gives the turn to who asks, at once or later."""
         (self._beating.add if heartbeat else self._beating.discard)(line)
         (self._slicing.add if heartbeat and slices else self._slicing.discard)(line)
@@ -138,8 +148,11 @@ class Turns:
 
     def _has_many(self, line: Line) -> bool:
         """Whether as many wait as one principal may have wait, and all are its own."""
-        return len(self._waiting) >= MOST_WAITING and line not in self._waiting and (
-            sum(each.asker == line.asker for each in self._waiting) >= MOST_WAITING)  # fmt: skip
+        return (
+            len(self._waiting) >= MOST_WAITING
+            and line not in self._waiting
+            and (sum(each.asker == line.asker for each in self._waiting) >= MOST_WAITING)
+        )
 
     def _wait(self, line: Line, now: bool) -> None:
         (self._hurried.add if now else self._hurried.discard)(line)
@@ -225,7 +238,13 @@ class Turns:
             self._slice = self._after(SLICE, self._end_slice)
         keys = [] if is_same or self._epoch is None else [Key(f"epoch={self._epoch}")]
         keys += [Key(f"slice={1000 * SLICE:.0f}")] if has_slice else []
-        line.say("turn", self.name, "same" if is_same else "other", *(["kept"] if self._is_kept else []), *keys)
+        line.say(
+            "turn",
+            self.name,
+            "same" if is_same else "other",
+            *(["kept"] if self._is_kept else []),
+            *keys,
+        )
 
     def _end_slice(self) -> None:
         """Who has nothing to write gives the turn back, though nobody waits: it may be long until it is asked."""
@@ -277,11 +296,15 @@ class Turns:
 class AllTurns:
     """Of the databases that a keeper holds."""
 
-    def __init__(self, after: Callable[..., asyncio.TimerHandle] | None = None, *, ttl: float = TTL) -> None:
+    def __init__(
+        self, after: Callable[..., asyncio.TimerHandle] | None = None, *, ttl: float = TTL
+    ) -> None:
         self._after, self._ttl = after, ttl
         self._turns: dict[str, Turns] = {}
 
-    def take(self, line: Line, words: list[str], generation: int | None, epoch: int | None = None) -> None:
+    def take(
+        self, line: Line, words: list[str], generation: int | None, epoch: int | None = None
+    ) -> None:
         """Does what a line asks. `generation` is the one that is held here, or None; `epoch` what it says of itself."""
         word, name = words[:2]
         turns = self.changed(name, generation)
@@ -291,7 +314,13 @@ class AllTurns:
             return
         match words:
             case ["turn", _, *how]:
-                turns.ask(line, now="now" in how, mine="mine" in how, heartbeat="heartbeat" in how, slices="slices" in how)
+                turns.ask(
+                    line,
+                    now="now" in how,
+                    mine="mine" in how,
+                    heartbeat="heartbeat" in how,
+                    slices="slices" in how,
+                )
             case ["back", _]:
                 turns.back(line, epoch)
             case ["hold", _]:

@@ -51,7 +51,9 @@ def _listening(folder: Path, name: str, mode: int, kind: socket.SocketKind) -> s
 def received(line: socket.socket) -> tuple[bytes, list[int]]:
     """A message, and the descriptors that came with it, which no program inherits that is started meanwhile: `recv_fds` would see to
     that where it minded its flags. Raises `OSError`."""
-    text, more, _, _ = line.recvmsg(LONGEST, socket.CMSG_SPACE(MOST * _NUMBER.itemsize), socket.MSG_CMSG_CLOEXEC)
+    text, more, _, _ = line.recvmsg(
+        LONGEST, socket.CMSG_SPACE(MOST * _NUMBER.itemsize), socket.MSG_CMSG_CLOEXEC
+    )
     opened = array("i")
     for level, kind, data in more:
         if (level, kind) == (socket.SOL_SOCKET, socket.SCM_RIGHTS):

@@ -30,5 +30,9 @@ def address_for(address: str | None, way: Way | None, *, is_secure: bool) -> str
     """The address that is told over lines that are secure, or are not: who comes by TLS is led to no place without it, and who comes
     without it to none that has nothing else."""
     if is_secure:
-        return way.address if way is not None and way.address != NOWHERE and address is not None else None
+        return (
+            way.address
+            if way is not None and way.address != NOWHERE and address is not None
+            else None
+        )
     return None if way is not None and way.is_only else address

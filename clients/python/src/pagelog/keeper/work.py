@@ -22,7 +22,13 @@ class Work:
     """Of one database. `kick` is called where there is something to decide."""
 
     def __init__(self, shared: Shared, row: Row, waits: Waits, kick: Callable[[], None]) -> None:
-        self._shared, self._name, self._identity, self._waits, self._kick = shared, row.name, row.identity, waits, kick
+        self._shared, self._name, self._identity, self._waits, self._kick = (
+            shared,
+            row.name,
+            row.identity,
+            waits,
+            kick,
+        )
         self._silent = Stillness(shared.settings.ttl)
         self._looking: asyncio.Task[None] | None = None
         self._archiving: asyncio.Task[None] | None = None
@@ -50,7 +56,9 @@ class Work:
             self._kick()
         except PagelogError as error:
             if served is self._served:
-                self._shared.repeats.say(self._name, f"the service does not answer its keeper: {error}")
+                self._shared.repeats.say(
+                    self._name, f"the service does not answer its keeper: {error}"
+                )
         if self.recorder is not None and served is self._served:
             self.recorder.look(served.entries)
         if served.hard > served.reached and served is self._served:
@@ -59,7 +67,15 @@ class Work:
     def begin(self, row: Row, served: Served, *, records: bool = True) -> None:
         """From now on it is held: archived, and recorded, unless `record` is called later."""
         self._served = served
-        self.archiver = Archiver(row, served, self._waits, self._shared.committer, self._shared.repeats.say, self._news, self._shared.ways)
+        self.archiver = Archiver(
+            row,
+            served,
+            self._waits,
+            self._shared.committer,
+            self._shared.repeats.say,
+            self._news,
+            self._shared.ways,
+        )
         self.archiver.recorder = self.recorder  # which goes on where the archiver is begun again
         self._archiving = self._shared.spawn(self.archiver.run(), self._name)
         if records:
@@ -70,7 +86,9 @@ class Work:
         wait for its first lines where they come behind a generation that nobody closed."""
         if self._shared.trails is not None and self.recorder is None and served is self._served:
             of = Of(self._identity, served.run)
-            self.recorder = self._shared.trails.recorder(served, of, self._shared.repeats.say, is_waited_for=is_first)
+            self.recorder = self._shared.trails.recorder(
+                served, of, self._shared.repeats.say, is_waited_for=is_first
+            )
             if self.archiver is not None:
                 self.archiver.recorder = self.recorder
             self._recording = self._shared.spawn(self.recorder.run(), self._name)
@@ -108,13 +126,17 @@ class Work:
         """Archives up to this position, if that takes no longer than a look, or so many seconds."""
         if self.archiver is not None:
             reached = asyncio.ensure_future(self.archiver.reached(end))
-            await asyncio.wait({reached}, timeout=self._shared.settings.ttl / 4 if longest is None else longest)
+            await asyncio.wait(
+                {reached}, timeout=self._shared.settings.ttl / 4 if longest is None else longest
+            )
             reached.cancel()
 
     async def recorded(self, recorder: Recorder | None) -> None:
         """What the audit list has is kept too, if that can be had soon."""
         if recorder is not None:
-            await asyncio.wait({asyncio.create_task(recorder.catch_up())}, timeout=self._shared.settings.ttl)
+            await asyncio.wait(
+                {asyncio.create_task(recorder.catch_up())}, timeout=self._shared.settings.ttl
+            )
 
     def stop(self) -> None:
         """Nothing is done any more with the service."""
@@ -123,4 +145,6 @@ class Work:
                 task.cancel()
         if self._served is not None:
             self._served.stop_looks()
-        self.archiver = self._archiving = self._looking = self.recorder = self._recording = self._served = None
+        self.archiver = (
+            self._archiving
+        ) = self._looking = self.recorder = self._recording = self._served = None

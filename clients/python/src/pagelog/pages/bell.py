@@ -30,7 +30,9 @@ class Told(NamedTuple):
 class Bell:
     """Of one database, with a thread of its own from the first `lead` on."""
 
-    def __init__(self, name: str, identity: str, ring: Callable[[], None], trust: Trust | None = None) -> None:
+    def __init__(
+        self, name: str, identity: str, ring: Callable[[], None], trust: Trust | None = None
+    ) -> None:
         """`ring` is called in its thread, once there is something to take. With `trust` the keeper is asked by TLS."""
         self._name, self._identity, self._ring, self._trust = name, identity, ring, trust
         self._address: str | None = None
@@ -47,7 +49,9 @@ class Bell:
         self._address, self._position = address, position
         self._led.set()
         if self._thread is None and address is not None:
-            self._thread = threading.Thread(target=self._run, name=f"bell of {self._name}", daemon=True)
+            self._thread = threading.Thread(
+                target=self._run, name=f"bell of {self._name}", daemon=True
+            )
             self._thread.start()
 
     def taken(self) -> Told | None:
@@ -88,7 +92,9 @@ class Bell:
                 text.flush()
                 text.readline(_LONGEST)
                 while not self._ends.is_set() and self._address == address:
-                    text.write(f"confirmed {self._name} {self._position} of={self._identity}\n".encode())
+                    text.write(
+                        f"confirmed {self._name} {self._position} of={self._identity}\n".encode()
+                    )
                     text.flush()
                     if not self._understands(text.readline(_LONGEST).decode().split()):
                         return
@@ -97,7 +103,11 @@ class Bell:
 
     def _understands(self, words: list[str]) -> bool:
         """Takes an answer. False: it is none, as of a keeper that holds the database no more. Raises `ValueError`."""
-        if len(words) < 5 or words[:2] != ["confirmed", self._name] or not words[4].startswith(f"of={self._identity}/"):
+        if (
+            len(words) < 5
+            or words[:2] != ["confirmed", self._name]
+            or not words[4].startswith(f"of={self._identity}/")
+        ):
             return False
         told = Told(int(words[2]), b"" if words[3] == "-" else bytes.fromhex(words[3]))
         if told.position > self._position:

@@ -87,7 +87,12 @@ class Ranges:
         for start in range(0, len(self._bits), _PIECE):
             piece = self._bits[start : start + _PIECE]
             if piece.count(0) < len(piece):
-                yield from (8 * (start + at) + bit for at, byte in enumerate(piece) for bit in range(8) if byte >> bit & 1)
+                yield from (
+                    8 * (start + at) + bit
+                    for at, byte in enumerate(piece)
+                    for bit in range(8)
+                    if byte >> bit & 1
+                )
 
 
 def written(bases: Bases, position: int) -> Ranges:
@@ -113,7 +118,13 @@ def position_of_all(copies: Sequence[Copy], most: int) -> int:
     return position
 
 
-def compare(copies: Sequence[Copy], ranges: Ranges, position: int, referee: Copy | None = None, told: Progress = no_progress) -> Compared:
+def compare(
+    copies: Sequence[Copy],
+    ranges: Ranges,
+    position: int,
+    referee: Copy | None = None,
+    told: Progress = no_progress,
+) -> Compared:
     """Compares all pages of these ranges. Raises `OtherPage` with the first that differs, and whose is that of the referee, if there is one that
     has the position; and `PositionGone`."""
     first, *others = copies
@@ -141,5 +152,10 @@ def _difference(copies: Sequence[Copy], page: int, position: int, referee: Copy 
     by_digest: dict[str, list[str]] = {}
     for copy in asked:
         [data] = copy.pages([page], position)
-        by_digest.setdefault(hashlib.blake2b(data, digest_size=16).hexdigest(), []).append(copy.name)
-    return "; ".join(f"{' and '.join(names)} {'have' if len(names) > 1 else 'has'} {digest}" for digest, names in by_digest.items())
+        by_digest.setdefault(hashlib.blake2b(data, digest_size=16).hexdigest(), []).append(
+            copy.name
+        )
+    return "; ".join(
+        f"{' and '.join(names)} {'have' if len(names) > 1 else 'has'} {digest}"
+        for digest, names in by_digest.items()
+    )

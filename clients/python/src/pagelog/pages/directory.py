@@ -23,7 +23,9 @@ FROM pagelog_log l JOIN me ON l.id = me.log LEFT JOIN pagelog_keeper k ON k.name
 _NEWS = "SELECT archived, table_number FROM pagelog_log WHERE id = %s AND identity = %s::uuid"
 _END = "UPDATE pagelog_pages SET address = '', seen = now() WHERE run = %s RETURNING run"
 _LEAVE = "DELETE FROM pagelog_pages WHERE run = %s OR log IN (SELECT id FROM pagelog_log WHERE dropped) RETURNING run"
-_NAMES = "SELECT name, identity::text FROM pagelog_log WHERE NOT dropped AND format = %s ORDER BY name"
+_NAMES = (
+    "SELECT name, identity::text FROM pagelog_log WHERE NOT dropped AND format = %s ORDER BY name"
+)
 
 
 @dataclass(frozen=True)
@@ -68,7 +70,13 @@ def look(referee: Referee, entry: Entry, *, is_secure: bool = False) -> Archived
     if not found:
         return None
     log, position, chain, table_number, lines, secure, run = found[0]
-    return Archived(log, position, bytes(chain), table_number, None if lines is None else address_for(lines, way_of(secure, run), is_secure=is_secure))
+    return Archived(
+        log,
+        position,
+        bytes(chain),
+        table_number,
+        None if lines is None else address_for(lines, way_of(secure, run), is_secure=is_secure),
+    )
 
 
 def news(referee: Referee, log: int, identity: str) -> tuple[int, int]:

@@ -13,12 +13,22 @@ from typing import Any, Callable, Iterator
 
 from pagelog.errors import PagelogError
 from pagelog.keeper.bases import NOTHING, Base, Bases
-from pagelog.keeper.referee import KeeperError, Referee, digest
+from pagelog.keeper.referee import BrokenArchive, KeeperError, Referee, digest
 from pagelog.keeper.run import new_run
 from pagelog.pages.bell import Bell, Told
 from pagelog.pages.directory import Archived, Entry, leave, look, news, note_end, oldest_kept
 from pagelog.pages.process import OtherChain, PagesProcess, Serving, StoreFailed, Where
-from pagelog.pages.stores import MOST_ASIDE, SetAside, Store, beyond_bound, delete, move_aside, note_aside, reported, sentence
+from pagelog.pages.stores import (
+    MOST_ASIDE,
+    SetAside,
+    Store,
+    beyond_bound,
+    delete,
+    move_aside,
+    note_aside,
+    reported,
+    sentence,
+)
 from pagelog.pages.table import table_of_pages
 from pagelog.repeating import Backoff, Repeats
 from pagelog.secure import Trust
@@ -47,7 +57,8 @@ class WentBack(PagelogError):
 @dataclass(frozen=True)
 class Settings:
     """How page servers are started: their program, the folder of their stores, the host that they listen at, what this machine is called,
-    and further options of the program; how they serve by TLS, if they do; and by which TLS keepers are asked, if by any."""
+    and further options of the program; how they serve by TLS, if they do; and by which TLS keepers are asked, if by any.
+    """
 
     program: Path
     folder: Path
@@ -61,14 +72,23 @@ class Settings:
         """The program, with a store of the database of this identity."""
         listen, secure = f"{self.host}:0", tuple[str, ...]()
         if self.serving is not None:
-            listen, secure = self.serving.listen(self.host), self.serving.options(self.host, identity)
+            listen, secure = self.serving.listen(self.host), self.serving.options(
+                self.host, identity
+            )
         return PagesProcess(self.program, store, listen, *secure, *self.options)
 
 
 class Follower:
     """Of one database, in a thread of its own, until it is told to end or the database is gone."""
 
-    def __init__(self, settings: Settings, referee: Referee, name: str, identity: str, say: Callable[[str, str], None]) -> None:
+    def __init__(
+        self,
+        settings: Settings,
+        referee: Referee,
+        name: str,
+        identity: str,
+        say: Callable[[str, str], None],
+    ) -> None:
         self.name, self.identity = name, identity
         self._settings, self._referee = settings, referee
         self._repeats = Repeats(say)
@@ -105,7 +125,9 @@ class Follower:
                 if other:
                     self._begin_anew(other)
                     other = ""
-                    self._ends.wait(waits.next())  # where PostgreSQL does not fit itself it comes again
+                    self._ends.wait(
+                        waits.next()
+                    )  # where PostgreSQL does not fit itself it comes again
                 self._begin()
                 waits.reset()
                 self._follow()
@@ -143,7 +165,9 @@ class Follower:
         self._catch_up()
         assert self._process is not None
         self._has_begun = True
-        self._say(f"pages at {self.address}, positions {self._process.where.oldest} to {self._process.where.confirmed}")
+        self._say(
+            f"pages at {self.address}, positions {self._process.where.oldest} to {self._process.where.confirmed}"
+        )
 
     def _open(self) -> None:
         self._stop()
@@ -156,7 +180,9 @@ class Follower:
             self._set_aside(left, "it was cut off while it was set aside, or its entry was lost")
         self._asides = reported(self._settings.folder, self.identity)
         self._table_number, self._chain = 0, None
-        self._process = self._settings.start(self._store.folder(self._settings.folder), self.identity)
+        self._process = self._settings.start(
+            self._store.folder(self._settings.folder), self.identity
+        )
         self.address, self._was_confirmed = self._process.address, self._process.where.confirmed > 0
 
     def _is_alive(self) -> bool:
@@ -178,7 +204,9 @@ class Follower:
             return
         try:
             self._process.begin(base.position, base.chain, _pages_of(bases, base))
-        except KeeperError:  # as where the base is pruned meanwhile: the next store begins with all pages of one base
+        except (
+            KeeperError
+        ):  # as where the base is pruned meanwhile: the next store begins with all pages of one base
             store, process, self._process = self._store, self._process, None
             process.kill()
             if store is not None:
@@ -206,10 +234,17 @@ class Follower:
         where = self._where(path)
         if where is not None and not (was_confirmed and where.confirmed):
             return delete(path)
-        made = note_aside(folder, store, None if where is None else (where.oldest, where.confirmed), why)
-        self._repeats.say_now(self.name, f"set aside, as PostgreSQL may have lost what it has: {self._said(made)}")
+        made = note_aside(
+            folder, store, None if where is None else (where.oldest, where.confirmed), why
+        )
+        self._repeats.say_now(
+            self.name, f"set aside, as PostgreSQL may have lost what it has: {self._said(made)}"
+        )
         for each in beyond_bound(folder, self.identity):
-            self._repeats.say_now(self.name, f"deleted, as {MOST_ASIDE} others were set aside since: {self._said(each)}")
+            self._repeats.say_now(
+                self.name,
+                f"deleted, as {MOST_ASIDE} others were set aside since: {self._said(each)}",
+            )
             delete(each.path(folder))
 
     def _said(self, aside: SetAside) -> str:
@@ -240,16 +275,26 @@ class Follower:
             if told is not None:
                 is_news = not self._take(told)
             elif not self._bell.hears:
-                is_news = news(self._referee, self._archived.log, self.identity) != (self._process.where.confirmed, self._table_number)
+                is_news = news(self._referee, self._archived.log, self.identity) != (
+                    self._process.where.confirmed,
+                    self._table_number,
+                )
             if is_news or time.monotonic() - self._looked >= _LOOK:
                 self._look()
                 self._catch_up()
             if is_news:
                 waits.reset()
-            if time.monotonic() - self._flushed >= _FLUSH and self._process.where.persisted < self._process.where.confirmed:
+            if (
+                time.monotonic() - self._flushed >= _FLUSH
+                and self._process.where.persisted < self._process.where.confirmed
+            ):
                 self._process.flush()
                 self._flushed = time.monotonic()
-            self._wake.wait(_LOOK if self._bell.hears and self._table_number == self._said_table else waits.next())
+            self._wake.wait(
+                _LOOK
+                if self._bell.hears and self._table_number == self._said_table
+                else waits.next()
+            )
             self._wake.clear()
 
     def _take(self, told: Told) -> bool:
@@ -259,14 +304,28 @@ class Follower:
         where = self._process.where
         if told.position <= where.confirmed:
             return True
-        if self._chain is None or where.written != where.confirmed or told.position - where.written > _AT_ONCE:
+        if (
+            self._chain is None
+            or where.written != where.confirmed
+            or told.position - where.written > _AT_ONCE
+        ):
             return False
-        blocks = [block for piece in self._referee.blocks(self._archived.log, where.written + 1, told.position) for block in piece]
+        blocks = self._told_blocks(self._archived.log, where.written + 1, told.position)
         if digest(self._chain, blocks) != told.chain:
             return False
         self._process.add(blocks, told.chain)
         self._chain = told.chain
         return True
+
+    def _told_blocks(self, log: int, first: int, last: int) -> list[bytes]:
+        """Blocks that are archived, as a keeper says. A PostgreSQL that lacks them is an older leader, which goes on: the next host is asked
+        then. Raises `BrokenArchive`."""
+        try:
+            return [block for piece in self._referee.blocks(log, first, last) for block in piece]
+        except BrokenArchive:
+            self._referee.close()
+            self._referee.turn_hosts()
+            raise
 
     def _look(self) -> None:
         """Says where it is, and hears what is archived, by a statement that writes."""
@@ -275,21 +334,37 @@ class Follower:
     def _enter(self) -> Archived:
         assert self._process is not None and self._store is not None
         where = self._process.where
-        secure = None if self._process.secure is None else self._process.secure.text(self._store.run)
-        entry = Entry(self._store.run, self.identity, self._settings.machine, self._process.address, secure, where.confirmed, where.persisted,
-                      where.oldest, self._table_number, json.dumps(self._asides))  # fmt: skip
+        secure = (
+            None if self._process.secure is None else self._process.secure.text(self._store.run)
+        )
+        entry = Entry(
+            self._store.run,
+            self.identity,
+            self._settings.machine,
+            self._process.address,
+            secure,
+            where.confirmed,
+            where.persisted,
+            where.oldest,
+            self._table_number,
+            json.dumps(self._asides),
+        )
         found = look(self._referee, entry, is_secure=self._settings.trust is not None)
         self._looked, self._said_table = time.monotonic(), self._table_number
         self._looks += 1
         if found is None:
             self._process.close_doors()
-            raise Gone(f"PostgreSQL has no database {self.name} of this identity any more: {self._store.folder(self._settings.folder)} stays as it is")
+            raise Gone(
+                f"PostgreSQL has no database {self.name} of this identity any more: {self._store.folder(self._settings.folder)} stays as it is"
+            )
         return found
 
     def _set_table(self, found: Archived) -> None:
         assert self._process is not None and self._store is not None
         table = self._referee.table(found.log)
-        self._process.set_table(table_of_pages(table.text, table.secret, self.name, self._store.run))
+        self._process.set_table(
+            table_of_pages(table.text, table.secret, self.name, self._store.run)
+        )
         self._table_number, self._looked = table.number, float("-inf")  # which it says at once
 
     def _catch_up(self) -> None:
@@ -297,7 +372,9 @@ class Follower:
         assert self._process is not None and self._archived is not None
         found, written = self._archived, self._process.where.written
         if written > found.position:
-            raise WentBack(f"PostgreSQL has positions up to {found.position}, and this has blocks up to {written}")
+            raise WentBack(
+                f"PostgreSQL has positions up to {found.position}, and this has blocks up to {written}"
+            )
         last: list[bytes] = []
         for piece in self._referee.blocks(found.log, written + 1, found.position):
             if last:
@@ -319,7 +396,9 @@ class Follower:
         """What PostgreSQL keeps no more, nor does this."""
         assert self._process is not None
         self._pruned = time.monotonic()
-        if self._process.where.oldest < (kept := min(oldest_kept(self._referee, log), self._process.where.confirmed)):
+        if self._process.where.oldest < (
+            kept := min(oldest_kept(self._referee, log), self._process.where.confirmed)
+        ):
             self._process.forget(kept)
             self._say(f"positions below {kept} are forgotten, as in PostgreSQL")
 
@@ -332,4 +411,3 @@ class Follower:
 def _pages_of(bases: Bases, base: Base) -> Iterator[tuple[int, bytes]]:
     for image in bases.images(base):
         yield from image.pages()
-

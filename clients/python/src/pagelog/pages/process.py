@@ -56,7 +56,9 @@ class Serving:
 
     def options(self, host: str, identity: str) -> tuple[str, ...]:
         """Of a page server of the database of this identity."""
-        wanted = () if self.clients is None else ("--clients", str(self.clients), "--identity", identity)
+        wanted = (
+            () if self.clients is None else ("--clients", str(self.clients), "--identity", identity)
+        )
         return ("--secure", f"{host}:0", "--tls", str(self.file), *wanted)
 
 
@@ -66,7 +68,9 @@ class PagesProcess:
     def __init__(self, program: Path, folder: Path, listen: str, *options: str) -> None:
         command = [str(program), "--folder", str(folder), "--listen", listen, *options]
         nothing: dict[str, str] = {}  # of the variables of who starts it
-        self._process = subprocess.Popen(command, stdin=subprocess.PIPE, stdout=subprocess.PIPE, env=nothing, cwd="/")
+        self._process = subprocess.Popen(
+            command, stdin=subprocess.PIPE, stdout=subprocess.PIPE, env=nothing, cwd="/"
+        )
         assert self._process.stdin is not None and self._process.stdout is not None
         self._to, self._from = self._process.stdin, self._process.stdout
         try:
@@ -159,14 +163,18 @@ class PagesProcess:
                 self._to.write(part)
             self._to.flush()
         except OSError as error:
-            raise StoreFailed(f"the page server has ended: {os.strerror(error.errno or 0)}") from error
+            raise StoreFailed(
+                f"the page server has ended: {os.strerror(error.errno or 0)}"
+            ) from error
         self.where = self._read_where()
 
     def _line(self, wanted: str) -> str:
         line = self._from.readline().decode()
         word, _, rest = line.rstrip("\n").partition(" ")
         if word == "amiss":
-            raise OtherChain("the blocks are not those of the archive") if rest == "another chain" else StoreFailed(rest)
+            raise OtherChain(
+                "the blocks are not those of the archive"
+            ) if rest == "another chain" else StoreFailed(rest)
         if word != wanted:
             raise StoreFailed(f"the page server has ended, with {line!r}")
         return rest

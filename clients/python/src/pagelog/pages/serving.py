@@ -29,7 +29,11 @@ class PageServers:
     """Begins and ends followers as databases come and go, until it is told to end."""
 
     def __init__(
-        self, settings: Settings, referee: Callable[[str], Referee], wanted: Collection[str], say: Callable[[str, str], None]
+        self,
+        settings: Settings,
+        referee: Callable[[str], Referee],
+        wanted: Collection[str],
+        say: Callable[[str, str], None],
     ) -> None:
         """`referee` makes one, of who is called so. `wanted` are the names of databases; none: all there are."""
         self._settings, self._referee, self._wanted = settings, referee, frozenset(wanted)
@@ -49,7 +53,9 @@ class PageServers:
                 try:
                     self._see(referee)
                 except KeeperError as error:
-                    self._repeats.say("pages", f"PostgreSQL does not say which databases there are: {error}")
+                    self._repeats.say(
+                        "pages", f"PostgreSQL does not say which databases there are: {error}"
+                    )
                 self._ends.wait(_NAMES)
             referee.close()
             for follower, _ in self._running.values():
@@ -58,7 +64,11 @@ class PageServers:
                 thread.join(_END)
 
     def _see(self, referee: Referee) -> None:
-        found = {identity: name for name, identity in names(referee, FORMAT).items() if not self._wanted or name in self._wanted}
+        found = {
+            identity: name
+            for name, identity in names(referee, FORMAT).items()
+            if not self._wanted or name in self._wanted
+        }
         for identity, name in found.items():
             if identity not in self._running or not self._running[identity][1].is_alive():
                 self._begin(name, identity)
@@ -68,7 +78,9 @@ class PageServers:
             self._repeats.say(missing, "there is no database of this name")
 
     def _begin(self, name: str, identity: str) -> None:
-        follower = Follower(self._settings, self._referee(f"pages of {name}"), name, identity, self._say)
+        follower = Follower(
+            self._settings, self._referee(f"pages of {name}"), name, identity, self._say
+        )
         thread = threading.Thread(target=follower.run, name=name, daemon=True)
         self._running[identity] = follower, thread
         thread.start()

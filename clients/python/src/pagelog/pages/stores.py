@@ -52,8 +52,13 @@ class Store:
         """Others of the same database, of which nothing is noted."""
         of_it = f"{self.name}.{self.identity}.*"
         beside = {each.name for each in folder.glob(of_it) if each.is_dir()} - {self.stem}
-        aside = {each.name for each in (folder / _ASIDE).glob(of_it) if each.is_dir()} - {each.stem for each in asides_in(folder)}
-        return [Store(self.name, self.identity, name.rpartition(".")[2]) for name in sorted(beside | aside)]
+        aside = {each.name for each in (folder / _ASIDE).glob(of_it) if each.is_dir()} - {
+            each.stem for each in asides_in(folder)
+        }
+        return [
+            Store(self.name, self.identity, name.rpartition(".")[2])
+            for name in sorted(beside | aside)
+        ]
 
 
 @dataclass(frozen=True)
@@ -80,7 +85,12 @@ class SetAside:
 
     def report(self, folder: Path) -> dict[str, Any]:
         """As its page server's row has it."""
-        return {"run": self.run, "oldest": self.oldest, "last": self.last, "folder": str(self.path(folder))}
+        return {
+            "run": self.run,
+            "oldest": self.oldest,
+            "last": self.last,
+            "folder": str(self.path(folder)),
+        }
 
 
 def move_aside(folder: Path, store: Store) -> Path:
@@ -96,7 +106,13 @@ def move_aside(folder: Path, store: Store) -> Path:
 def note_aside(folder: Path, store: Store, positions: tuple[int, int] | None, why: str) -> SetAside:
     """Notes what one has that was moved."""
     oldest, last = positions or (None, None)
-    number = max((each.number for each in asides_in(folder) if each.identity == store.identity), default=0) + 1
+    number = (
+        max(
+            (each.number for each in asides_in(folder) if each.identity == store.identity),
+            default=0,
+        )
+        + 1
+    )
     made = SetAside(store.name, store.identity, store.run, number, oldest, last, why)
     _write(folder / _ASIDE / f"{store.stem}.json", vars(made))
     return made
@@ -134,7 +150,11 @@ def reported(folder: Path, identity: str) -> list[dict[str, Any]]:
 
 def sentence(name: str, machine: str, report: Mapping[str, Any]) -> str:
     """What a report says, for a person."""
-    has = "what it has is not known" if report["last"] is None else f"positions {report['oldest']} to {report['last']}"
+    has = (
+        "what it has is not known"
+        if report["last"] is None
+        else f"positions {report['oldest']} to {report['last']}"
+    )
     return f"store {report['run']} of {name} at {machine}, {report['folder']}: {has}"
 
 

@@ -26,7 +26,12 @@ def lines_of(text: str) -> Iterator[str]:
 
 
 def _line_of(row: dict[str, Any]) -> str:
-    ops = sum(1 << Operation[word.upper()] for word in set(row.get("op", [each.word for each in Operation])))
+    ops = sum(
+        1 << Operation[word.upper()]
+        for word in set(row.get("op", [each.word for each in Operation]))
+    )
     role = Role[row["role"].upper()].value if "role" in row else -1
-    return (f"row {int(row['verdict'] == 'allow')} {row.get('who', -1)} {role} {ops:x} {row.get('from', -1)} {row.get('to', -1)} "
-            f"{row.get('through', -1)}\n")  # fmt: skip
+    return (
+        f"row {int(row['verdict'] == 'allow')} {row.get('who', -1)} {role} {ops:x} {row.get('from', -1)} {row.get('to', -1)} "
+        f"{row.get('through', -1)}\n"
+    )

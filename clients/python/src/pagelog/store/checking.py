@@ -28,7 +28,10 @@ def checked(settings: StoreSettings) -> Iterator[Found]:
             from pagelog.store.s3 import Bucket
 
             assert isinstance(store, Bucket)
-            yield from (Found(what, said, is_good) for what, said, is_good in store.features(f"pagelog-check/{secrets.token_hex(8)}"))
+            yield from (
+                Found(what, said, is_good)
+                for what, said, is_good in store.features(f"pagelog-check/{secrets.token_hex(8)}")
+            )
         if settings.sse:
             yield Found("encryption", f"{settings.sse}, confirmed")
     except StoreError as error:
@@ -42,7 +45,11 @@ def _needed(store: Store) -> Iterator[Found]:
     yield Found("put, and put again", "yes")
     yield _is("read", store.get(key) == data)
     yield _is("read a part", store.get(key, 10, 20) == data[10:30])
-    yield _is("list", (key, 1000) in list(store.list("pagelog-check/")) and list(store.list("pagelog-check/", key + "~")) == [])
+    yield _is(
+        "list",
+        (key, 1000) in list(store.list("pagelog-check/"))
+        and list(store.list("pagelog-check/", key + "~")) == [],
+    )
     yield Found("delete", _deleted(store, key))
     yield _is("say what is missing", _is_missing(lambda: store.get(f"{key}x")))
 

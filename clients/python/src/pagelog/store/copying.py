@@ -2,6 +2,7 @@
 
 from __future__ import annotations
 
+import zlib
 from dataclasses import dataclass
 from typing import Callable, Iterator
 
@@ -44,10 +45,19 @@ class OtherObject:
 
 def packs_of(referee: Referee, log: int) -> list[OtherObject]:
     """Those that were read back once."""
-    return [OtherObject(key, bytes(digest)) for key, digest in referee._ask(tables.PACKS_OF_LOG, {"log": log})]
+    return [
+        OtherObject(key, bytes(digest))
+        for key, digest in referee._ask(tables.PACKS_OF_LOG, {"log": log})
+    ]
 
 
-def copy(referee: Referee, log: int, source: StoreSettings, target: StoreSettings, told: Callable[[int, int], None]) -> Copied:
+def copy(
+    referee: Referee,
+    log: int,
+    source: StoreSettings,
+    target: StoreSettings,
+    told: Callable[[int, int], None],
+) -> Copied:
     """Copies those that are not there. Raises `BrokenObject` where one is damaged at its source."""
     of, to, done = store_of(source), store_of(target), Copied()
     rows: list[ObjectRow | OtherObject] = [*objects_of(referee, log), *packs_of(referee, log)]
@@ -80,11 +90,23 @@ class Verified:
     images: int = 0
 
 
-def verify(referee: Referee, log: int, settings: StoreSettings, told: Callable[[int, int], None]) -> Verified:
-    """Reads all objects of a database, whole, and compares each with its row, its blocks with the digests between them, and its images with
-    what the pack says of each. Raises `BrokenArchive`."""
+def part_of_day(key: str, days: int, day: int) -> bool:
+    """Whether an object is one of those that are read on a day, where all are within so many: about as many on each."""
+    return zlib.crc32(key.encode()) % days == day % days
+
+
+def verify(
+    referee: Referee,
+    log: int,
+    settings: StoreSettings,
+    told: Callable[[int, int], None],
+    is_read: Callable[[str], bool] = lambda key: True,
+) -> Verified:
+    """Reads all objects of a database, or those whose key `is_read`, whole, and compares each with its row, its blocks with the digests between
+    them, and its images with what the pack says of each. Raises `BrokenArchive`."""
     store, done = store_of(settings), Verified()
-    rows, others = list(objects_of(referee, log)), packs_of(referee, log)
+    rows = [row for row in objects_of(referee, log) if is_read(row.key)]
+    others = [other for other in packs_of(referee, log) if is_read(other.key)]
     for number, other in enumerate(others, 1):
         done.objects, done.images = done.objects + 1, done.images + _images_in(store, other)
         told(number, len(others) + len(rows))
@@ -93,9 +115,13 @@ def verify(referee: Referee, log: int, settings: StoreSettings, told: Callable[[
             segment = decode(fetched(store, row.key, row.digest), row.key)
             blocks = segment.blocks(segment.head.first, segment.head.last)
         except BrokenObject as error:
-            raise BrokenArchive(f"the archived blocks {row.first} to {row.last}: {error}") from error
+            raise BrokenArchive(
+                f"the archived blocks {row.first} to {row.last}: {error}"
+            ) from error
         if digest(segment.head.before, blocks) != segment.head.after:
-            raise BrokenArchive(f"the blocks {row.first} to {row.last} of {row.key} are not those that were archived")
+            raise BrokenArchive(
+                f"the blocks {row.first} to {row.last} of {row.key} are not those that were archived"
+            )
         done.objects, done.blocks = done.objects + 1, done.blocks + row.last - row.first + 1
         told(number, len(others) + len(rows))
     return done

@@ -62,23 +62,37 @@ class History:
 
     def has(self, base: NamedBase, within: Callable[[str, int], bytes]) -> bool:
         """Whether a base is one of it: it has these blocks up to there."""
-        part = next((part for part in self.parts if part.said.first <= base.position + 1 and base.position <= part.last), None)
+        part = next(
+            (
+                part
+                for part in self.parts
+                if part.said.first <= base.position + 1 and base.position <= part.last
+            ),
+            None,
+        )
         if part is None:
             return self.base == base
         if base.position in (part.said.first - 1, part.said.last):
-            return base.chain == (part.said.before if base.position < part.said.first else part.said.after)
+            return base.chain == (
+                part.said.before if base.position < part.said.first else part.said.after
+            )
         return base.chain == within(part.key, base.position)
 
     def parts_from(self, other: History) -> int:
         """The position after which it parts from another."""
         theirs = {(part.last, part.said.after) for part in other.parts}
-        return max((part.last for part in self.parts if (part.last, part.said.after) in theirs), default=0)
+        return max(
+            (part.last for part in self.parts if (part.last, part.said.after) in theirs), default=0
+        )
 
 
 def folders_of(name: str, keys: Iterable[str]) -> dict[str, list[str]]:
     """The keys of blocks and of bases of a database of this name, by folder: each that had the name has one. A name may be the begin of
     another's."""
-    folder, found = re.compile(rf"({re.escape(name)}\.[0-9a-f]{{8}})/(blocks|bases)/.*"), dict[str, list[str]]()
+    folder, found = (
+        re.compile(rf"({re.escape(name)}\.[0-9a-f]{{8}})/(blocks|bases)/.*"),
+        dict[str, list[str]](),
+    )
     for key in keys:
         said = folder.fullmatch(key)
         if said is not None and (named(key) or named_base(key)) is not None:
@@ -86,12 +100,17 @@ def folders_of(name: str, keys: Iterable[str]) -> dict[str, list[str]]:
     return found
 
 
-def histories(keys: Iterable[str], others: Callable[[], Iterable[str]], within: Callable[[str, int], bytes]) -> list[History]:
+def histories(
+    keys: Iterable[str], others: Callable[[], Iterable[str]], within: Callable[[str, int], bytes]
+) -> list[History]:
     """All of a folder that are whole, the latest first. `others` are the keys of other folders, which are asked for where a branch begins in
-    one of them, and `within` is the digest of all blocks up to a position that an object has. Raises `NoHistory`."""
+    one of them, and `within` is the digest of all blocks up to a position that an object has. Raises `NoHistory`.
+    """
     keys = list(keys)
     own = {key: said for key in keys if (said := named(key)) is not None}
-    bases = sorted((base for base in map(named_base, keys) if base is not None), key=lambda base: base.position)
+    bases = sorted(
+        (base for base in map(named_base, keys) if base is not None), key=lambda base: base.position
+    )
     behind = _by_end(own)
     continued = {(said.first - 1, said.before) for said in own.values()}
     found, broken = [], 0
@@ -108,17 +127,29 @@ def histories(keys: Iterable[str], others: Callable[[], Iterable[str]], within: 
     if bases and bases[-1].position > max((each.last for each in found), default=broken):
         found.append(History((), bases[-1]))  # all blocks were pruned
     if not found:
-        raise NoHistory(f"no history leads from position 1, or from a base, to {broken}: what is below is missing" if broken else "there is none")
+        raise NoHistory(
+            f"no history leads from position 1, or from a base, to {broken}: what is below is missing"
+            if broken
+            else "there is none"
+        )
     return sorted(found, key=lambda each: (each.generation, each.last), reverse=True)
 
 
-def _begun(way: list[Part], bases: list[NamedBase], within: Callable[[str, int], bytes]) -> History | None:
+def _begun(
+    way: list[Part], bases: list[NamedBase], within: Callable[[str, int], bytes]
+) -> History | None:
     """The history of these objects: from position 1, or from the first base that is one of it; None where there is none."""
     whole = History(tuple(way))
     if way[0].said.first == 1:
         return whole
-    base = next((base for base in bases if base.position <= whole.last and whole.has(base, within)), None)
-    return None if base is None else History(tuple(part for part in way if part.last > base.position), base)
+    base = next(
+        (base for base in bases if base.position <= whole.last and whole.has(base, within)), None
+    )
+    return (
+        None
+        if base is None
+        else History(tuple(part for part in way if part.last > base.position), base)
+    )
 
 
 def _by_end(keys: dict[str, Named]) -> dict[tuple[int, bytes], str]:
@@ -140,7 +171,9 @@ def _way_to(key: str, keys: dict[str, Named], behind: dict[tuple[int, bytes], st
     return way[::-1]
 
 
-def _begun_elsewhere(way: list[Part], keys: Iterable[str], within: Callable[[str, int], bytes]) -> list[Part]:
+def _begun_elsewhere(
+    way: list[Part], keys: Iterable[str], within: Callable[[str, int], bytes]
+) -> list[Part]:
     """The same, behind what leads to its begin in other folders, as far as that is there."""
     all_of = {key: said for key in keys if (said := named(key)) is not None}
     behind = _by_end(all_of)

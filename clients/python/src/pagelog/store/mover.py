@@ -83,8 +83,18 @@ def nothing(_: str) -> None:
 class Mover:
     """Of one database, as `log` and identity. `passing` is called with the name of each point between two steps."""
 
-    def __init__(self, referee: Referee, store: Store, log: int, name: str, identity: str, settings: StoreSettings, *,
-                 passing: Callable[[str], None] = nothing, level: int = LEVEL) -> None:  # fmt: skip
+    def __init__(
+        self,
+        referee: Referee,
+        store: Store,
+        log: int,
+        name: str,
+        identity: str,
+        settings: StoreSettings,
+        *,
+        passing: Callable[[str], None] = nothing,
+        level: int = LEVEL,
+    ) -> None:
         self._referee, self._store, self._log, self._settings = referee, store, log, settings
         self._identity, self._folder = uuid.UUID(identity), folder_of(name, uuid.UUID(identity))
         self._passing, self._level = passing, level
@@ -117,8 +127,12 @@ class Mover:
 
     def _open(self) -> OpenObject | None:
         """The object that is next to be put or cut."""
-        for first, last, key, wanted, raw_digest, after, state, is_old in self._ask(tables.OPEN, tail=self._settings.tail):
-            return OpenObject(first, last, key, bytes(wanted), bytes(raw_digest), bytes(after), state, is_old)
+        for first, last, key, wanted, raw_digest, after, state, is_old in self._ask(
+            tables.OPEN, tail=self._settings.tail
+        ):
+            return OpenObject(
+                first, last, key, bytes(wanted), bytes(raw_digest), bytes(after), state, is_old
+            )
         return None
 
     # Seal: a row says what is to be put. The blocks are in PostgreSQL.
@@ -132,7 +146,11 @@ class Mover:
             return False
         if is_due is None:
             return self._skip(moved, cut)
-        if not is_due and (archived - moved) * self._each < self._settings.seal and archived - moved < BLOCKS:
+        if (
+            not is_due
+            and (archived - moved) * self._each < self._settings.seal
+            and archived - moved < BLOCKS
+        ):
             return False
         try:
             run = self._read(moved + 1, archived, bytes(chain))
@@ -145,7 +163,9 @@ class Mover:
             return False
         last = moved + len(run.lengths)
         if last == archived and run.chain != bytes(wanted):
-            raise BrokenArchive(f"the blocks {moved + 1} to {archived} are not those that were archived")
+            raise BrokenArchive(
+                f"the blocks {moved + 1} to {archived} are not those that were archived"
+            )
         head = Head(self._identity, moved + 1, last, bytes(chain), run.chain, generation)
         segment = Segment(head, b"".join(run.parts), run.lengths, run.came)
         run.parts.clear()
@@ -163,9 +183,21 @@ class Mover:
     def _note(self, segment: Segment, sealed: Sealed) -> bool:
         """Whether it was sealed: else somebody was before, or PostgreSQL has other blocks by now."""
         head = segment.head
-        found = self._ask(tables.SEAL, first=head.first, last=head.last, before=head.before, after=head.after, count=head.count, key=sealed.key,
-                          size=len(sealed.data), digest=sealed.digest, raw=segment.size, raw_digest=segment.raw_digest,
-                          came=moment_of(segment.came[0]), until=moment_of(max(segment.came)))  # fmt: skip
+        found = self._ask(
+            tables.SEAL,
+            first=head.first,
+            last=head.last,
+            before=head.before,
+            after=head.after,
+            count=head.count,
+            key=sealed.key,
+            size=len(sealed.data),
+            digest=sealed.digest,
+            raw=segment.size,
+            raw_digest=segment.raw_digest,
+            came=moment_of(segment.came[0]),
+            until=moment_of(max(segment.came)),
+        )
         if not found:
             self.done.refused += 1
             return False
@@ -193,11 +225,21 @@ class Mover:
                 if run.lengths:
                     break  # a gap behind it: what is there is sealed
                 raise BrokenArchive(f"the archived block {first} is missing")
-            self._take(run, first, data, _ONE.iter_unpack(heads), is_whole=until == first + found - 1)
+            self._take(
+                run, first, data, _ONE.iter_unpack(heads), is_whole=until == first + found - 1
+            )
             first += found
         return run
 
-    def _take(self, run: _Run, first: int, data: bytes, heads: Iterator[tuple[Any, ...]], *, is_whole: bool) -> None:
+    def _take(
+        self,
+        run: _Run,
+        first: int,
+        data: bytes,
+        heads: Iterator[tuple[Any, ...]],
+        *,
+        is_whole: bool,
+    ) -> None:
         at = start = 0
         for position, (length, crc, came) in enumerate(heads, first):
             block = data[at : at + length]
@@ -205,7 +247,11 @@ class Mover:
                 if not is_whole:
                     break  # a gap, behind which it is another position's
                 raise BrokenArchive(f"the archived block {position} is not the one that was kept")
-            if run.size + length > self._settings.seal and run.lengths or len(run.lengths) == BLOCKS:
+            if (
+                run.size + length > self._settings.seal
+                and run.lengths
+                or len(run.lengths) == BLOCKS
+            ):
                 run.is_full = True
                 break
             at += length
@@ -247,13 +293,27 @@ class Mover:
         if said is None:
             raise BrokenArchive(f"{row.key} is no key of blocks")
         run = self._read(row.first, row.last, said.before)
-        segment = Segment(Head(self._identity, row.first, row.last, said.before, row.after, said.generation), b"".join(run.parts), run.lengths, run.came)
+        segment = Segment(
+            Head(self._identity, row.first, row.last, said.before, row.after, said.generation),
+            b"".join(run.parts),
+            run.lengths,
+            run.came,
+        )
         if len(run.lengths) != segment.head.count or segment.raw_digest != row.raw_digest:
-            raise BrokenArchive(f"the archived blocks {row.first} to {row.last} are not those that were sealed")
+            raise BrokenArchive(
+                f"the archived blocks {row.first} to {row.last} are not those that were sealed"
+            )
         sealed = encode(segment, said.folder, self._level)
         if sealed.key == row.key:
             return sealed
-        self._ask(tables.RENAME, first=row.first, old=row.key, key=sealed.key, size=len(sealed.data), digest=sealed.digest)
+        self._ask(
+            tables.RENAME,
+            first=row.first,
+            old=row.key,
+            key=sealed.key,
+            size=len(sealed.data),
+            digest=sealed.digest,
+        )
         self._ready = sealed
         return None
 
@@ -267,14 +327,23 @@ class Mover:
     # Cut: PostgreSQL has it no more.
 
     def _cut(self, row: OpenObject) -> bool:
-        found = self._ask(tables.CUT, first=row.first, last=row.last, key=row.key, count=row.last - row.first + 1, raw_digest=row.raw_digest)
+        found = self._ask(
+            tables.CUT,
+            first=row.first,
+            last=row.last,
+            key=row.key,
+            count=row.last - row.first + 1,
+            raw_digest=row.raw_digest,
+        )
         self._passing("cut")
         if found:
             self.done.cut += 1
             return True
         self.done.refused += 1
         if self._open() == row:
-            raise BrokenArchive(f"PostgreSQL has other blocks at {row.first} to {row.last} than the object {row.key}, or some are missing")
+            raise BrokenArchive(
+                f"PostgreSQL has other blocks at {row.first} to {row.last} than the object {row.key}, or some are missing"
+            )
         return True
 
     def _clear(self) -> bool:

@@ -83,7 +83,9 @@ class Moved:
 class Moving:
     """All databases of a keeper, in turn. `told` gets a report of all where something has changed."""
 
-    def __init__(self, wish: Wish, told: Callable[[dict[str, Any]], None], store: Store | None = None) -> None:
+    def __init__(
+        self, wish: Wish, told: Callable[[dict[str, Any]], None], store: Store | None = None
+    ) -> None:
         self._wish, self._told, self._store = wish, told, store
         self._referee = Referee(wish.url, "of a store", requires_standby=wish.requires_standby)
         self._moved: dict[str, Moved] = {}
@@ -101,8 +103,14 @@ class Moving:
         for log, name, identity, generation, cut, stored, behind in held:
             one = self._moved.get(identity)
             if one is None:
-                one = self._moved[identity] = Moved(Mover(self._referee, self._opened(), log, name, identity, self._wish.store))
-            one.report.stored, one.report.cut, one.report.behind = stored, cut, round(max(0.0, behind), 1)
+                one = self._moved[identity] = Moved(
+                    Mover(self._referee, self._opened(), log, name, identity, self._wish.store)
+                )
+            one.report.stored, one.report.cut, one.report.behind = (
+                stored,
+                cut,
+                round(max(0.0, behind), 1),
+            )
             if time.monotonic() >= one.not_before:
                 self._step(one, identity, generation)
         for identity in self._moved.keys() - {row[2] for row in held}:
@@ -119,16 +127,24 @@ class Moving:
         report = one.report
         one.has_more = False
         try:
-            if one.generation != generation or (report.foreign and report.stored >= report.foreign_end):
-                report.foreign, report.foreign_end = foreign(self._referee, self._opened(), identity)
+            if one.generation != generation or (
+                report.foreign and report.stored >= report.foreign_end
+            ):
+                report.foreign, report.foreign_end = foreign(
+                    self._referee, self._opened(), identity
+                )
                 one.generation = generation
             one.has_more = one.mover.step()
         except (Away, Doubt):
             raise
         except PagelogError as error:
             report.failures += 1
-            report.broken = str(error) if isinstance(error, (BrokenArchive, BrokenObject)) else report.broken
-            report.away = str(error) if not isinstance(error, (BrokenArchive, BrokenObject)) else None
+            report.broken = (
+                str(error) if isinstance(error, (BrokenArchive, BrokenObject)) else report.broken
+            )
+            report.away = (
+                str(error) if not isinstance(error, (BrokenArchive, BrokenObject)) else None
+            )
             one.not_before = time.monotonic() + one.waits.next()
         else:
             report.broken = report.away = None
@@ -136,7 +152,9 @@ class Moving:
         report.refused = one.mover.done.refused
 
     def _tell(self, reports: dict[str, Any]) -> None:
-        if _fault(reports) != _fault(self._last) or (reports != self._last and time.monotonic() - self._last_at >= min(TOLD, self.pause)):
+        if _fault(reports) != _fault(self._last) or (
+            reports != self._last and time.monotonic() - self._last_at >= min(TOLD, self.pause)
+        ):
             self._last, self._last_at = json.loads(json.dumps(reports)), time.monotonic()
             self._told(reports)
 
@@ -174,7 +192,9 @@ def main() -> int:
     """Moves until the input ends."""
     wish = Wish.read(sys.stdin.readline())
     threading.Thread(target=_end_with, args=(sys.stdin,), daemon=True).start()
-    moving, waits = Moving(wish, lambda reports: print(json.dumps({"logs": reports}), flush=True)), Backoff(1.0, LONGEST)
+    moving, waits = Moving(
+        wish, lambda reports: print(json.dumps({"logs": reports}), flush=True)
+    ), Backoff(1.0, LONGEST)
     while True:
         try:
             if moving.round():

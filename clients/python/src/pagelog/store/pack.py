@@ -14,7 +14,7 @@ import hashlib
 import re
 import struct
 import uuid
-from dataclasses import dataclass, field
+from dataclasses import dataclass, field, replace
 from typing import Iterable, Iterator, Sequence
 
 import zstandard
@@ -39,12 +39,18 @@ _PACK = struct.Struct(">H32sQ")
 """Of a pack of a manifest: the length of its key, which follows, its SHA-256, and its size."""
 _IN_BASE = struct.Struct(">IQQIIII16s")
 """Of an image of a manifest: range, position, pages, checksum, number of the pack, and the rest as in a pack."""
+ALONE, EACH = _PACK_HEAD.size + _COUNT.size, _IN_PACK.size
+"""Bytes of a pack beside its images, and beside each of them."""
 DIGEST = 16
 """Bytes of a SHA-256 that say which bytes an image has."""
 LARGEST = 256 << 20
 """More bytes than the rest of any manifest has."""
-_PACK_KEY = re.compile(r"(.+)/images/([0-9a-f]{16})\.([0-9a-f]{8})-([0-9a-f]{8})\.([0-9a-f]{16})\.pack")
-_BASE_KEY = re.compile(r"(.+)/bases/([0-9a-f]{16})\.g(\d{1,19})\.([0-9a-f]{32})\.([0-9a-f]{16})\.base")
+_PACK_KEY = re.compile(
+    r"(.+)/images/([0-9a-f]{16})\.([0-9a-f]{8})-([0-9a-f]{8})\.([0-9a-f]{16})\.pack"
+)
+_BASE_KEY = re.compile(
+    r"(.+)/bases/([0-9a-f]{16})\.g(\d{1,19})\.([0-9a-f]{32})\.([0-9a-f]{16})\.base"
+)
 
 
 @dataclass(frozen=True)
@@ -75,7 +81,9 @@ class Packing:
     def __init__(self, identity: uuid.UUID, base: int, level: int = LEVEL) -> None:
         head = _PACK_HEAD.pack(PACK_MAGIC, identity.bytes, base)
         self._parts, self._size, self._base = [head], len(head), base
-        self._compressor = zstandard.ZstdCompressor(level=level, write_checksum=False, write_content_size=True)
+        self._compressor = zstandard.ZstdCompressor(
+            level=level, write_checksum=False, write_content_size=True
+        )
         self.images: list[Packed] = []
         self.raw = 0
         """Bytes of its pages."""
@@ -83,14 +91,22 @@ class Packing:
     def add(self, image: Image, crc: int) -> None:
         """Behind the others."""
         made = self._compressor.compress(image.data)
-        self.images.append(Packed(image.range, self._base, image.mask, crc, self._size, len(made), hashlib.sha256(made).digest()[:DIGEST]))
+        digest = hashlib.sha256(made).digest()[:DIGEST]
+        self.take(Packed(image.range, self._base, image.mask, crc, 0, len(made), digest), made)
+
+    def take(self, packed: Packed, made: bytes) -> None:
+        """Behind the others, an image whose compressed bytes these are."""
+        self.images.append(replace(packed, at=self._size))
         self._parts.append(made)
         self._size += len(made)
-        self.raw += len(image.data)
+        self.raw += packed.mask.bit_count() * PAGE_SIZE
 
     def sealed(self, folder: str) -> tuple[Pack, bytes]:
         """The object, and its bytes."""
-        self._parts += [_IN_PACK.pack(each.range, each.mask, each.crc, each.at, each.length, each.digest) for each in self.images]
+        self._parts += [
+            _IN_PACK.pack(each.range, each.mask, each.crc, each.at, each.length, each.digest)
+            for each in self.images
+        ]
         self._parts.append(_COUNT.pack(len(self.images)))
         data = b"".join(self._parts)
         self._parts.clear()
@@ -119,16 +135,29 @@ def is_packed(packed: Packed, data: bytes) -> bool:
 
 def images_in(data: bytes, key: str) -> Iterator[Image]:
     """All images of a pack, each checked, and the pack by its key. Raises `BrokenObject`."""
+    for each in images_at(data, key):
+        yield image_of(each, data[each.at : each.at + each.length], key)
+
+
+def images_at(data: bytes, key: str) -> list[Packed]:
+    """Where each image of a pack is, and the pack checked by its key: at least one. Raises
+    `BrokenObject`."""
     said = _PACK_KEY.fullmatch(key)
-    if said is None or hashlib.sha256(data).hexdigest()[:16] != said[5] or len(data) < _PACK_HEAD.size + _COUNT.size:
+    if (
+        said is None
+        or hashlib.sha256(data).hexdigest()[:16] != said[5]
+        or len(data) < _PACK_HEAD.size + _COUNT.size
+    ):
         raise BrokenObject(f"{key}: its bytes are not those that were put")
     magic, _, base = _PACK_HEAD.unpack_from(data)
     [count] = _COUNT.unpack_from(data, len(data) - _COUNT.size)
     index = len(data) - _COUNT.size - count * _IN_PACK.size
-    if magic != PACK_MAGIC or base != int(said[2], 16) or index < _PACK_HEAD.size:
+    if magic != PACK_MAGIC or base != int(said[2], 16) or index < _PACK_HEAD.size or not count:
         raise BrokenObject(f"{key}: its head is another's")
-    for range, mask, crc, at, length, digest in _IN_PACK.iter_unpack(data[index : -_COUNT.size]):
-        yield image_of(Packed(range, base, mask, crc, at, length, digest), data[at : at + length], key)
+    return [
+        Packed(range, base, mask, crc, at, length, digest)
+        for range, mask, crc, at, length, digest in _IN_PACK.iter_unpack(data[index : -_COUNT.size])
+    ]
 
 
 @dataclass(frozen=True)
@@ -145,7 +174,13 @@ class NamedBase:
 def named_base(key: str) -> NamedBase | None:
     """What a key says; None where it is not one of a manifest."""
     found = _BASE_KEY.fullmatch(key)
-    return None if found is None else NamedBase(found[1], int(found[2], 16), int(found[3]), bytes.fromhex(found[4]), found[5])
+    return (
+        None
+        if found is None
+        else NamedBase(
+            found[1], int(found[2], 16), int(found[3]), bytes.fromhex(found[4]), found[5]
+        )
+    )
 
 
 @dataclass(frozen=True)
@@ -171,39 +206,108 @@ class Manifest:
     images: Sequence[tuple[Packed, int]]
 
 
-def manifest_of(facts: BaseFacts, packs: Sequence[Pack], images: Iterable[tuple[Packed, int]], folder: str, level: int = LEVEL) -> tuple[Pack, bytes]:
+def manifest_of(
+    facts: BaseFacts,
+    packs: Sequence[Pack],
+    images: Iterable[tuple[Packed, int]],
+    folder: str,
+    level: int = LEVEL,
+) -> tuple[Pack, bytes]:
     """The object of a manifest, and its bytes."""
-    parts = [_PACK.pack(len(pack.key.encode()), pack.digest, pack.size) + pack.key.encode() for pack in packs]
+    parts = [
+        _PACK.pack(len(pack.key.encode()), pack.digest, pack.size) + pack.key.encode()
+        for pack in packs
+    ]
     count = 0
     for each, number in images:
-        parts.append(_IN_BASE.pack(each.range, each.base, each.mask, each.crc, number, each.at, each.length, each.digest))
+        parts.append(
+            _IN_BASE.pack(
+                each.range,
+                each.base,
+                each.mask,
+                each.crc,
+                number,
+                each.at,
+                each.length,
+                each.digest,
+            )
+        )
         count += 1
     rest = b"".join(parts)
-    head = _BASE_HEAD.pack(BASE_MAGIC, facts.identity.bytes, facts.position, facts.chain, facts.digest, facts.pages, facts.generation, facts.came,
-                           len(packs), count, len(rest))  # fmt: skip
-    data = head + zstandard.ZstdCompressor(level=level, write_checksum=False, write_content_size=True).compress(rest)
+    head = _BASE_HEAD.pack(
+        BASE_MAGIC,
+        facts.identity.bytes,
+        facts.position,
+        facts.chain,
+        facts.digest,
+        facts.pages,
+        facts.generation,
+        facts.came,
+        len(packs),
+        count,
+        len(rest),
+    )
+    data = head + zstandard.ZstdCompressor(
+        level=level, write_checksum=False, write_content_size=True
+    ).compress(rest)
     digest = hashlib.sha256(data).digest()
-    return Pack(f"{folder}/bases/{facts.position:016x}.g{facts.generation}.{facts.chain.hex()}.{digest.hex()[:16]}.base", digest, len(data)), data
+    return (
+        Pack(
+            f"{folder}/bases/{facts.position:016x}.g{facts.generation}.{facts.chain.hex()}.{digest.hex()[:16]}.base",
+            digest,
+            len(data),
+        ),
+        data,
+    )
 
 
 def read_manifest(data: bytes, key: str) -> Manifest:
     """That of an object, checked by its key, and by itself. Raises `BrokenObject`."""
     said = named_base(key)
-    if said is None or hashlib.sha256(data).hexdigest()[:16] != said.digest or len(data) < _BASE_HEAD.size:
+    if (
+        said is None
+        or hashlib.sha256(data).hexdigest()[:16] != said.digest
+        or len(data) < _BASE_HEAD.size
+    ):
         raise BrokenObject(f"{key}: its bytes are not those that were put")
-    magic, uid, position, chain, digest, pages, generation, came, packs, images, size = _BASE_HEAD.unpack_from(data)
-    if magic != BASE_MAGIC or (position, generation, chain) != (said.position, said.generation, said.chain) or size > LARGEST:
+    (
+        magic,
+        uid,
+        position,
+        chain,
+        digest,
+        pages,
+        generation,
+        came,
+        packs,
+        images,
+        size,
+    ) = _BASE_HEAD.unpack_from(data)
+    if (
+        magic != BASE_MAGIC
+        or (position, generation, chain) != (said.position, said.generation, said.chain)
+        or size > LARGEST
+    ):
         raise BrokenObject(f"{key}: its head is another's")
     try:
-        rest = zstandard.ZstdDecompressor().decompress(data[_BASE_HEAD.size :], max_output_size=size)
+        rest = zstandard.ZstdDecompressor().decompress(
+            data[_BASE_HEAD.size :], max_output_size=size
+        )
         made, at = _packs_in(rest, packs)
         entries = [*_IN_BASE.iter_unpack(rest[at:])]
     except (zstandard.ZstdError, struct.error, UnicodeDecodeError) as error:
         raise BrokenObject(f"{key}: {error}") from error
     if len(rest) != size or len(entries) != images or any(entry[4] >= packs for entry in entries):
         raise BrokenObject(f"{key}: it is not what was put")
-    found = [(Packed(range, base, mask, crc, start, length, short), number) for range, base, mask, crc, number, start, length, short in entries]
-    return Manifest(BaseFacts(uuid.UUID(bytes=uid), position, chain, digest, pages, generation, came), made, found)
+    found = [
+        (Packed(range, base, mask, crc, start, length, short), number)
+        for range, base, mask, crc, number, start, length, short in entries
+    ]
+    return Manifest(
+        BaseFacts(uuid.UUID(bytes=uid), position, chain, digest, pages, generation, came),
+        made,
+        found,
+    )
 
 
 def _packs_in(rest: bytes, count: int) -> tuple[list[Pack], int]:

@@ -63,7 +63,9 @@ class Folder:
         self._root = root
 
     def _file(self, key: str) -> Path:
-        if not key or any(part in ("", ".", "..") or part.startswith(".") for part in key.split("/")):
+        if not key or any(
+            part in ("", ".", "..") or part.startswith(".") for part in key.split("/")
+        ):
             raise StoreError(f"{key!r} is no key of an object")
         if not self._root.is_dir():
             raise StoreAway(f"the store has no folder {self._root}")

@@ -63,12 +63,19 @@ def found_in(store: Store, name: str, folder: str | None = None) -> tuple[str, l
     """The folder of a database, and its histories, the latest first. Raises `NoHistory`, also where there are several databases of the
     name and none was chosen."""
     folders = folders_of(name, (key for key, _ in store.list(f"{name}.")))
-    folders = {known: [key for key in keys if named_base(key) is None or _is_whole(store, key)] for known, keys in folders.items()}
+    folders = {
+        known: [key for key in keys if named_base(key) is None or _is_whole(store, key)]
+        for known, keys in folders.items()
+    }
     if folder is not None:
         folders = {known: keys for known, keys in folders.items() if known == folder}
     if len(folders) != 1:
-        raise NoHistory(f"the store has no blocks of {name}" if not folders else f"the store has several databases {name}: say which by "
-                        f"--stored: {', '.join(sorted(folders))}")  # fmt: skip
+        raise NoHistory(
+            f"the store has no blocks of {name}"
+            if not folders
+            else f"the store has several databases {name}: say which by "
+            f"--stored: {', '.join(sorted(folders))}"
+        )
     [(chosen, keys)] = folders.items()
 
     def others() -> list[str]:
@@ -91,12 +98,18 @@ def _one_each(store: Store, keys: list[str]) -> list[str]:
     of: dict[int, list[str]] = {}
     for key in keys:
         of.setdefault(int(key.rpartition("/")[2][:16], 16), []).append(key)
-    return [next((key for key in some if len(some) > 1 and _has_packs(store, key)), some[-1]) for _, some in sorted(of.items())]
+    return [
+        next((key for key in some if len(some) > 1 and _has_packs(store, key)), some[-1])
+        for _, some in sorted(of.items())
+    ]
 
 
 def _has_packs(store: Store, key: str) -> bool:
     try:
-        return all(bool(fetched(store, pack.key, pack.digest)) for pack in read_manifest(store.get(key), key).packs)
+        return all(
+            bool(fetched(store, pack.key, pack.digest))
+            for pack in read_manifest(store.get(key), key).packs
+        )
     except BrokenObject:
         return False
 
@@ -106,33 +119,61 @@ def _digest_within(store: Store, key: str, position: int) -> bytes:
     return digest(segment.head.before, segment.blocks(segment.head.first, position))
 
 
-def rescue(store: Store, referee: Referee, name: str, table: str, folder: str | None = None) -> Rescued:
+def rescue(
+    store: Store, referee: Referee, name: str, table: str, folder: str | None = None
+) -> Rescued:
     """Writes its rows, all or none. Raises `NoHistory`, `BrokenObject` where an object is another's, `Missing` where one is gone, and
     `KeeperError` where PostgreSQL has a database of this name."""
     chosen, found = found_in(store, name, folder)
     history, within = found[0], partial(_digest_within, store)
     keys = [key for key, _ in store.list(f"{chosen}/bases/")]
-    bases = [key for key in keys if (base := named_base(key)) is not None and history.start <= base.position <= history.last
-             and _is_whole(store, key) and history.has(base, within)]  # fmt: skip
+    bases = [
+        key
+        for key in keys
+        if (base := named_base(key)) is not None
+        and history.start <= base.position <= history.last
+        and _is_whole(store, key)
+        and history.has(base, within)
+    ]
     bases = _one_each(store, bases)
     with ThreadPoolExecutor(_AT_ONCE, "store") as threads:
         heads = list(threads.map(partial(_head, store), history.parts))
     generation = max(each.generation for each in found) + GAP
     referee.prepare()
     identity = str(_identity(store, chosen, heads, bases))
-    if referee._ask("SELECT 1 FROM pagelog_log WHERE name = %s OR identity = %s::uuid", (name, identity)):
+    if referee._ask(
+        "SELECT 1 FROM pagelog_log WHERE name = %s OR identity = %s::uuid", (name, identity)
+    ):
         raise KeeperError(f"PostgreSQL has a database {name}, or had it")
-    values = {"name": name, "last": history.last, "chain": history.after, "generation": generation, "identity": identity, "folder": chosen,
-              "run": f"rescued {secrets.token_hex(8)}", **referee.stored(identity, table, secrets.token_bytes(16))}  # fmt: skip
-    until = _write(referee, values, history, heads, (read_manifest(store.get(key), key) for key in bases))
-    return Rescued(history, tuple((each.parts_from(history), each) for each in found[1:]), until, generation, len(bases))
+    values = {
+        "name": name,
+        "last": history.last,
+        "chain": history.after,
+        "generation": generation,
+        "identity": identity,
+        "folder": chosen,
+        "run": f"rescued {secrets.token_hex(8)}",
+        **referee.stored(identity, table, secrets.token_bytes(16)),
+    }
+    until = _write(
+        referee, values, history, heads, (read_manifest(store.get(key), key) for key in bases)
+    )
+    return Rescued(
+        history,
+        tuple((each.parts_from(history), each) for each in found[1:]),
+        until,
+        generation,
+        len(bases),
+    )
 
 
 def _head(store: Store, part: Part) -> tuple[Head, Facts]:
     return head_of(store.get(part.key, 0, HEAD_SIZE), part.key)
 
 
-def _identity(store: Store, folder: str, heads: list[tuple[Head, Facts]], bases: list[str]) -> uuid.UUID:
+def _identity(
+    store: Store, folder: str, heads: list[tuple[Head, Facts]], bases: list[str]
+) -> uuid.UUID:
     """The identity of the database, which its own objects have: those of what a branch began with have another."""
     for head, _ in reversed(heads):
         if folder.endswith(f".{str(head.identity)[:8]}"):
@@ -140,14 +181,32 @@ def _identity(store: Store, folder: str, heads: list[tuple[Head, Facts]], bases:
     return read_manifest(store.get(bases[-1]), bases[-1]).facts.identity
 
 
-def _write(referee: Referee, values: dict[str, Any], history: History, heads: list[tuple[Head, Facts]], bases: Iterable[Manifest]) -> datetime | None:
+def _write(
+    referee: Referee,
+    values: dict[str, Any],
+    history: History,
+    heads: list[tuple[Head, Facts]],
+    bases: Iterable[Manifest],
+) -> datetime | None:
     """One transaction: keepers see the database once all is there. Returns when the last block was archived."""
     until = moment_of(heads[-1][1].until) if heads else None
     rows = []
     for part, (head, facts) in zip(history.parts, heads):
         is_whole = part.last == head.last
-        rows.append((part.said.first, part.last, part.key, 0, bytes.fromhex(part.said.digest), facts.size, facts.raw_digest,
-                     head.after if is_whole else b"", moment_of(facts.came), moment_of(facts.until) if is_whole else None))  # fmt: skip
+        rows.append(
+            (
+                part.said.first,
+                part.last,
+                part.key,
+                0,
+                bytes.fromhex(part.said.digest),
+                facts.size,
+                facts.raw_digest,
+                head.after if is_whole else b"",
+                moment_of(facts.came),
+                moment_of(facts.until) if is_whole else None,
+            )
+        )
     with transaction(referee):
         [[log]] = referee._ask(_LOG, values)
         referee._ask(_REST, {**values, "log": log})
@@ -158,19 +217,42 @@ def _write(referee: Referee, values: dict[str, Any], history: History, heads: li
                 for base in bases:
                     _write_base(cursor, log, base, packs)
                     until = until or moment_of(base.facts.came)
-                cursor.execute("UPDATE pagelog_store SET packs = %s WHERE log = %s", (len(packs), log))
+                cursor.execute(
+                    "UPDATE pagelog_store SET packs = %s WHERE log = %s", (len(packs), log)
+                )
         except psycopg.Error as error:
             raise referee._meaning(error) from error
     referee._ask(f"SELECT pg_notify('{CHANNEL}', '')")
     return until
 
 
-def _write_base(cursor: psycopg.Cursor[Any], log: int, base: Manifest, packs: dict[str, int]) -> None:
+def _write_base(
+    cursor: psycopg.Cursor[Any], log: int, base: Manifest, packs: dict[str, int]
+) -> None:
     """The rows of a base. `packs` are those that have a number; an image may be one of an earlier base, too."""
     facts = base.facts
-    cursor.execute(_BASE, (log, facts.position, facts.chain, facts.digest, facts.pages, moment_of(facts.came)))
+    cursor.execute(
+        _BASE, (log, facts.position, facts.chain, facts.digest, facts.pages, moment_of(facts.came))
+    )
     fresh = [pack for pack in base.packs if pack.key not in packs]
     packs.update({pack.key: len(packs) + number for number, pack in enumerate(fresh, 1)})
-    cursor.executemany(_PACK, [(log, packs[pack.key], pack.key, pack.size, pack.digest) for pack in fresh])
-    cursor.executemany(_IMAGE, [(log, each.range, each.base, each.mask.to_bytes(8, "big"), each.crc, packs[base.packs[number].key], each.at, each.length,
-                                 each.digest) for each, number in base.images])  # fmt: skip
+    cursor.executemany(
+        _PACK, [(log, packs[pack.key], pack.key, pack.size, pack.digest) for pack in fresh]
+    )
+    cursor.executemany(
+        _IMAGE,
+        [
+            (
+                log,
+                each.range,
+                each.base,
+                each.mask.to_bytes(8, "big"),
+                each.crc,
+                packs[base.packs[number].key],
+                each.at,
+                each.length,
+                each.digest,
+            )
+            for each, number in base.images
+        ],
+    )

@@ -19,8 +19,17 @@ try:
 except ImportError as error:
     raise StoreError("a store at s3: needs boto3: apt-get install python3-boto3") from error
 
+_NO_HOLD = ("NoSuchObjectLockConfiguration", "ObjectLockConfigurationNotFoundError")
+"""What is said of an object that never had a legal hold; the second by radosgw."""
 _GONE = ("NoSuchKey", "404", "NotFound")
-_BUSY = ("SlowDown", "InternalError", "ServiceUnavailable", "RequestTimeout", "RequestTimeTooSkewed", "OperationAborted")
+_BUSY = (
+    "SlowDown",
+    "InternalError",
+    "ServiceUnavailable",
+    "RequestTimeout",
+    "RequestTimeTooSkewed",
+    "OperationAborted",
+)
 CONNECT, READ, TRIES = 5, 30, 3
 """Seconds after which a server that is silent is given up, and how often."""
 
@@ -34,12 +43,22 @@ class Bucket:
         self._sse = {"ServerSideEncryption": settings.sse} if settings.sse else {}
         if settings.sse_key:
             self._sse["SSEKMSKeyId"] = settings.sse_key
-        options: dict[str, Any] = {"retries": {"max_attempts": TRIES, "mode": "standard"}, "connect_timeout": CONNECT, "read_timeout": READ}
+        options: dict[str, Any] = {
+            "retries": {"max_attempts": TRIES, "mode": "standard"},
+            "connect_timeout": CONNECT,
+            "read_timeout": READ,
+        }
         if "request_checksum_calculation" in botocore.config.Config.OPTION_DEFAULTS:
-            options["request_checksum_calculation"] = "when_required"  # else a put has checksums that other servers do not know
+            options[
+                "request_checksum_calculation"
+            ] = "when_required"  # else a put has checksums that other servers do not know
         try:
-            session = boto3.session.Session(profile_name=settings.profile, region_name=settings.region)
-            self._client: Any = session.client("s3", endpoint_url=settings.endpoint_url, config=botocore.config.Config(**options))
+            session = boto3.session.Session(
+                profile_name=settings.profile, region_name=settings.region
+            )
+            self._client: Any = session.client(
+                "s3", endpoint_url=settings.endpoint_url, config=botocore.config.Config(**options)
+            )
         except botocore.exceptions.BotoCoreError as error:
             raise StoreError(f"the store: {error}") from error
 
@@ -56,8 +75,13 @@ class Bucket:
             if code in _GONE:
                 raise Missing(f"the store has no object {key}") from error
             kind = StoreAway if status >= 500 and status != 501 or code in _BUSY else StoreError
-            raise kind(f"the store refuses {key}: {code} {error.response.get('Error', {}).get('Message', '')}".strip()) from error
-        except (botocore.exceptions.NoCredentialsError, botocore.exceptions.ParamValidationError) as error:
+            raise kind(
+                f"the store refuses {key}: {code} {error.response.get('Error', {}).get('Message', '')}".strip()
+            ) from error
+        except (
+            botocore.exceptions.NoCredentialsError,
+            botocore.exceptions.ParamValidationError,
+        ) as error:
             raise StoreError(f"the store: {error}") from error
         except (botocore.exceptions.BotoCoreError, OSError) as error:
             raise StoreAway(f"the store does not answer: {error}") from error
@@ -66,18 +90,28 @@ class Bucket:
         """As of any store. The server compares an MD5 of the bytes; who puts reads them back all the same."""
         digest = base64.b64encode(hashlib.md5(data, usedforsecurity=False).digest()).decode()
         with self._asking(key):
-            said = self._client.put_object(Bucket=self._bucket, Key=self._key(key), Body=data, ContentMD5=digest, **self._sse)
+            said = self._client.put_object(
+                Bucket=self._bucket, Key=self._key(key), Body=data, ContentMD5=digest, **self._sse
+            )
         if self._sse and said.get("ServerSideEncryption") != self._sse["ServerSideEncryption"]:
-            raise StoreError(f"the store does not confirm that {key} is encrypted by {self._sse['ServerSideEncryption']}")
+            raise StoreError(
+                f"the store does not confirm that {key} is encrypted by {self._sse['ServerSideEncryption']}"
+            )
 
     def get(self, key: str, start: int = 0, length: int | None = None) -> bytes:
         """As of any store."""
         if length == 0:
             return b""
-        part = {} if start == 0 and length is None else {"Range": f"bytes={start}-{'' if length is None else start + length - 1}"}
+        part = (
+            {}
+            if start == 0 and length is None
+            else {"Range": f"bytes={start}-{'' if length is None else start + length - 1}"}
+        )
         with self._asking(key):
             try:
-                found: bytes = self._client.get_object(Bucket=self._bucket, Key=self._key(key), **part)["Body"].read()
+                found: bytes = self._client.get_object(
+                    Bucket=self._bucket, Key=self._key(key), **part
+                )["Body"].read()
             except botocore.exceptions.ClientError as error:
                 if error.response.get("Error", {}).get("Code") != "InvalidRange":
                     raise
@@ -86,18 +120,26 @@ class Bucket:
 
     def older(self, key: str) -> Iterator[bytes]:
         """As of any store."""
+        for version in self._versions(key):
+            with self._asking(key):
+                yield self._client.get_object(**version)["Body"].read()
+
+    def _versions(self, key: str) -> Iterator[dict[str, str]]:
+        """Which there are of an object, as a request names each, the newest first."""
+        of = {"Bucket": self._bucket, "Key": self._key(key)}
         with self._asking(key):
             said = self._client.list_object_versions(Bucket=self._bucket, Prefix=self._key(key))
         for version in said.get("Versions", ()):
-            if version["Key"] == self._key(key):
-                with self._asking(key):
-                    yield self._client.get_object(Bucket=self._bucket, Key=self._key(key), VersionId=version["VersionId"])["Body"].read()
+            if version["Key"] == of["Key"]:
+                yield {**of, "VersionId": version["VersionId"]}
 
     def list(self, prefix: str, after: str = "") -> Iterator[tuple[str, int]]:
         """As of any store."""
         left, behind = len(self._key("")), {"StartAfter": self._key(after)} if after else {}
         with self._asking(prefix):
-            for page in self._client.get_paginator("list_objects_v2").paginate(Bucket=self._bucket, Prefix=self._key(prefix), **behind):
+            for page in self._client.get_paginator("list_objects_v2").paginate(
+                Bucket=self._bucket, Prefix=self._key(prefix), **behind
+            ):
                 for each in page.get("Contents", ()):
                     yield each["Key"][left:], int(each["Size"])
 
@@ -106,16 +148,64 @@ class Bucket:
         with self._asking(key):
             self._client.delete_object(Bucket=self._bucket, Key=self._key(key))
 
+    def check_legal_holds(self) -> None:
+        """Raises `StoreError` where the bucket has no object lock, without which there are none."""
+        try:
+            with self._asking("its object lock"):
+                said = self._client.get_object_lock_configuration(Bucket=self._bucket)
+        except StoreAway:
+            raise
+        except StoreError as error:
+            raise StoreError(f"{self._no_lock}: {error}") from error
+        if said.get("ObjectLockConfiguration", {}).get("ObjectLockEnabled") != "Enabled":
+            raise StoreError(self._no_lock)
+
+    @property
+    def _no_lock(self) -> str:
+        return f"the bucket {self._bucket} has no object lock, and so no legal holds"
+
+    def hold(self, key: str, is_on: bool) -> None:
+        """Puts a legal hold on each version of an object, or takes it off. Returns once the store
+        says that it is so. Raises `Missing` where there is no version."""
+        wanted, is_there = "ON" if is_on else "OFF", False
+        for version in self._versions(key):
+            is_there = True
+            with self._asking(key):
+                if self._hold_of(version) != wanted:
+                    self._client.put_object_legal_hold(LegalHold={"Status": wanted}, **version)
+                said = self._hold_of(version)
+            if said != wanted:
+                raise StoreError(f"the store does not confirm the legal hold of {key}: {said}")
+        if not is_there:
+            raise Missing(f"the store has no object {key}")
+
+    def _hold_of(self, version: dict[str, str]) -> str:
+        try:
+            said = self._client.get_object_legal_hold(**version)
+        except botocore.exceptions.ClientError as error:
+            if error.response.get("Error", {}).get("Code") not in _NO_HOLD:
+                raise
+            return "OFF"
+        return str(said.get("LegalHold", {}).get("Status", "OFF"))
+
     def features(self, key: str) -> Iterator[tuple[str, str, bool]]:
         """What the server does of MD5, versions and locks: what is asked, what it says, and whether that is enough."""
         wrong = base64.b64encode(hashlib.md5(b"other", usedforsecurity=False).digest()).decode()
         try:
-            self._client.put_object(Bucket=self._bucket, Key=self._key(key), Body=b"one", ContentMD5=wrong)
+            self._client.put_object(
+                Bucket=self._bucket, Key=self._key(key), Body=b"one", ContentMD5=wrong
+            )
             yield "a wrong Content-MD5", "taken: what is put is compared by reading it back alone", True
         except botocore.exceptions.ClientError as error:
             yield "a wrong Content-MD5", f"refused ({error.response.get('Error', {}).get('Code')})", True
-        for what, call, of in (("versions", self._client.get_bucket_versioning, ("Status",)),
-                               ("object lock", self._client.get_object_lock_configuration, ("ObjectLockConfiguration", "ObjectLockEnabled"))):  # fmt: skip
+        for what, call, of in (
+            ("versions", self._client.get_bucket_versioning, ("Status",)),
+            (
+                "object lock",
+                self._client.get_object_lock_configuration,
+                ("ObjectLockConfiguration", "ObjectLockEnabled"),
+            ),
+        ):
             try:
                 found: Any = call(Bucket=self._bucket)
                 for name in of:

@@ -37,7 +37,9 @@ _EACH = 12
 """Bytes of the body for the time and the length of each block."""
 LARGEST = 96 << 20
 """More bytes of blocks than any object has."""
-_KEY = re.compile(r"(.+)/blocks/([0-9a-f]{16})-([0-9a-f]{16})\.g(\d{1,19})\.([0-9a-f]{32}|-)\.([0-9a-f]{32})\.([0-9a-f]{16})\.zst")
+_KEY = re.compile(
+    r"(.+)/blocks/([0-9a-f]{16})-([0-9a-f]{16})\.g(\d{1,19})\.([0-9a-f]{32}|-)\.([0-9a-f]{32})\.([0-9a-f]{16})\.zst"
+)
 
 
 class BrokenObject(PagelogError):
@@ -88,7 +90,9 @@ class Segment:
     """A run with its blocks, which are one after the other in `body`. `came` has when each was archived, in microseconds since 1970; 0
     where that is not known."""
 
-    def __init__(self, head: Head, body: bytes, lengths: Sequence[int], came: Sequence[int]) -> None:
+    def __init__(
+        self, head: Head, body: bytes, lengths: Sequence[int], came: Sequence[int]
+    ) -> None:
         self.head, self.body, self.came = head, body, array("q", came)
         self._ends = array("Q", accumulate(lengths))
 
@@ -140,16 +144,41 @@ def folder_of(name: str, identity: uuid.UUID) -> str:
 def encode(segment: Segment, folder: str, level: int = LEVEL) -> Sealed:
     """The object of a run."""
     head, count = segment.head, segment.head.count
-    packed = _HEAD.pack(MAGIC, head.identity.bytes, head.first, head.last, head.before.ljust(16, b"\0"), head.after, head.generation, segment.size,
-                        segment.raw_digest, segment.came[0], max(segment.came))  # fmt: skip
-    deltas = struct.pack(f">{count}q", *(now - then for then, now in zip((0, *segment.came), segment.came)))
+    packed = _HEAD.pack(
+        MAGIC,
+        head.identity.bytes,
+        head.first,
+        head.last,
+        head.before.ljust(16, b"\0"),
+        head.after,
+        head.generation,
+        segment.size,
+        segment.raw_digest,
+        segment.came[0],
+        max(segment.came),
+    )
+    deltas = struct.pack(
+        f">{count}q", *(now - then for then, now in zip((0, *segment.came), segment.came))
+    )
     lengths = struct.pack(f">{count}I", *segment.lengths)
     # Piece by piece: what is not compressed yet is in memory once.
-    making = zstandard.ZstdCompressor(level=level, write_checksum=False, write_content_size=True).compressobj(segment.size + _EACH * count)
-    data = b"".join((packed, making.compress(deltas), making.compress(lengths), making.compress(segment.body), making.flush()))
+    making = zstandard.ZstdCompressor(
+        level=level, write_checksum=False, write_content_size=True
+    ).compressobj(segment.size + _EACH * count)
+    data = b"".join(
+        (
+            packed,
+            making.compress(deltas),
+            making.compress(lengths),
+            making.compress(segment.body),
+            making.flush(),
+        )
+    )
     digest = hashlib.sha256(data).digest()
-    key = (f"{folder}/blocks/{head.first:016x}-{head.last:016x}.g{head.generation}.{head.before.hex() or '-'}.{head.after.hex()}."
-           f"{digest.hex()[:16]}.zst")  # fmt: skip
+    key = (
+        f"{folder}/blocks/{head.first:016x}-{head.last:016x}.g{head.generation}.{head.before.hex() or '-'}.{head.after.hex()}."
+        f"{digest.hex()[:16]}.zst"
+    )
     return Sealed(key, data, digest)
 
 
@@ -159,7 +188,15 @@ def named(key: str) -> Named | None:
     if found is None:
         return None
     folder, first, last, generation, before, after, short = found.groups()
-    return Named(folder, int(first, 16), int(last, 16), int(generation), b"" if before == "-" else bytes.fromhex(before), bytes.fromhex(after), short)
+    return Named(
+        folder,
+        int(first, 16),
+        int(last, 16),
+        int(generation),
+        b"" if before == "-" else bytes.fromhex(before),
+        bytes.fromhex(after),
+        short,
+    )
 
 
 def decode(data: bytes, key: str) -> Segment:
@@ -170,8 +207,12 @@ def decode(data: bytes, key: str) -> Segment:
     head, facts = head_of(data, key)
     size = facts.size
     try:
-        whole = zstandard.ZstdDecompressor().decompress(data[_HEAD.size :], max_output_size=size + _EACH * head.count)
-        deltas, lengths = struct.unpack_from(f">{head.count}q", whole), struct.unpack_from(f">{head.count}I", whole, 8 * head.count)
+        whole = zstandard.ZstdDecompressor().decompress(
+            data[_HEAD.size :], max_output_size=size + _EACH * head.count
+        )
+        deltas, lengths = struct.unpack_from(f">{head.count}q", whole), struct.unpack_from(
+            f">{head.count}I", whole, 8 * head.count
+        )
     except (zstandard.ZstdError, struct.error) as error:
         raise BrokenObject(f"{key}: {error}") from error
     made = Segment(head, whole[_EACH * head.count :], lengths, tuple(accumulate(deltas)))
@@ -185,9 +226,28 @@ def head_of(data: bytes, key: str) -> tuple[Head, Facts]:
     said = named(key)
     if said is None or len(data) < _HEAD.size:
         raise BrokenObject(f"{key}: it has no head")
-    magic, uid, first, last, before, after, generation, size, digest, came, until = _HEAD.unpack_from(data)
-    if magic != MAGIC or (first, last, after, before) != (said.first, said.last, said.after, said.before.ljust(16, b"\0")) or first > last:
+    (
+        magic,
+        uid,
+        first,
+        last,
+        before,
+        after,
+        generation,
+        size,
+        digest,
+        came,
+        until,
+    ) = _HEAD.unpack_from(data)
+    if (
+        magic != MAGIC
+        or (first, last, after, before)
+        != (said.first, said.last, said.after, said.before.ljust(16, b"\0"))
+        or first > last
+    ):
         raise BrokenObject(f"{key}: its head is another's")
     if size > LARGEST or last - first >= LARGEST:
         raise BrokenObject(f"{key}: it is larger than any")
-    return Head(uuid.UUID(bytes=uid), first, last, said.before, after, generation), Facts(size, digest, came, until)
+    return Head(uuid.UUID(bytes=uid), first, last, said.before, after, generation), Facts(
+        size, digest, came, until
+    )

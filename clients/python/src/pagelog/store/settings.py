@@ -54,7 +54,9 @@ class StoreSettings:
             elif key == "bases" and type(value) is int and 1 <= value <= 1000:
                 values[key] = value
             else:
-                raise CredentialsError(f"[store]: {key} is {value!r}; it may have {', '.join(_TEXTS)}, seal, age, tail, grace and bases (1 to 1000)")
+                raise CredentialsError(
+                    f"[store]: {key} is {value!r}; it may have {', '.join(_TEXTS)}, seal, age, tail, grace and bases (1 to 1000)"
+                )
         return cls(str(url), **values)
 
     @property
@@ -66,8 +68,19 @@ class StoreSettings:
 def check_url(url: object) -> None:
     """Raises `CredentialsError` unless it is one of a folder or of a bucket, in which no secret may stand."""
     parts = urlsplit(url) if isinstance(url, str) else None
-    is_folder = parts is not None and parts.scheme == "file" and not parts.netloc and parts.path.startswith("/") and parts.path != "/"
-    is_bucket = parts is not None and parts.scheme == "s3" and bool(parts.netloc) and "@" not in parts.netloc
+    is_folder = (
+        parts is not None
+        and parts.scheme == "file"
+        and not parts.netloc
+        and parts.path.startswith("/")
+        and parts.path != "/"
+    )
+    is_bucket = (
+        parts is not None
+        and parts.scheme == "s3"
+        and bool(parts.netloc)
+        and "@" not in parts.netloc
+    )
     if parts is None or parts.query or parts.fragment or not (is_folder or is_bucket):
         raise CredentialsError("[archive]: store is file:///FOLDER or s3://BUCKET/PREFIX")
 

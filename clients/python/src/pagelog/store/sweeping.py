@@ -14,7 +14,7 @@ def sweep(referee: Referee, store: Store, grace: float) -> int:
     """Deletes the objects that nothing has named for so many seconds. Returns how many. Cut off, it is begun again."""
     count, after = 0, ""
     while keys := referee._ask(tables.GONE, {"grace": grace, "after": after, "count": _AT_ONCE}):
-        for key, in keys:
+        for (key,) in keys:
             store.delete(key)
             count += len(referee._ask(tables.FORGET, {"key": key}))
         after = keys[-1][0]

@@ -129,7 +129,7 @@ UPDATE pagelog_image i SET pack = made.number, at = v.at, length = v.length, dig
 WHERE i.log = made.log AND i.base = %(base)s AND i.range = v.range RETURNING i.range
 """
 """A row names the pack, if PostgreSQL's own SHA-256 of each image is that of what is to be put."""
-OPEN_PACK = "SELECT number, key, digest, state FROM pagelog_pack WHERE log = %(log)s AND state < 2 ORDER BY state, number LIMIT 1"
+OPEN_PACK = "SELECT number, key, digest, state, instead FROM pagelog_pack WHERE log = %(log)s AND state < 2 ORDER BY state, number LIMIT 1"
 KEPT_PACK = "UPDATE pagelog_pack SET state = 1 WHERE log = %(log)s AND number = %(number)s AND key = %(key)s AND state = 0 RETURNING log"
 TAKE_BACK = """
 WITH gone AS (DELETE FROM pagelog_pack WHERE log = %(log)s AND number = %(number)s AND key = %(key)s AND state = 0 RETURNING log, number, key),
@@ -145,27 +145,33 @@ SELECT number FROM kept
 """
 
 NO_MANIFEST = """
-SELECT b.base, b.chain, b.digest, b.pages, COALESCE((extract(epoch FROM b.came) * 1000000)::bigint, 0), l.generation
-FROM pagelog_base b JOIN pagelog_log l ON l.id = b.log JOIN pagelog_store s ON s.log = b.log
-WHERE b.log = %(log)s AND b.manifest IS NULL AND s.moved >= b.base
+SELECT b.base FROM pagelog_base b JOIN pagelog_store s ON s.log = b.log
+WHERE b.log = %(log)s AND b.manifest IS NULL AND b.broken IS NULL AND s.moved >= b.base
   AND NOT EXISTS (SELECT 1 FROM pagelog_object o WHERE o.log = b.log AND o.state = 0 AND o.first <= b.base) AND NOT EXISTS (
   SELECT 1 FROM (SELECT DISTINCT ON (i.range) i.pages, i.pack FROM pagelog_image i WHERE i.log = b.log AND i.base <= b.base ORDER BY i.range, i.base DESC) n
   LEFT JOIN pagelog_pack p ON p.log = b.log AND p.number = n.pack WHERE n.pages <> '\\x0000000000000000' AND COALESCE(p.state, 0) < 2)
 ORDER BY b.base LIMIT 1
 """
 """The oldest base whose images are all in the store, and all blocks up to it that are kept, and whose manifest is not: who has the store alone
-finds no base that is later than the blocks."""
+finds no base that is later than the blocks. One that could not be read is made anew first."""
 OF_BASE = """
-SELECT i.range, i.base, i.pages, i.crc, i.pack, i.at, i.length, i.digest FROM (
+SELECT b.chain, b.digest, b.pages, COALESCE((extract(epoch FROM b.came) * 1000000)::bigint, 0), l.generation,
+  i.range, i.base, i.pages, i.crc, i.at, i.length, i.digest, p.key, p.digest, p.size
+FROM pagelog_base b JOIN pagelog_log l ON l.id = b.log LEFT JOIN (
   SELECT DISTINCT ON (range) * FROM pagelog_image WHERE log = %(log)s AND base <= %(base)s ORDER BY range, base DESC) i
-WHERE i.pages <> '\\x0000000000000000' ORDER BY i.range
+  ON i.pages <> '\\x0000000000000000'
+LEFT JOIN pagelog_pack p ON p.log = i.log AND p.number = i.pack AND p.state = 2
+WHERE b.log = %(log)s AND b.base = %(base)s ORDER BY i.range
 """
-PACKS_OF = "SELECT number, key, digest, size FROM pagelog_pack WHERE log = %(log)s AND number = ANY(%(numbers)s::bigint[]) AND state = 2"
+"""A base and its images, all of one moment: it may be made anew, or its packs, at any other."""
 MANIFEST = """
-UPDATE pagelog_base SET manifest = %(key)s, manifest_digest = %(digest)s WHERE log = %(log)s AND base = %(base)s AND manifest IS NULL
-  AND chain = %(chain)s AND digest = %(heads)s
-  AND EXISTS (SELECT 1 FROM pagelog_log WHERE id = %(log)s AND identity = %(identity)s::uuid AND NOT dropped) RETURNING base
+WITH fence AS (
+  UPDATE pagelog_store SET packs = packs + 1 WHERE log = %(log)s AND packs = %(packs)s
+    AND EXISTS (SELECT 1 FROM pagelog_log WHERE id = %(log)s AND identity = %(identity)s::uuid AND NOT dropped) RETURNING log)
+UPDATE pagelog_base b SET manifest = %(key)s, manifest_digest = %(digest)s FROM fence WHERE b.log = fence.log AND b.base = %(base)s
+  AND b.manifest IS NULL AND b.broken IS NULL AND b.chain = %(chain)s AND b.digest = %(heads)s RETURNING b.base
 """
+"""It takes a number of the packs: who makes packs anew at the same time is refused, or this is."""
 OPEN_MANIFEST = """
 SELECT base, manifest, manifest_digest FROM pagelog_base WHERE log = %(log)s AND manifest IS NOT NULL AND NOT is_stored ORDER BY base LIMIT 1
 """
@@ -205,9 +211,12 @@ UNION ALL SELECT manifest, manifest_digest FROM pagelog_base WHERE log = %(log)s
 _SWEPT = """g.since < now() - make_interval(secs => %(grace)s)
   AND NOT EXISTS (SELECT 1 FROM pagelog_object o WHERE o.key = g.key) AND NOT EXISTS (SELECT 1 FROM pagelog_pack p WHERE p.key = g.key)
   AND NOT EXISTS (SELECT 1 FROM pagelog_base b WHERE b.manifest = g.key)
-  AND NOT EXISTS (SELECT 1 FROM pagelog_store s JOIN pagelog_log l ON l.id = s.log WHERE l.held IS NOT NULL AND starts_with(g.key, s.folder || '/'))"""
+  AND NOT EXISTS (SELECT 1 FROM pagelog_store s JOIN pagelog_log l ON l.id = s.log WHERE l.held IS NOT NULL AND starts_with(g.key, s.folder || '/'))
+  AND NOT EXISTS (SELECT 1 FROM pagelog_store s JOIN pagelog_base b ON b.log = s.log WHERE s.folder = split_part(g.key, '/', 1) AND NOT b.is_stored
+    AND lpad(to_hex(b.base), 16, '0') COLLATE "C" >= substr(split_part(g.key, '/', 3), 1, 16))"""
 GONE = f"SELECT g.key FROM pagelog_gone g WHERE g.key > %(after)s AND {_SWEPT} ORDER BY g.key LIMIT %(count)s"
-"""Keys that no row names, and since so long, of databases that nobody holds. Of a folder manifests come first, and packs last."""
+"""Keys that no row names, and since so long, of databases that nobody holds, and no base of it at or above them waits for its manifest: what comes
+in their place is in the store. Of a folder manifests come first, and packs last."""
 GOES = f"""
 SELECT split_part(g.key, '/', 1), split_part(g.key, '/', 2), count(*), max(g.since) FROM pagelog_gone g WHERE {_SWEPT} GROUP BY 1, 2 ORDER BY 1, 2
 """

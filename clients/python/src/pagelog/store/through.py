@@ -8,7 +8,7 @@ from collections import OrderedDict
 from concurrent.futures import Future, ThreadPoolExecutor
 from dataclasses import dataclass
 from datetime import datetime, timedelta, timezone
-from typing import TYPE_CHECKING, Any, Callable, Iterator, Sequence, TypeVar
+from typing import TYPE_CHECKING, Any, Callable, Iterable, Iterator, Sequence, TypeVar
 
 from pagelog.keeper.images import Image
 from pagelog.keeper.referee import Away, BrokenArchive, KeeperError
@@ -50,7 +50,9 @@ def fetched(store: Store, key: str, digest: bytes) -> bytes:
     for older in store.older(key):
         if is_of(older, digest):
             return older
-    raise BrokenObject(f"the object {key} {'is missing' if data is None else 'has other bytes than those that were put'}")
+    raise BrokenObject(
+        f"the object {key} {'is missing' if data is None else 'has other bytes than those that were put'}"
+    )
 
 
 def is_of(data: bytes, digest: bytes) -> bool:
@@ -100,7 +102,9 @@ class Through:
             if here is not None:
                 return found + here
             if not self._rows(log, first):  # else it was cut just now
-                raise BrokenArchive(f"of the archived blocks {first} to {last} some are missing, in PostgreSQL and in the store")
+                raise BrokenArchive(
+                    f"of the archived blocks {first} to {last} some are missing, in PostgreSQL and in the store"
+                )
         return found
 
     def has(self, log: int, position: int) -> bool:
@@ -122,7 +126,14 @@ class Through:
             return None
         row = found[0]
         segment, micros = self._segment([row]), round((time - _BEGAN) / timedelta(microseconds=1))
-        return next((at for at in range(row.first, row.last + 1) if segment.came[at - segment.head.first] > micros), None)
+        return next(
+            (
+                at
+                for at in range(row.first, row.last + 1)
+                if segment.came[at - segment.head.first] > micros
+            ),
+            None,
+        )
 
     def segments(self, log: int, first: int, last: int) -> Iterator[tuple[ObjectRow, Segment]]:
         """The objects that have some of these positions, the last first."""
@@ -132,21 +143,25 @@ class Through:
     def images(self, rows: Sequence[Sequence[Any]]) -> Callable[[], dict[int, Image]]:
         """Begins to fetch the images of those rows of `Bases` that have a key, those that are beside each other in a pack by one request. What it
         returns waits for them, and raises as `blocks`."""
-        store, runs = self._opened("images of pages"), list[list[InPack]]()
-        wanted = [InPack(Packed(range, base, int.from_bytes(pages, "big"), crc, at, length, bytes(digest)), key)
-                  for range, pages, crc, _, base, key, at, length, digest in rows if key is not None]  # fmt: skip
-        for each in sorted(wanted, key=lambda each: (each.key, each.packed.at)):
-            before = runs[-1][-1] if runs else None
-            if before is not None and (before.key, before.packed.at + before.packed.length) == (each.key, each.packed.at):
-                runs[-1].append(each)
-            else:
-                runs.append([each])
+        store = self._opened("images of pages")
+        wanted = [
+            InPack(
+                Packed(range, base, int.from_bytes(pages, "big"), crc, at, length, bytes(digest)),
+                key,
+            )
+            for range, pages, crc, _, base, key, at, length, digest in rows
+            if key is not None
+        ]
+        runs = runs_of(wanted)
         jobs = [self._pool().submit(_read_images, store, run) for run in runs]
 
         def taken() -> dict[int, Image]:
             found: dict[int, Image] = {}
             for run, job in zip(runs, jobs):
-                images: dict[int, Image] = self._result(job, f"the images from range {run[0].packed.range} on at position {run[0].packed.base}")
+                images: dict[int, Image] = self._result(
+                    job,
+                    f"the images from range {run[0].packed.range} on at position {run[0].packed.base}",
+                )
                 found.update(images)
             return found
 
@@ -158,7 +173,10 @@ class Through:
         return rows if rows and rows[0].first <= position else []
 
     def _ask(self, statement: str, values: dict[str, Any]) -> list[ObjectRow]:
-        return [ObjectRow(first, last, key, bytes(digest)) for first, last, key, digest in self._referee._ask_bounded(statement, values)]
+        return [
+            ObjectRow(first, last, key, bytes(digest))
+            for first, last, key, digest in self._referee._ask_bounded(statement, values)
+        ]
 
     def _segment(self, rows: list[ObjectRow]) -> Segment:
         """That of the first; the others are fetched meanwhile."""
@@ -194,7 +212,9 @@ class Through:
 
     def _opened(self, what: str) -> Store:
         if self._settings is None:
-            raise KeeperError(f"{what} are in a store, and the credentials name none: say [archive] store")
+            raise KeeperError(
+                f"{what} are in a store, and the credentials name none: say [archive] store"
+            )
         if self._store is None:
             try:
                 self._store = store_of(self._settings)
@@ -210,8 +230,32 @@ def _read(store: Store, row: ObjectRow) -> Segment:
     return segment
 
 
+def runs_of(wanted: Iterable[InPack]) -> list[list[InPack]]:
+    """Images in packs, those together that are one after the other there."""
+    runs = list[list[InPack]]()
+    for each in sorted(wanted, key=lambda each: (each.key, each.packed.at)):
+        before = runs[-1][-1] if runs else None
+        if before is not None and (before.key, before.packed.at + before.packed.length) == (
+            each.key,
+            each.packed.at,
+        ):
+            runs[-1].append(each)
+        else:
+            runs.append([each])
+    return runs
+
+
 def _read_images(store: Store, run: Sequence[InPack]) -> dict[int, Image]:
-    """Those that are one after the other in a pack, of an older version of it if need be. Raises `BrokenObject`."""
+    """Those of a run. Raises `BrokenObject`."""
+    parts = parts_of(store, run)
+    return {
+        each.packed.range: image_of(each.packed, part, each.key) for each, part in zip(run, parts)
+    }
+
+
+def parts_of(store: Store, run: Sequence[InPack]) -> list[bytes]:
+    """The bytes of each image of a run, as they are compressed in the pack, of an older version of
+    it if need be. Raises `BrokenObject`."""
     key, first = run[0].key, run[0].packed.at
     end = run[-1].packed.at + run[-1].packed.length
     try:
@@ -220,15 +264,23 @@ def _read_images(store: Store, run: Sequence[InPack]) -> dict[int, Image]:
         data = None
     parts = data
     if parts is None or not _are_packed(run, parts):
-        parts = next((part for older in store.older(key) if _are_packed(run, part := older[first:end])), None)
+        parts = next(
+            (part for older in store.older(key) if _are_packed(run, part := older[first:end])), None
+        )
     if parts is None:
-        raise BrokenObject(f"the object {key} {'is missing' if data is None else 'has other bytes than those that were put'}")
-    return {each.packed.range: image_of(each.packed, parts[each.packed.at - first :][: each.packed.length], key) for each in run}
+        raise BrokenObject(
+            f"the object {key} {'is missing' if data is None else 'has other bytes than those that were put'}"
+        )
+    return [_part(run, each, parts) for each in run]
+
+
+def _part(run: Sequence[InPack], each: InPack, parts: bytes) -> bytes:
+    at = each.packed.at - run[0].packed.at
+    return parts[at : at + each.packed.length]
 
 
 def _are_packed(run: Sequence[InPack], parts: bytes) -> bool:
-    first = run[0].packed.at
-    return all(is_packed(each.packed, parts[each.packed.at - first :][: each.packed.length]) for each in run)
+    return all(is_packed(each.packed, _part(run, each, parts)) for each in run)
 
 
 def moment_of(micros: int) -> datetime | None:

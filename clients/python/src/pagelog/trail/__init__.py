@@ -4,4 +4,13 @@ from pagelog.trail.keeper import TrailKeeper
 from pagelog.trail.store import BrokenTrail, NoTrail, OtherKeeper, Start, Trail, TrailList
 from pagelog.trail.texts import TrailError
 
-__all__ = ["BrokenTrail", "NoTrail", "OtherKeeper", "Start", "Trail", "TrailError", "TrailKeeper", "TrailList"]
+__all__ = [
+    "BrokenTrail",
+    "NoTrail",
+    "OtherKeeper",
+    "Start",
+    "Trail",
+    "TrailError",
+    "TrailKeeper",
+    "TrailList",
+]

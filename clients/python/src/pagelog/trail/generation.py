@@ -38,10 +38,23 @@ class GenerationLog:
         """That of a list, as `referee` has it in a snapshot; None where nobody was ever told how the generation began, or PostgreSQL has
         lost it."""
         database, _, run = (one.of or "").partition("/")
-        found = referee._ask(_GENERATION, {"log": log, "generation": one.generation, "database": database, "run": run})
+        found = referee._ask(
+            _GENERATION,
+            {"log": log, "generation": one.generation, "database": database, "run": run},
+        )
         return cls(referee, log, *found[0]) if found and (found[0][1] or not found[0][0]) else None
 
-    def __init__(self, referee: Referee, log: int, shift: int, images: int, archived: int, chain: bytes, end: int, oldest: int) -> None:
+    def __init__(
+        self,
+        referee: Referee,
+        log: int,
+        shift: int,
+        images: int,
+        archived: int,
+        chain: bytes,
+        end: int,
+        oldest: int,
+    ) -> None:
         self._shift, self._end, self._oldest = shift, end, oldest
         self._referee, self._log, self._bases = referee, log, Bases(referee, log)
         base = self._bases.newest(images)
@@ -52,7 +65,11 @@ class GenerationLog:
         self.archived, self.made = end - shift, images - shift
         """How many blocks were made of images."""
         rows = referee._ask("SELECT base, chain FROM pagelog_base WHERE log = %s", (log,))
-        self._chains = {0: b"", **{position: bytes(known) for position, known in rows}, archived: bytes(chain)}
+        self._chains = {
+            0: b"",
+            **{position: bytes(known) for position, known in rows},
+            archived: bytes(chain),
+        }
 
     def blocks(self) -> Iterator[bytes | None]:
         """As of any log."""
@@ -73,7 +90,9 @@ class GenerationLog:
             if count <= self.made:
                 yield labelled([block], count)[0]
         if count != self.made:
-            raise BrokenArchive(f"the images at position {self.base.position} make {count} blocks, and the generation began with {self.made}")
+            raise BrokenArchive(
+                f"the images at position {self.base.position} make {count} blocks, and the generation began with {self.made}"
+            )
 
     def _archived(self, first: int) -> Iterator[tuple[int, bytes]]:
         """Positions and their blocks, to the generation's end. What is behind it is read as far as the next digest that is known."""
@@ -82,13 +101,17 @@ class GenerationLog:
         now, compared = self._chains.get(first - 1), first - 1
         last = min(known for known in self._chains if known >= self._end)
         position = first - 1
-        for block in (block for piece in self._referee.blocks(self._log, first, last) for block in piece):
+        for block in (
+            block for piece in self._referee.blocks(self._log, first, last) for block in piece
+        ):
             position += 1
             now = None if now is None else digest(now, (block,))
             wanted = self._chains.get(position)
             if wanted is not None:
                 if now not in (None, wanted):
-                    raise BrokenArchive(f"the archived blocks {compared + 1} to {position} are not those that were archived")
+                    raise BrokenArchive(
+                        f"the archived blocks {compared + 1} to {position} are not those that were archived"
+                    )
                 now, compared = wanted, position
             if position <= self._end:
                 yield position, block
@@ -99,7 +122,9 @@ class GenerationLog:
         older = NOTHING if base is None else self._bases.newest(base.position - 1)
         if base is None or self._oldest > older.position + 1:
             return None
-        touched = sorted({page // PAGES for block in self._between(older, base) for page, *_ in block.records})
+        touched = sorted(
+            {page // PAGES for block in self._between(older, base) for page, *_ in block.records}
+        )
         drawn = random.Random(seed).sample(touched, min(count, len(touched)))
         images = {number: _pages_of(number, self._bases.image(number, older)) for number in drawn}
         pages = {page: data for of_range in images.values() for page, data in of_range.items()}
@@ -107,7 +132,9 @@ class GenerationLog:
             redo(block, pages)
         for number, of_range in images.items():
             if of_range != _pages_of(number, self._bases.image(number, base)):
-                raise BrokenArchive(f"the image of range {number} at position {base.position} is not what the blocks before make")
+                raise BrokenArchive(
+                    f"the image of range {number} at position {base.position} is not what the blocks before make"
+                )
         return len(images)
 
     def _between(self, older: Base, base: Base) -> Iterator[Block]:

@@ -48,9 +48,16 @@ class TrailKeeper:
     """
 
     def __init__(
-        self, operator: Operator, trail: Trail, *, generation: int = 0, of: str | None = None, start: Start | None = None,
-        tables: Sequence[bytes] = (), clock: Callable[[], int] = now,
-    ) -> None:  # fmt: skip
+        self,
+        operator: Operator,
+        trail: Trail,
+        *,
+        generation: int = 0,
+        of: str | None = None,
+        start: Start | None = None,
+        tables: Sequence[bytes] = (),
+        clock: Callable[[], int] = now,
+    ) -> None:
         """`start` is what each list begins from, where that is known: without it none can be replayed. `tables` are texts that may
         be set in any of them."""
         self.operator = operator
@@ -81,13 +88,18 @@ class TrailKeeper:
                 self._end(one, "the audit list is full: the database decides nothing any more")
                 raise
             if is_same:
-                one = one or self.trail.begin(generation=self.generation, start=self.start, tables=self._tables, of=self.of)
+                one = one or self.trail.begin(
+                    generation=self.generation, start=self.start, tables=self._tables, of=self.of
+                )
                 if one.of is None and self.of is not None:
                     one = self.trail.claim(one, self.of)
                 self._list = self.trail.keep(one, b"".join(map(encode_entry, found)), self._clock())
                 return Step(len(found), all(map(self._is_own, found)))
             if is_same is False:
-                self._end(one, "the service was restarted: what it decided behind the last line was not seen")
+                self._end(
+                    one,
+                    "the service was restarted: what it decided behind the last line was not seen",
+                )
                 self.operator.forget()
         raise ConnectionLost("no connection lasted for what is new")
 
@@ -113,7 +125,9 @@ class TrailKeeper:
             self._connects = 0
 
     def _is_own(self, entry: Entry) -> bool:
-        return entry.operation is Operation.AUDIT and entry.principal == self.operator.credentials.id
+        return (
+            entry.operation is Operation.AUDIT and entry.principal == self.operator.credentials.id
+        )
 
     def _open_list(self) -> TrailList | None:
         """The list that goes on, if there is one."""
@@ -123,7 +137,10 @@ class TrailKeeper:
         if last is not None and (last.generation > self.generation or self._is_anothers(last)):
             raise OtherKeeper(f"generation {last.generation} has a list by now")
         if last is not None and last.ended is None and last.generation < self.generation:
-            self._end(last, f"generation {self.generation} has begun: what was decided behind the last line was not seen")
+            self._end(
+                last,
+                f"generation {self.generation} has begun: what was decided behind the last line was not seen",
+            )
             return None
         if last is None or last.ended is not None:
             return None
@@ -136,7 +153,11 @@ class TrailKeeper:
 
     def _is_anothers(self, last: TrailList) -> bool:
         """Whether a list with the number of this generation is another run's."""
-        return last.generation == self.generation and None not in (self.of, last.of) and last.of != self.of
+        return (
+            last.generation == self.generation
+            and None not in (self.of, last.of)
+            and last.of != self.of
+        )
 
     def _is_of_the_service(self, one: TrailList | None) -> bool | None:
         """Whether the service of the last reply has this list; None where its connection is gone."""
@@ -163,8 +184,14 @@ class TrailKeeper:
         self.resume()
 
     def run(
-        self, *, follow: bool, idle: float = 15.0, keep: int | None = None, told: Callable[[TrailList], None] = lambda _: None,
-        stop: Callable[[], bool] = lambda: False, pruning: Callable[[int], None] = lambda _: None,
+        self,
+        *,
+        follow: bool,
+        idle: float = 15.0,
+        keep: int | None = None,
+        told: Callable[[TrailList], None] = lambda _: None,
+        stop: Callable[[], bool] = lambda: False,
+        pruning: Callable[[int], None] = lambda _: None,
     ) -> int:
         """Keeps what there is; with `follow` also what comes, until `stop`. Returns the number of the last line.
 

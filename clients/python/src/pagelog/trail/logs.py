@@ -51,7 +51,9 @@ class ArchivedLog:
 
 
 @contextmanager
-def log_of(trail: Trail, archive: Archive, one: TrailList, store: StoreSettings | None = None) -> Iterator[Log | None]:
+def log_of(
+    trail: Trail, archive: Archive, one: TrailList, store: StoreSettings | None = None
+) -> Iterator[Log | None]:
     """The log of a list; None where the archive does not say how its service began. `store` has blocks that PostgreSQL has no more."""
     if not archive.is_kept:
         yield ArchivedLog(trail, archive)

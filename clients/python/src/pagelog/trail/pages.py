@@ -26,7 +26,9 @@ class Pages:
     denied: int
 
 
-def compare_pages(log: Log, reader: Reader, hard: int, *, count: int = PAGES, seed: int | None = None) -> Pages:
+def compare_pages(
+    log: Log, reader: Reader, hard: int, *, count: int = PAGES, seed: int | None = None
+) -> Pages:
     """Compares pages of random records, each at a random LSN from its block's on to `hard`. Raises `OtherLog`.
 
     It reads the log twice, from LSN 1 to the last of these LSNs. All of it has to be known.
@@ -43,7 +45,9 @@ def compare_pages(log: Log, reader: Reader, hard: int, *, count: int = PAGES, se
             if isinstance(reply, Denied) and reply.section is Section.B:
                 denied += 1
             elif expect(Page, reply).data != images[number]:
-                raise OtherLog(lsn, f"page {number} of the service is not what the archived blocks make of it")
+                raise OtherLog(
+                    lsn, f"page {number} of the service is not what the archived blocks make of it"
+                )
             else:
                 alike += 1
     return Pages(alike, denied)

@@ -49,7 +49,9 @@ def entries_of(piece: Piece) -> tuple[Entry, ...]:
     found: list[Entry] = []
     for at in range(0, len(piece.lines), AUDIT_MAX * LINE_SIZE):
         lines = piece.lines[at : at + AUDIT_MAX * LINE_SIZE]
-        found += expect(Entries, decode_reply(_ENTRIES + (len(lines) // LINE_SIZE).to_bytes(2, "big") + lines)).entries
+        found += expect(
+            Entries, decode_reply(_ENTRIES + (len(lines) // LINE_SIZE).to_bytes(2, "big") + lines)
+        ).entries
     return tuple(found)
 
 

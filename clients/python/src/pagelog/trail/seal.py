@@ -40,6 +40,9 @@ def sealed_blocks(trail: Trail, archive: Archive) -> Iterator[Block]:
         digest = digest_behind(digest, block)
         if block.lsn in seals:
             if seals[block.lsn] != digest:
-                raise BrokenArchive(block.lsn, f"LSN {last + 1} to this one are not the blocks that the trail has sealed")
+                raise BrokenArchive(
+                    block.lsn,
+                    f"LSN {last + 1} to this one are not the blocks that the trail has sealed",
+                )
             last = block.lsn
         yield block

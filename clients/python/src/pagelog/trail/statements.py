@@ -63,7 +63,9 @@ TEXTS = "SELECT digest, text FROM pagelog_trail_text WHERE list = %(list)s AND l
 NEW_TEXT = "INSERT INTO pagelog_trail_text (list, line, digest, text) VALUES (%(list)s, %(line)s, %(digest)s, %(text)s)"
 HAS_TEXT = "SELECT line FROM pagelog_trail_text WHERE list = %(list)s AND line = %(line)s AND digest = %(digest)s"
 DROP_TEXTS = "DELETE FROM pagelog_trail_text WHERE list = %(list)s AND line = %(line)s"
-LINES_OF_TEXTS = "SELECT DISTINCT line FROM pagelog_trail_text WHERE list = %(list)s AND line > %(line)s"
+LINES_OF_TEXTS = (
+    "SELECT DISTINCT line FROM pagelog_trail_text WHERE list = %(list)s AND line > %(line)s"
+)
 
 # Pieces.
 

@@ -17,9 +17,9 @@ from dataclasses import dataclass, replace
 from datetime import datetime, timezone
 from typing import Any, Callable, Iterator, Sequence
 
-from pagelog.archive_engine import engine_of
-from pagelog.archive_session import Engine, Row, bytes_of
-from pagelog.archive_url import SqliteUrl, file_is_missing, parsed_url
+from pagelog.archive.engine import engine_of
+from pagelog.archive.session import Engine, Row, bytes_of
+from pagelog.archive.url import SqliteUrl, file_is_missing, parsed_url
 from pagelog.reply import LINE_SIZE
 from pagelog.trail import statements
 from pagelog.trail.texts import TrailError, without_tokens
@@ -109,14 +109,18 @@ class PieceRow:
     def of(cls, row: Row) -> PieceRow:
         """That of a row."""
         first, count, seen, before, digest, data = row
-        return cls(int(first), int(count), int(seen), bytes_of(before), bytes_of(digest), bytes_of(data))
+        return cls(
+            int(first), int(count), int(seen), bytes_of(before), bytes_of(digest), bytes_of(data)
+        )
 
     def piece(self) -> Piece:
         """Its lines, which are those that were kept. Raises `BrokenTrail`."""
         try:
             lines = zlib.decompress(self.data)
             is_whole = len(lines) == self.count * LINE_SIZE
-            is_kept = is_whole and digest_of(self.before, self.first, self.seen, lines) == self.digest
+            is_kept = (
+                is_whole and digest_of(self.before, self.first, self.seen, lines) == self.digest
+            )
         except (zlib.error, struct.error) as error:
             raise BrokenTrail(self.first, "its bytes are not those that were kept") from error
         if not is_kept:
@@ -126,7 +130,9 @@ class PieceRow:
 
 def digest_of(before: bytes, first: int, seen: int, lines: bytes) -> bytes:
     """The digest of a piece behind the one with the digest `before`."""
-    return hashlib.sha256(before + _HEAD.pack(first, len(lines) // LINE_SIZE, seen) + lines).digest()
+    return hashlib.sha256(
+        before + _HEAD.pack(first, len(lines) // LINE_SIZE, seen) + lines
+    ).digest()
 
 
 def piece_behind(one: TrailList, lines: bytes, seen: int) -> tuple[dict[str, Any], TrailList]:
@@ -135,8 +141,16 @@ def piece_behind(one: TrailList, lines: bytes, seen: int) -> tuple[dict[str, Any
     seen = max(seen, one.seen)
     first, count = one.kept + 1, len(lines) // LINE_SIZE
     digest = digest_of(one.digest, first, seen, lines)
-    piece = {"list": one.id, "first": first, "count": count, "seen": seen, "day": day_of(seen), "before": one.digest, "digest": digest,
-             "data": zlib.compress(lines, 1)}  # fmt: skip
+    piece = {
+        "list": one.id,
+        "first": first,
+        "count": count,
+        "seen": seen,
+        "day": day_of(seen),
+        "before": one.digest,
+        "digest": digest,
+        "data": zlib.compress(lines, 1),
+    }
     return piece, replace(one, kept=one.kept + count, seen=seen, digest=digest)
 
 
@@ -148,7 +162,15 @@ def day_of(seen: int) -> str:
 class Trail:
     """The trail of one log. A database error is an exception of psycopg or sqlite3, and then nothing of a reply was kept."""
 
-    def __init__(self, url: str, log: str = "0", *, create: bool = False, engine: Engine | None = None, database: str | None = None) -> None:
+    def __init__(
+        self,
+        url: str,
+        log: str = "0",
+        *,
+        create: bool = False,
+        engine: Engine | None = None,
+        database: str | None = None,
+    ) -> None:
         """Opens the trail of the log of this name; with `create` makes what is not there. Raises `NoTrail`.
 
         `engine` is one of this URL that trails share. None of them closes it. `database` is the identity of a named database, by
@@ -186,7 +208,11 @@ class Trail:
         """That of the named database that has the name of the log, if it is one, and if the role may see that."""
         if isinstance(parsed_url(self.url), SqliteUrl):
             return None
-        found = self.engine.rows(statements.IDENTITY, log=self.log) if self.engine.value(statements.MAY_LOOK) else []
+        found = (
+            self.engine.rows(statements.IDENTITY, log=self.log)
+            if self.engine.value(statements.MAY_LOOK)
+            else []
+        )
         return None if not found or found[0][0] is None else str(found[0][0])
 
     def _is_there(self) -> bool:
@@ -211,21 +237,42 @@ class Trail:
         elif self.database is None:
             rows = self.engine.rows(statements.LISTS_OF_LOG, log=self.log)
         else:
-            rows = self.engine.rows(statements.LISTS_OF_DATABASE, log=self.log, of=f"{self.database}/%")
+            rows = self.engine.rows(
+                statements.LISTS_OF_DATABASE, log=self.log, of=f"{self.database}/%"
+            )
         if rows and rows[-1][0] != FORMAT:
             raise TrailError(f"the trail has format {rows[-1][0]}, and this program reads {FORMAT}")
         return rows
 
-    def begin(self, *, generation: int = 0, start: Start | None = None, tables: Sequence[bytes] = (), of: str | None = None) -> TrailList:
+    def begin(
+        self,
+        *,
+        generation: int = 0,
+        start: Start | None = None,
+        tables: Sequence[bytes] = (),
+        of: str | None = None,
+    ) -> TrailList:
         """Begins a list without lines, which may set these tables, in one transaction. The one before it has to have ended. `of` is
         the database and the run, of a named database."""
         before = self.lists()
         if before and before[-1].ended is None:
             raise TrailError(f"list {before[-1].run} has not ended")
-        number = int(self.engine.value(statements.LAST_RUN, log=self.log)) + 1  # of whichever database
-        values = {"log": self.log, "run": number, "format": FORMAT, "generation": generation, "of": of, "digest": NO_DIGEST,
-                  "seen": before[-1].seen if before else 0, "primary": None if start is None else start.primary}  # fmt: skip
-        texts = ([(start.table, _START)] if start is not None else []) + [(text, _ANY) for text in dict.fromkeys(tables)]
+        number = (
+            int(self.engine.value(statements.LAST_RUN, log=self.log)) + 1
+        )  # of whichever database
+        values = {
+            "log": self.log,
+            "run": number,
+            "format": FORMAT,
+            "generation": generation,
+            "of": of,
+            "digest": NO_DIGEST,
+            "seen": before[-1].seen if before else 0,
+            "primary": None if start is None else start.primary,
+        }
+        texts = ([(start.table, _START)] if start is not None else []) + [
+            (text, _ANY) for text in dict.fromkeys(tables)
+        ]
         try:
             with self.engine.begin() as session:
                 id = session.value(statements.NEW_LIST, **values)
@@ -265,7 +312,9 @@ class Trail:
         """Keeps the text of a table that was set, but for its tokens: by this line of the list, or by one whose length it has."""
         values = _text(one.id, text, _ANY if line is None else line)
         with self.engine.begin() as session:
-            if not session.rows(statements.HAS_TEXT, **{name: values[name] for name in ("list", "line", "digest")}):
+            if not session.rows(
+                statements.HAS_TEXT, **{name: values[name] for name in ("list", "line", "digest")}
+            ):
                 session.change(statements.NEW_TEXT, **values)
 
     def texts_for(self, one: TrailList) -> tuple[Callable[[int, int], list[bytes]], set[int]]:
@@ -274,11 +323,17 @@ class Trail:
 
         What is there now is looked up once: a statement takes as long as a hundred lines do.
         """
-        given = {line for [line] in self.engine.rows(statements.LINES_OF_TEXTS, list=one.id, line=_START)}
+        given = {
+            line for [line] in self.engine.rows(statements.LINES_OF_TEXTS, list=one.id, line=_START)
+        }
         of_any = self._texts(one, _ANY)
 
         def texts(line: int, length: int) -> list[bytes]:
-            return self._texts(one, line) if line in given else [text for text in of_any if len(text) == length]
+            return (
+                self._texts(one, line)
+                if line in given
+                else [text for text in of_any if len(text) == length]
+            )
 
         return texts, given
 
@@ -334,13 +389,17 @@ class Trail:
 
     def _rows(self, one: TrailList, at: int) -> list[PieceRow]:
         """Some rows of a list's pieces, from this number on."""
-        rows = self.engine.rows(statements.PIECES, list=one.id, first=at, last=one.kept, count=_PIECES)
+        rows = self.engine.rows(
+            statements.PIECES, list=one.id, first=at, last=one.kept, count=_PIECES
+        )
         try:
             return [PieceRow.of(row) for row in rows]
         except _NO_ROWS as error:
             raise BrokenTrail(max(at, 1), "it cannot be read") from error
 
-    def _check_place(self, one: TrailList, row: PieceRow, last: PieceRow | None, is_late: bool) -> None:
+    def _check_place(
+        self, one: TrailList, row: PieceRow, last: PieceRow | None, is_late: bool
+    ) -> None:
         """Raises where a piece is missing before this one, which comes behind `last` or is the first, and was not pruned meanwhile."""
         if last is None and (not is_late or row.first <= one.pruned + 1):
             return
@@ -349,12 +408,20 @@ class Trail:
         pruned = int(self.engine.value(statements.PRUNED, list=one.id))
         wanted = one.pruned + 1 if last is None else last.first + last.count
         if not wanted < row.first <= pruned + 1:
-            raise BrokenTrail(wanted, "it is missing" if last is None else "the next piece is not behind it")
+            raise BrokenTrail(
+                wanted, "it is missing" if last is None else "the next piece is not behind it"
+            )
 
     def _first_piece(self, one: TrailList, line: int, since: int | None) -> int:
         """The first number of the piece that this line is in, or of the last one that was seen before this time if that is later."""
         first = int(self.engine.value(statements.FIRST_TO, list=one.id, line=line))
-        return first if since is None else max(first, int(self.engine.value(statements.FIRST_BEFORE, list=one.id, seen=since)))
+        return (
+            first
+            if since is None
+            else max(
+                first, int(self.engine.value(statements.FIRST_BEFORE, list=one.id, seen=since))
+            )
+        )
 
     def lines(self, one: TrailList, first: int) -> bytes:
         """The bytes of the lines from number `first` on, without the pruned ones."""
@@ -367,7 +434,10 @@ class Trail:
 
     def seals(self) -> dict[int, bytes]:
         """The digests of the archived blocks of this log, from LSN 1 to each of these."""
-        return {lsn: bytes_of(digest) for lsn, digest in self.engine.rows(statements.SEALS, log=self.log)}
+        return {
+            lsn: bytes_of(digest)
+            for lsn, digest in self.engine.rows(statements.SEALS, log=self.log)
+        }
 
     def keep_seal(self, lsn: int, digest: bytes) -> None:
         """Keeps the digest up to an LSN. Raises `OtherKeeper` where there is one."""
@@ -383,7 +453,9 @@ class Trail:
         """Each list that has pieces of days before that of this time, and the last line of these. The last piece of a list stays."""
         found = []
         for one in self.lists():
-            last = self.engine.value(statements.LAST_OLDER, list=one.id, day=day_of(before), kept=one.kept)
+            last = self.engine.value(
+                statements.LAST_OLDER, list=one.id, day=day_of(before), kept=one.kept
+            )
             if last is not None:
                 found.append((one, int(last)))
         return found
@@ -404,7 +476,18 @@ class Trail:
 
 def _list(row: Row) -> TrailList:
     _, id, run, generation, kept, seen, pruned, digest, ended, ended_seen, of = row
-    return TrailList(id, run, generation, kept, seen, pruned, bytes_of(digest), ended, ended_seen, of)
+    return TrailList(
+        id=id,
+        run=run,
+        generation=generation,
+        kept=kept,
+        seen=seen,
+        pruned=pruned,
+        digest=bytes_of(digest),
+        ended=ended,
+        ended_seen=ended_seen,
+        of=of,
+    )
 
 
 def _whose(one: TrailList) -> dict[str, object]:

@@ -22,10 +22,15 @@ def without_tokens(text: bytes) -> bytes:
     hidden = _TOKEN.sub(_ZEROS, text)
     one, other = read(text), read(hidden)
     if isinstance(one, Read) and isinstance(other, Read):
-        is_like = one.tokens.keys() == other.tokens.keys() and (one.rows, one.zone) == (other.rows, other.zone)
+        is_like = one.tokens.keys() == other.tokens.keys() and (one.rows, one.zone) == (
+            other.rows,
+            other.zone,
+        )
         is_like = is_like and set(other.tokens.values()) == {bytes(16)}
     else:
         is_like = one == other
     if not is_like:
-        raise TrailError("the text of a table cannot be kept without its tokens: write them as 32 digits")
+        raise TrailError(
+            "the text of a table cannot be kept without its tokens: write them as 32 digits"
+        )
     return hidden

@@ -2,9 +2,9 @@
 
 from __future__ import annotations
 
-from pagelog.archive_session import Engine
-from pagelog.archive_sqlite import SqliteEngine
-from pagelog.archive_url import SqliteUrl, parsed_url
+from pagelog.archive.session import Engine
+from pagelog.archive.sqlite import SqliteEngine
+from pagelog.archive.url import SqliteUrl, parsed_url
 
 
 def engine_of(url: str) -> Engine:
@@ -12,6 +12,6 @@ def engine_of(url: str) -> Engine:
     parsed = parsed_url(url)
     if isinstance(parsed, SqliteUrl):
         return SqliteEngine(parsed)
-    from pagelog.archive_postgres import PostgresEngine  # whose archive is a file needs no psycopg
+    from pagelog.archive.postgres import PostgresEngine  # whose archive is a file needs no psycopg
 
     return PostgresEngine(parsed)

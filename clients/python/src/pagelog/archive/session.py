@@ -11,7 +11,7 @@ from contextlib import AbstractContextManager
 from dataclasses import dataclass
 from typing import Any, ClassVar, Mapping, Sequence
 
-from pagelog.archive_url import ArchiveError
+from pagelog.archive.url import ArchiveError
 
 Row = tuple[Any, ...]
 
@@ -43,7 +43,9 @@ class SqlSession(ABC):
         """The one value of a statement that has one row. Raises `ArchiveError` where that is gone."""
         for [value] in self.rows(statement, **values):
             return value
-        raise ArchiveError("a row of the archive is gone: another program has taken it away meanwhile")
+        raise ArchiveError(
+            "a row of the archive is gone: another program has taken it away meanwhile"
+        )
 
 
 class Engine(ABC):
@@ -102,7 +104,9 @@ class Engine(ABC):
 def statements_of(scripts: Sequence[str], types: Mapping[str, str]) -> list[str]:
     """The statements of scripts, in the words of a database."""
     worded = (script.format(**types) for script in scripts)
-    return [" ".join(each.split()) for script in worded for each in script.split(";") if each.strip()]
+    return [
+        " ".join(each.split()) for script in worded for each in script.split(";") if each.strip()
+    ]
 
 
 def bytes_of(value: object) -> bytes:

@@ -11,8 +11,10 @@ from urllib.parse import parse_qsl, unquote
 
 from pagelog.errors import PagelogError
 
-_NONE = "the URL of the archive is none: it is as sqlite:///FILE or postgresql://USER@HOST/NAME, and @, : and / of a password are " \
-        "written %40, %3A and %2F"  # fmt: skip
+_NONE = (
+    "the URL of the archive is none: it is as sqlite:///FILE or postgresql://USER@HOST/NAME, and @, : and / of a password are "
+    "written %40, %3A and %2F"
+)
 
 
 class ArchiveError(PagelogError):
@@ -88,18 +90,25 @@ def parsed_url(url: str) -> ArchiveUrl:
 
 def _of_sqlite(url: str, rest: str) -> SqliteUrl:
     if rest and not rest.startswith("/"):
-        raise ArchiveError("the URL of an archive in SQLite is as sqlite:///FILE, and for a whole path sqlite:////FOLDER/FILE")
+        raise ArchiveError(
+            "the URL of an archive in SQLite is as sqlite:///FILE, and for a whole path sqlite:////FOLDER/FILE"
+        )
     name, _, query = rest.removeprefix("/").partition("?")
     if name.startswith("file:"):
         kept = [word for word in query.split("&") if word and not word.startswith("uri=")]
         return SqliteUrl(url, "?".join([name, "&".join(kept)]) if kept else name)
     if query:
-        raise ArchiveError("the URL of an archive in SQLite names a file and no more: sqlite:///FILE, or sqlite:///file:FILE?WORDS&uri=true")
+        raise ArchiveError(
+            "the URL of an archive in SQLite names a file and no more: sqlite:///FILE, or sqlite:///file:FILE?WORDS&uri=true"
+        )
     return SqliteUrl(url, os.path.abspath(name) if name and name != ":memory:" else ":memory:")
 
 
 def _of_postgresql(url: str) -> PostgresUrl:
-    from pagelog.libpq import UnreadableUrl, options_of_url  # whose archive is a file needs no psycopg
+    from pagelog.libpq import (
+        UnreadableUrl,
+        options_of_url,
+    )  # whose archive is a file needs no psycopg
 
     try:
         return PostgresUrl(url, options_of_url(url))

@@ -2,7 +2,7 @@
 
 from __future__ import annotations
 
-from pagelog.archive_session import BulkInsert
+from pagelog.archive.session import BulkInsert
 
 LOGS = "pagelog_log"
 TABLES = {
@@ -17,7 +17,9 @@ TABLES = {
 }
 """How each is made: as older versions have made them, whose archives are read and written as they are."""
 
-NEW_LOG = "INSERT INTO pagelog_log (name, format, archived, epoch) VALUES (%(name)s, %(format)s, 0, 0)"
+NEW_LOG = (
+    "INSERT INTO pagelog_log (name, format, archived, epoch) VALUES (%(name)s, %(format)s, 0, 0)"
+)
 LOG = "SELECT id, format FROM pagelog_log WHERE name = %(name)s"
 NAMES = "SELECT name FROM pagelog_log ORDER BY name"
 ARCHIVED = "SELECT archived FROM pagelog_log WHERE id = %(log)s"
@@ -29,7 +31,9 @@ WHERE id = %(log)s AND archived = %(before)s
 """
 """It changes no row where another archiver has moved the archived LSN, and else keeps others from that until its transaction ends."""
 
-KEEP = BulkInsert("pagelog_block", {"log": "integer", "lsn": "bigint", "crc": "bigint", "data": "bytea"})
+KEEP = BulkInsert(
+    "pagelog_block", {"log": "integer", "lsn": "bigint", "crc": "bigint", "data": "bytea"}
+)
 _WHERE = "FROM pagelog_block WHERE log = %(log)s AND lsn >= %(first)s AND lsn <= %(last)s"
 BLOCKS = f"SELECT crc, data {_WHERE} ORDER BY lsn"
 """Without their LSNs, which a batch that is whole need not bring: psycopg takes 7 microseconds for each value."""

@@ -6,10 +6,10 @@ import zlib
 from dataclasses import dataclass
 from typing import Iterator
 
-from pagelog import archive_tables as tables
+from pagelog.archive import tables
 from pagelog.archive import Archive, BrokenArchive, NoArchive, tables_are_missing
-from pagelog.archive_engine import engine_of
-from pagelog.archive_url import file_is_missing
+from pagelog.archive.engine import engine_of
+from pagelog.archive.url import file_is_missing
 from pagelog.block import Block
 from pagelog.comparing import OtherLog, Progress, all_blocks, no_progress
 from pagelog.reader import Reader
@@ -83,7 +83,10 @@ def damaged(archive: Archive, told: Progress = no_progress) -> Iterator[int]:
 
 
 def _compare_beside(archive: Archive, reader: Reader, lsn: int, hard: int) -> None:
-    for near in (*range(lsn - 1, max(0, lsn - 1 - _BESIDE), -1), *range(lsn + 1, min(archive.archived, hard, lsn + _BESIDE) + 1)):
+    for near in (
+        *range(lsn - 1, max(0, lsn - 1 - _BESIDE), -1),
+        *range(lsn + 1, min(archive.archived, hard, lsn + _BESIDE) + 1),
+    ):
         try:
             kept = list(archive.blocks(near, near))
         except BrokenArchive:
@@ -113,7 +116,9 @@ def drop(archive: Archive) -> int:
         highest = int(session.value(tables.HIGHEST, log=archive.id))
     for first in range(0, highest + 1, _DROP_SIZE):
         with engine.begin() as session:
-            count += session.change(tables.DROP_BLOCKS, log=archive.id, first=first, last=first + _DROP_SIZE - 1)
+            count += session.change(
+                tables.DROP_BLOCKS, log=archive.id, first=first, last=first + _DROP_SIZE - 1
+            )
     with engine.begin() as session:
         session.change(tables.DROP_LOG, log=archive.id)
     return count

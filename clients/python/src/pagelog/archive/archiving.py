@@ -58,7 +58,10 @@ class Archiver:
         if not self._is_of_the_log(blocks):
             blocks = self._pulled()
             if not self._is_of_the_log(blocks):
-                raise OtherLog(blocks[-1].lsn, "the service has other blocks again than those that it served just before")
+                raise OtherLog(
+                    blocks[-1].lsn,
+                    "the service has other blocks again than those that it served just before",
+                )
         if blocks:
             self.archived = self.archive.keep(blocks, self.reader.epoch)
         elif self._epoch < self.reader.epoch:
@@ -69,7 +72,10 @@ class Archiver:
     def _pulled(self) -> list[Block]:
         """What is new, over a connection over which the last archived block came too."""
         for _ in range(_TRIES):
-            if self._same_connects != self.reader.connection.connects or not self.reader.connection.is_open:
+            if (
+                self._same_connects != self.reader.connection.connects
+                or not self.reader.connection.is_open
+            ):
                 behind = self._behind_the_last()
                 if behind:
                     return behind
@@ -113,7 +119,9 @@ class Archiver:
         connects = self.reader.connection.connects
         hard = self.reader.status().hard
         if hard < self.archived:
-            raise LogWentBack(f"the service has {hard} blocks, and {self.archived} are archived: it was restarted")
+            raise LogWentBack(
+                f"the service has {hard} blocks, and {self.archived} are archived: it was restarted"
+            )
         for first in {1, max(1, self.archived // 2), max(1, self.archived - 15)}:
             last = min(self.archived, first + 15)
             compare(all_blocks(self.reader, first, last), self.archive.blocks(first, last))
@@ -125,7 +133,14 @@ class Archiver:
         self.reader.hard_seen = max(self.reader.hard_seen, self.archived)
         self._epoch = self._checked_connects = self._same_connects = 0
 
-    def run(self, *, follow: bool, idle: float = 1.0, told: Progress = no_progress, stop: Callable[[], bool] = lambda: False) -> int:
+    def run(
+        self,
+        *,
+        follow: bool,
+        idle: float = 1.0,
+        told: Progress = no_progress,
+        stop: Callable[[], bool] = lambda: False,
+    ) -> int:
         """Keeps what is hardened when it begins; with `follow` also what comes, until `stop`.
 
         While less than a batch comes, it waits before it asks again: a quarter of `idle` seconds after news, and after none

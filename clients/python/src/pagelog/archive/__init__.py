@@ -12,11 +12,11 @@ import zlib
 from dataclasses import dataclass
 from typing import Callable, Iterator, Sequence
 
-from pagelog import archive_tables as tables
-from pagelog.archive_engine import engine_of
-from pagelog.archive_session import Engine, Row, SqlSession, bytes_of
-from pagelog.archive_url import ArchiveError as ArchiveError
-from pagelog.archive_url import file_is_missing, parsed_url
+from pagelog.archive import tables
+from pagelog.archive.engine import engine_of
+from pagelog.archive.session import Engine, Row, SqlSession, bytes_of
+from pagelog.archive.url import ArchiveError as ArchiveError
+from pagelog.archive.url import file_is_missing, parsed_url
 from pagelog.block import HIGHEST_LSN, Block
 from pagelog.faults import BlockFault
 
@@ -58,7 +58,9 @@ class Sizes:
 class Archive:
     """The archive of one log. A database error is an exception of psycopg or sqlite3, and then nothing of a batch was kept."""
 
-    def __init__(self, url: str, log: str = "0", *, create: bool = False, is_read: bool = False) -> None:
+    def __init__(
+        self, url: str, log: str = "0", *, create: bool = False, is_read: bool = False
+    ) -> None:
         """Opens the archive of the log of this name; with `create` makes what is not there. Raises `NoArchive`.
 
         With `is_read` the log may be a named database: who says so keeps nothing.
@@ -76,7 +78,9 @@ class Archive:
             self.id = self._make() if create else self._find(False)
         except UnicodeDecodeError as error:  # SQLite quotes the damage
             self.close()
-            raise ArchiveError("the archive's tables cannot be read: its file is damaged") from error
+            raise ArchiveError(
+                "the archive's tables cannot be read: its file is damaged"
+            ) from error
         except BaseException:
             self.close()
             raise
@@ -110,7 +114,9 @@ class Archive:
                 raise
             raise NoArchive("there is no archive at this URL") from error
         if found is None:
-            raise NoArchive(f"the archive has no log {self.log!r}: it has {', '.join(self._names()) or 'none'}")
+            raise NoArchive(
+                f"the archive has no log {self.log!r}: it has {', '.join(self._names()) or 'none'}"
+            )
         id, form = found
         self.is_kept = form in KEPT_FORMATS
         if form not in self._formats:
@@ -136,7 +142,9 @@ class Archive:
         """The archived LSN: every block from 1 to it is kept. 0 at the beginning."""
         archived = self.engine.value(tables.ARCHIVED, log=self.id)
         if not isinstance(archived, int):
-            raise ArchiveError(f"the archived LSN is {archived!r}, which is no number: the archive is damaged")
+            raise ArchiveError(
+                f"the archived LSN is {archived!r}, which is no number: the archive is damaged"
+            )
         return archived
 
     @property
@@ -144,7 +152,9 @@ class Archive:
         """The highest epoch that an archiver has seen, 0 at the beginning. A restored service has to be above it."""
         epoch = self.engine.value(tables.EPOCH, log=self.id)
         if not isinstance(epoch, int):
-            raise ArchiveError(f"the epoch is {epoch!r}, which is no number: the archive is damaged")
+            raise ArchiveError(
+                f"the epoch is {epoch!r}, which is no number: the archive is damaged"
+            )
         return epoch
 
     def note_epoch(self, epoch: int) -> None:
@@ -164,7 +174,10 @@ class Archive:
             raise ValueError(f"the batch does not have every LSN from {first} to {last}")
         rows = [(self.id, block.lsn, zlib.crc32(block.data), block.data) for block in blocks]
         with self.engine.begin() as session:
-            if session.change(tables.MOVE, log=self.id, before=first - 1, last=last, epoch=epoch) != 1:
+            if (
+                session.change(tables.MOVE, log=self.id, before=first - 1, last=last, epoch=epoch)
+                != 1
+            ):
                 raise OtherArchiver(f"the archived LSN is not {first - 1} any more")
             session.insert(tables.KEEP, rows)
         return last
@@ -183,7 +196,11 @@ class Archive:
     def _read(self, first: int, last: int) -> Iterator[Block]:
         batch, wanted = {"log": self.id, "first": first, "last": last}, range(first, last + 1)
         rows = self.engine.rows(tables.BLOCKS, **batch)
-        found = wanted if len(rows) == len(wanted) else [lsn for [lsn] in self.engine.rows(tables.LSNS, **batch)]
+        found = (
+            wanted
+            if len(rows) == len(wanted)
+            else [lsn for [lsn] in self.engine.rows(tables.LSNS, **batch)]
+        )
         for lsn, at, (crc, data) in zip(wanted, found, rows):
             if at != lsn:
                 raise BrokenArchive(lsn, "it is missing")
@@ -195,7 +212,9 @@ class Archive:
         """How many bytes the blocks have. The database adds them up."""
         return int(self.engine.value(tables.SIZE, log=self.id))
 
-    def check(self, last: int = HIGHEST_LSN, *, told: Callable[[int, int], None] = lambda _, __: None) -> Sizes:
+    def check(
+        self, last: int = HIGHEST_LSN, *, told: Callable[[int, int], None] = lambda _, __: None
+    ) -> Sizes:
         """Reads every block, or those up to LSN `last`, and counts them. Raises `BrokenArchive`."""
         blocks, empty, size, end = 0, 0, 0, min(last, self.archived)
         for block in self.blocks(1, end):

@@ -10,8 +10,8 @@ from functools import cache
 from pathlib import Path
 from typing import Iterator, Sequence
 
-from pagelog.archive_session import BulkInsert, Engine, Row, SqlSession
-from pagelog.archive_url import ArchiveError, SqliteUrl
+from pagelog.archive.session import BulkInsert, Engine, Row, SqlSession
+from pagelog.archive.url import ArchiveError, SqliteUrl
 
 BUSY_SECONDS = 4.0
 """How long a statement waits for another process."""
@@ -30,13 +30,19 @@ class SqliteEngine(Engine):
         """Makes the file where it is not there. Raises `ArchiveError` for a database in memory."""
         self._url = url
         if url.file is None:
-            raise ArchiveError("an archive in memory is gone when this ends: name a file, as sqlite:///FILE")
+            raise ArchiveError(
+                "an archive in memory is gone when this ends: name a file, as sqlite:///FILE"
+            )
         _make_private(url.file)
 
     @contextmanager
     def session(self) -> Iterator[SqlSession]:
         """What is left open by an error is rolled back as its connection is closed."""
-        with closing(sqlite3.connect(self._url.name, timeout=BUSY_SECONDS, isolation_level=None, uri=self._url.is_uri)) as connection:
+        with closing(
+            sqlite3.connect(
+                self._url.name, timeout=BUSY_SECONDS, isolation_level=None, uri=self._url.is_uri
+            )
+        ) as connection:
             connection.text_factory = _text
             # A commit is on the disk before it returns, and readers do not wait for the archiver.
             connection.execute("PRAGMA journal_mode=WAL")

@@ -13,8 +13,8 @@ from psycopg.abc import PQGen
 from psycopg.conninfo import make_conninfo
 from psycopg.pq import TransactionStatus
 
-from pagelog.archive_session import BulkInsert, Engine, Row, SqlSession
-from pagelog.archive_url import PostgresUrl
+from pagelog.archive.session import BulkInsert, Engine, Row, SqlSession
+from pagelog.archive.url import PostgresUrl
 from pagelog.libpq import count_of_hosts, ready_by_poll, turn_hosts
 
 CONNECT_SECONDS = 5
@@ -26,10 +26,16 @@ WAIT_SECONDS = STATEMENT_SECONDS
 _HEARD_SECONDS = 1.0
 """How long a wait may go on after a signal that came just before it, which Python hears once the wait is over."""
 _OPTIONS = {
-    "connect_timeout": CONNECT_SECONDS, "keepalives": 1, "keepalives_idle": 10, "keepalives_interval": 5, "keepalives_count": 3,
-    "tcp_user_timeout": 20000, "application_name": "pagelog", "options": f"-c statement_timeout={int(STATEMENT_SECONDS * 1000)}",
+    "connect_timeout": CONNECT_SECONDS,
+    "keepalives": 1,
+    "keepalives_idle": 10,
+    "keepalives_interval": 5,
+    "keepalives_count": 3,
+    "tcp_user_timeout": 20000,
+    "application_name": "pagelog",
+    "options": f"-c statement_timeout={int(STATEMENT_SECONDS * 1000)}",
     "client_encoding": "UTF8",  # else psycopg has bytes for the texts of a database that says of none what it is
-}  # fmt: skip
+}
 _Result = TypeVar("_Result")
 
 
@@ -47,7 +53,9 @@ class BoundConnection(psycopg.Connection[Row]):
                 if ready is not None:
                     wanted = gen.send(ready)
                 elif left <= _HEARD_SECONDS:
-                    raise psycopg.OperationalError(f"PostgreSQL was silent for {WAIT_SECONDS:.0f} s")
+                    raise psycopg.OperationalError(
+                        f"PostgreSQL was silent for {WAIT_SECONDS:.0f} s"
+                    )
         except StopIteration as end:
             result: _Result = end.value
             return result
@@ -116,7 +124,9 @@ class PostgresEngine(Engine):
         left = count_of_hosts(self._options)
         while True:
             try:
-                made = BoundConnection.connect(make_conninfo(**self._options), autocommit=True, prepare_threshold=None)
+                made = BoundConnection.connect(
+                    make_conninfo(**self._options), autocommit=True, prepare_threshold=None
+                )
                 assert isinstance(made, BoundConnection)
                 return made
             except psycopg.OperationalError:
@@ -148,7 +158,10 @@ class PostgresSession(SqlSession):
     def insert(self, into: BulkInsert, rows: Sequence[Sequence[object]]) -> None:
         """As one statement, with an array for each column: a fifth of the time that one for each row takes."""
         if rows:
-            self._connection.execute(_insertion(into.table, tuple(into.types.items())), [list(column) for column in zip(*rows)])
+            self._connection.execute(
+                _insertion(into.table, tuple(into.types.items())),
+                [list(column) for column in zip(*rows)],
+            )
 
 
 def _answers(connection: BoundConnection) -> bool:
