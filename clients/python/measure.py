@@ -48,7 +48,9 @@ def best(work: Callable[[], int], rounds: int = 3) -> tuple[float, float]:
     for _ in range(rounds):
         began, spent = time.perf_counter(), time.process_time()
         count = work()
-        found.append((count / (time.perf_counter() - began), (time.process_time() - spent) / count * 1e6))
+        found.append(
+            (count / (time.perf_counter() - began), (time.process_time() - spent) / count * 1e6)
+        )
     return max(found)[0], min(client for _, client in found)
 
 
@@ -78,7 +80,9 @@ def bare(address: str, asked: Sequence[bytes], in_flight: int = 64) -> int:
                 sent = upto
             data += connection.recv(1 << 18)
             at = 0
-            while at + 4 <= len(data) and (end := at + 4 + int.from_bytes(data[at : at + 4], "big")) <= len(data):
+            while at + 4 <= len(data) and (
+                end := at + 4 + int.from_bytes(data[at : at + 4], "big")
+            ) <= len(data):
                 at, came = end, came + 1
             del data[:at]
     return len(asked)
@@ -93,9 +97,18 @@ def commits(lsns: Iterable[int]) -> list[Act]:
 
 def appends(service: Service) -> None:
     with service.primary() as primary:
-        ours = best(lambda: sum(1 for _ in primary.stream([Put(at % 100, 0, bytes(100))] for at in range(BLOCKS))))
+        ours = best(
+            lambda: sum(
+                1 for _ in primary.stream([Put(at % 100, 0, bytes(100))] for at in range(BLOCKS))
+            )
+        )
     end = primary.durable
-    rounds = iter([frames(PRIMARY, commits(range(end + at * BLOCKS + 1, end + (at + 1) * BLOCKS + 1))) for at in range(3)])
+    rounds = iter(
+        [
+            frames(PRIMARY, commits(range(end + at * BLOCKS + 1, end + (at + 1) * BLOCKS + 1)))
+            for at in range(3)
+        ]
+    )
     beside = best(lambda: bare(service.address, next(rounds)) // 3)
     line("appends: 2 writes, 1 report, 64 in flight", ours, beside)
     one = best(lambda: one_by_one(service))
@@ -112,7 +125,10 @@ def one_by_one(service: Service) -> int:
 
 def reads(service: Service) -> None:
     for what, acts in (
-        ("pulls of 16 blocks, 64 in flight", [Pull(1 + at * 16 % BLOCKS) for at in range(BLOCKS // 4)]),
+        (
+            "pulls of 16 blocks, 64 in flight",
+            [Pull(1 + at * 16 % BLOCKS) for at in range(BLOCKS // 4)],
+        ),
         ("pulls of one block, 64 in flight", [Pull(1 + at % BLOCKS, 1) for at in range(BLOCKS)]),
         ("gets of a page, 64 in flight", [Get(at % 100, BLOCKS) for at in range(BLOCKS // 4)]),
     ):
@@ -150,7 +166,9 @@ def archive(service: Service, name: str, url: str, beside: Callable[[list[Block]
         line(f"archive: {name}, read and checked", best(read), None)
 
     def write() -> int:
-        with Service(audit=16_777_216) as fresh, fresh.primary(alone=True) as primary, fresh.reader() as check:
+        with Service(audit=16_777_216) as fresh, fresh.primary(
+            alone=True
+        ) as primary, fresh.reader() as check:
             with Archive(url, "log 0") as archive:
                 began[0], began[1] = time.perf_counter(), time.process_time()
                 count = fill(archive, primary, check)
@@ -201,17 +219,24 @@ def in_postgres(url: str) -> Callable[[list[Block]], int]:
 def statements(connection: object, cursor: object, blocks: list[Block], mark: str) -> int:
     run, commit = cursor.execute, connection.commit  # type: ignore[attr-defined]
     run("create table log (id integer primary key, archived bigint)")
-    run(f"create table block (log integer, lsn bigint, crc bigint, data {'blob' if mark == '?' else 'bytea'}, primary key (log, lsn))")
+    run(
+        f"create table block (log integer, lsn bigint, crc bigint, data {'blob' if mark == '?' else 'bytea'}, primary key (log, lsn))"
+    )
     run("insert into log values (1, 0)")
     commit()
     for at in range(0, len(blocks), BATCH):
         batch = blocks[at : at + BATCH]
-        run(f"update log set archived = {batch[-1].lsn} where id = 1 and archived = {batch[0].lsn - 1}")
+        run(
+            f"update log set archived = {batch[-1].lsn} where id = 1 and archived = {batch[0].lsn - 1}"
+        )
         rows = [(block.lsn, zlib.crc32(block.data), block.data) for block in batch]
         if mark == "?":
             cursor.executemany(INSERT.format(mark), rows)  # type: ignore[attr-defined]
         else:
-            run("insert into block (log, lsn, crc, data) select 1, * from unnest(%b::bigint[], %b::bigint[], %b::bytea[])", [*map(list, zip(*rows))])
+            run(
+                "insert into block (log, lsn, crc, data) select 1, * from unnest(%b::bigint[], %b::bigint[], %b::bytea[])",
+                [*map(list, zip(*rows))],
+            )
         commit()
     connection.close()  # type: ignore[attr-defined]
     return len(blocks)
@@ -250,21 +275,59 @@ def memory() -> None:
         for one in open_ones:
             one.close()
         denied = frames(READER, [Pull(1)] * 8192)
-        grows("denied pulls: audit entries alone", service, 8192, lambda: bare(service.address, denied), "entry")
+        grows(
+            "denied pulls: audit entries alone",
+            service,
+            8192,
+            lambda: bare(service.address, denied),
+            "entry",
+        )
         denied *= 4
-        grows("denied pulls: audit entries alone", service, 32768, lambda: bare(service.address, denied), "entry")
+        grows(
+            "denied pulls: audit entries alone",
+            service,
+            32768,
+            lambda: bare(service.address, denied),
+            "entry",
+        )
     for size, count in ((100, 12000), (4000, 2000)):
         with Service(audit=16_777_216) as service, service.primary() as primary:
             acts: list[Act] = []
             for at in range(0, count, 64):
-                blocks = [Block.of(lsn, [Put(lsn % 100, 0, bytes(size))]) for lsn in range(at + 1, min(at + 64, count) + 1)]
-                acts += [Write(copy, block) for block in blocks for copy in (0, 1)] + [Report(blocks[-1].lsn)]
+                blocks = [
+                    Block.of(lsn, [Put(lsn % 100, 0, bytes(size))])
+                    for lsn in range(at + 1, min(at + 64, count) + 1)
+                ]
+                acts += [Write(copy, block) for block in blocks for copy in (0, 1)] + [
+                    Report(blocks[-1].lsn)
+                ]
             asked = frames(PRIMARY, acts)
-            grows(f"blocks of {14 + 9 + size} bytes, with 2 entries each", service, count, lambda: bare(service.address, asked), "block")
+            grows(
+                f"blocks of {14 + 9 + size} bytes, with 2 entries each",
+                service,
+                count,
+                lambda: bare(service.address, asked),
+                "block",
+            )
             pages = frames(READER, [Get(page, count) for page in range(100)])
-            grows("gets of 100 pages for the first time", service, 100, lambda: bare(service.address, pages), "page")
-            again = frames(READER, [Get(page % 100, lsn) for page, lsn in enumerate(range(count - 1000, count))])
-            grows("gets of 1,000 versions of them", service, 1000, lambda: bare(service.address, again), "version")
+            grows(
+                "gets of 100 pages for the first time",
+                service,
+                100,
+                lambda: bare(service.address, pages),
+                "page",
+            )
+            again = frames(
+                READER,
+                [Get(page % 100, lsn) for page, lsn in enumerate(range(count - 1000, count))],
+            )
+            grows(
+                "gets of 1,000 versions of them",
+                service,
+                1000,
+                lambda: bare(service.address, again),
+                "version",
+            )
             primary.close()
 
 
@@ -276,11 +339,15 @@ def main() -> None:
     with Service(audit=16_777_216) as service, tempfile.TemporaryDirectory() as folder:
         appends(service)
         reads(service)
-    with Service(audit=16_777_216) as service, tempfile.TemporaryDirectory() as folder, service.primary() as primary:
+    with Service(
+        audit=16_777_216
+    ) as service, tempfile.TemporaryDirectory() as folder, service.primary() as primary:
         for _ in primary.stream([Put(at % 100, 0, bytes(100))] for at in range(BLOCKS)):
             pass
         archive(service, "SQLite", f"sqlite:///{folder}/archive.db", in_sqlite(folder))
-        archive(service, "PostgreSQL", postgres().url("measured"), in_postgres(postgres().url("bare")))
+        archive(
+            service, "PostgreSQL", postgres().url("measured"), in_postgres(postgres().url("bare"))
+        )
 
 
 if __name__ == "__main__":

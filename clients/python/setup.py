@@ -13,7 +13,9 @@ def folder_of_libpq() -> list[str]:
     """Where its headers are, if it says so."""
     for words in (["pg_config", "--includedir"], ["pkg-config", "--variable=includedir", "libpq"]):
         try:
-            return [subprocess.run(words, check=True, capture_output=True, text=True).stdout.strip()]
+            return [
+                subprocess.run(words, check=True, capture_output=True, text=True).stdout.strip()
+            ]
         except (OSError, subprocess.CalledProcessError):
             continue
     return []
@@ -21,8 +23,22 @@ def folder_of_libpq() -> list[str]:
 
 # It is of no Python's own interface, so one serves each version.
 quick_way = Extension(
-    "pagelog.keeper._quick_way", sorted(glob.glob("src/pagelog/keeper/quick_way*.c")), depends=glob.glob("src/pagelog/keeper/quick_way*.h"),
-    include_dirs=folder_of_libpq(), libraries=["pq", "b2", "z", "crypto"], extra_link_args=["-pthread"],
-    extra_compile_args=["-std=c11", "-D_GNU_SOURCE", "-Wall", "-Wextra", "-O2", "-pthread", "-fvisibility=hidden"], py_limited_api=True, optional=True,
-)  # fmt: skip
+    "pagelog.keeper._quick_way",
+    sorted(glob.glob("src/pagelog/keeper/quick_way*.c")),
+    depends=glob.glob("src/pagelog/keeper/quick_way*.h"),
+    include_dirs=folder_of_libpq(),
+    libraries=["pq", "b2", "z", "crypto"],
+    extra_link_args=["-pthread"],
+    extra_compile_args=[
+        "-std=c11",
+        "-D_GNU_SOURCE",
+        "-Wall",
+        "-Wextra",
+        "-O2",
+        "-pthread",
+        "-fvisibility=hidden",
+    ],
+    py_limited_api=True,
+    optional=True,
+)
 setup(ext_modules=[quick_way], options={"build": {"build_base": "out"}})

@@ -30,13 +30,35 @@ from torture_check import BOUND, Check, Drop, Past, Restored  # noqa: E402
 from torture_copies import MACHINES, Servers  # noqa: E402
 from torture_faults import Faults, slowness  # noqa: E402
 from torture_notes import STOP, Job, fail_loudly, notes_of, now  # noqa: E402
-from torture_rig import KINDS, SUBCOMMANDS, Called, Counts, Keepers, environment, load_subcommands  # noqa: E402
+from torture_rig import (
+    KINDS,
+    SUBCOMMANDS,
+    Called,
+    Counts,
+    Keepers,
+    environment,
+    load_subcommands,
+)  # noqa: E402
 
 NAMES = ("s1", "s2", "s3", "p1", "p2")
-WRITERS = (("full", "s1.full", ""), ("normal", "s1.normal", ""), ("behind", "s2.behind", ""), ("pool", "s2.pool", ""), ("forks", "s2.forks", ""),
-           ("attached", "s3.attached", "s1"), ("writes", "p1.writes-0", ""), ("writes", "p1.writes-1", ""), ("groups", "p2.groups-0", ""))  # fmt: skip
-READERS = (("readers", "s1.readers", ""), ("readers", "s2.readers", ""), ("readers", "s3.readers", ""),
-           ("page_readers", "p1.readers", "p1.writes-0 p1.writes-1"), ("page_readers", "p2.readers", "p2.groups-0"))  # fmt: skip
+WRITERS = (
+    ("full", "s1.full", ""),
+    ("normal", "s1.normal", ""),
+    ("behind", "s2.behind", ""),
+    ("pool", "s2.pool", ""),
+    ("forks", "s2.forks", ""),
+    ("attached", "s3.attached", "s1"),
+    ("writes", "p1.writes-0", ""),
+    ("writes", "p1.writes-1", ""),
+    ("groups", "p2.groups-0", ""),
+)
+READERS = (
+    ("readers", "s1.readers", ""),
+    ("readers", "s2.readers", ""),
+    ("readers", "s3.readers", ""),
+    ("page_readers", "p1.readers", "p1.writes-0 p1.writes-1"),
+    ("page_readers", "p2.readers", "p2.groups-0"),
+)
 PAGED = ("p1", "p2")
 """Those of Python's clients have page servers."""
 BY_TLS = "--tls"
@@ -49,7 +71,13 @@ class Segment:
     """Databases of one PostgreSQL, administered while clients use them."""
 
     def __init__(self, kind: str, seconds: float, seed: int, counts: Counts, folder: Path) -> None:
-        self.kind, self.seconds, self.seed, self.counts, self.folder = kind, seconds, seed, counts, folder
+        self.kind, self.seconds, self.seed, self.counts, self.folder = (
+            kind,
+            seconds,
+            seed,
+            counts,
+            folder,
+        )
         self.chance = random.Random(f"{seed} {kind}")
         self.past = Past()
         self.clients: dict[str, subprocess.Popen[bytes]] = {}
@@ -66,7 +94,9 @@ class Segment:
             stack.callback(self.faults.stop)
             self.postgres = self.faults.made_postgres()
             stack.callback(self.postgres.stop)
-            self.keepers = Keepers(self.folder, self.postgres.kept_url, self.kind, trail=self.chance.random() < 0.5)
+            self.keepers = Keepers(
+                self.folder, self.postgres.kept_url, self.kind, trail=self.chance.random() < 0.5
+            )
             stack.callback(self.keepers.stop)
             self.pages = self._made_pages()
             if self.pages is not None:
@@ -89,7 +119,9 @@ class Segment:
         for name in NAMES:
             self.call("create", name, "--table", self.keepers.table).wait()
         deadline = now() + PATIENCE
-        while not all(facts.get("state") == "serving" for facts in (self.kept() or {"": {}}).values()):
+        while not all(
+            facts.get("state") == "serving" for facts in (self.kept() or {"": {}}).values()
+        ):
             assert now() < deadline, "no keeper serves"
         if self.pages is not None:
             self.pages.start()
@@ -100,7 +132,14 @@ class Segment:
         """Two page servers, where their program is built."""
         if torture_pages.PAGE_SERVERS not in os.environ:
             return None
-        return Servers(self.folder / "pages", self.folder, self.keepers.file_of("a"), PAGED, environment(), self.chance)
+        return Servers(
+            self.folder / "pages",
+            self.folder,
+            self.keepers.file_of("a"),
+            PAGED,
+            environment(),
+            self.chance,
+        )
 
     def start_what_ended(self) -> None:
         """Keepers and page servers."""
@@ -110,7 +149,9 @@ class Segment:
 
     def start_client(self, kind: str, who: str, other: str) -> subprocess.Popen[bytes]:
         job = Job(self.folder, self.keepers.addresses, who.partition(".")[0], who, self.seed, other)
-        self.clients[who] = subprocess.Popen([sys.executable, __file__, "client", kind, *job.words()])
+        self.clients[who] = subprocess.Popen(
+            [sys.executable, __file__, "client", kind, *job.words()]
+        )
         return self.clients[who]
 
     def _kill_clients(self) -> None:
@@ -123,7 +164,11 @@ class Segment:
 
     def call(self, *words: object, cut: tuple[int, bool] | None = None) -> Called:
         self.called += 1
-        return Called([*map(str, words), "--credentials", str(self.keepers.file)], self.folder / f"said.{self.called}", cut)
+        return Called(
+            [*map(str, words), "--credentials", str(self.keepers.file)],
+            self.folder / f"said.{self.called}",
+            cut,
+        )
 
     def kept(self) -> dict[str, dict[str, Any]] | None:
         """What the product says of its databases, if it says anything; only what is done next is drawn from it."""
@@ -131,7 +176,9 @@ class Segment:
         if called.wait() != 0:
             return None
         lines = map(json.loads, called.text.splitlines())
-        return {line["name"]: line for line in lines if "generation" in line}  # others were dropped, and have a run set aside
+        return {
+            line["name"]: line for line in lines if "generation" in line
+        }  # others were dropped, and have a run set aside
 
     def words_of(self, subcommand: str, name: str, facts: dict[str, Any]) -> list[object]:
         at = max(1, int(facts.get("archived") or 1) - self.chance.randrange(5))
@@ -151,7 +198,16 @@ class Segment:
         if not asides or self.chance.random() < 0.3:
             return [name] if self.chance.random() < 0.5 else [name, "--as", copy]
         aside = self.chance.choice(asides)
-        return [name, "--run", aside["run"], "--as", copy, "--end", self.keepers.disk / aside["keeper"], "--yes"]
+        return [
+            name,
+            "--run",
+            aside["run"],
+            "--as",
+            copy,
+            "--end",
+            self.keepers.disk / aside["keeper"],
+            "--yes",
+        ]
 
     def possible(self, name: str, facts: dict[str, Any] | None) -> list[str]:
         if facts is None:
@@ -175,14 +231,20 @@ class Segment:
             strike.after()
         self.start_what_ended()
 
-    def begin(self, name: str, death: str, facts: dict[str, Any] | None) -> tuple[str, Called | None]:
+    def begin(
+        self, name: str, death: str, facts: dict[str, Any] | None
+    ) -> tuple[str, Called | None]:
         subcommand = self.counts.rarest(self.possible(name, facts), death, self.kind, self.chance)
         if subcommand == "keep":
             self.faults.copied_keeper()
             return subcommand, None
         if subcommand == "cancel":
             self.call("switchover", name).wait()
-        cut = (self.chance.randrange(1, 6), self.chance.random() < 0.5) if death == "subcommand" else None
+        cut = (
+            (self.chance.randrange(1, 6), self.chance.random() < 0.5)
+            if death == "subcommand"
+            else None
+        )
         word = "switchover" if subcommand == "cancel" else subcommand
         return subcommand, self.call(word, *self.words_of(subcommand, name, facts or {}), cut=cut)
 
@@ -196,7 +258,9 @@ class Segment:
             self.past.drops.append(Drop(name, called.began, called.ended, status == 0))
         if "--as" in called.words:
             self._add_copy(name, called)
-        self.log(f"{subcommand} {name} ({death}): {status} {called.text.strip().splitlines()[-1:] or ''}")
+        self.log(
+            f"{subcommand} {name} ({death}): {status} {called.text.strip().splitlines()[-1:] or ''}"
+        )
 
     def _add_copy(self, name: str, called: Called) -> None:
         """A copy is looked at, and then dropped, when all is healed. One whose subcommand was cut off may be there too."""
@@ -204,7 +268,9 @@ class Segment:
         copy = str(words[words.index("--as") + 1])
         self.copies.append(copy)
         if called.status == 0 and "--at" in words:
-            self.past.restored.append(Restored(copy, name, int(words[words.index("--at") + 1]), called.began))
+            self.past.restored.append(
+                Restored(copy, name, int(words[words.index("--at") + 1]), called.began)
+            )
 
     def log(self, line: str) -> None:
         with (self.folder / "log").open("a") as log:
@@ -231,7 +297,11 @@ class Segment:
 
     def _look_at_copies(self) -> None:
         """Those that PostgreSQL has not lost since."""
-        there = {restored.copy for restored in self.past.restored if not self.past.lost(restored.began, now())}
+        there = {
+            restored.copy
+            for restored in self.past.restored
+            if not self.past.lost(restored.began, now())
+        }
         for copy in self.copies:
             if copy in there and copy.startswith("s"):
                 reader = self.start_client("final", f"{copy}.final", "")
@@ -249,9 +319,15 @@ class Segment:
             time.sleep(0.05)
         took, bound = now() - healed, BOUND * slow.end()
         self.longest = max(self.longest, took)
-        self.log(f"all continue after {took:.1f} s, bound {bound:.1f} s" if not waiting else f"stuck: {sorted(waiting)}")
+        self.log(
+            f"all continue after {took:.1f} s, bound {bound:.1f} s"
+            if not waiting
+            else f"stuck: {sorted(waiting)}"
+        )
         if waiting or took > bound:
-            self.stuck.append(f"stuck: {sorted(waiting) or 'a writer'}, {took:.1f} s after the last fault, bound {bound:.1f} s")
+            self.stuck.append(
+                f"stuck: {sorted(waiting) or 'a writer'}, {took:.1f} s after the last fault, bound {bound:.1f} s"
+            )
 
     def _has_committed(self, who: str, since: float) -> bool:
         for file in self.folder.glob(f"{who}*.notes"):
@@ -273,7 +349,12 @@ class Segment:
         for name in NAMES:
             kind = "final" if name.startswith("s") else "page_final"
             writers = " ".join(who for _, who, _ in WRITERS if who.startswith(name))
-            if self.start_client(kind, f"{name}.final", writers if kind == "page_final" else "").wait(PATIENCE) != 0:
+            if (
+                self.start_client(
+                    kind, f"{name}.final", writers if kind == "page_final" else ""
+                ).wait(PATIENCE)
+                != 0
+            ):
                 self.stuck.append(f"nobody can look at {name} in the end")
         for name in PAGED if self.pages is not None else ():
             self._compare_pages(name)
@@ -283,16 +364,24 @@ class Segment:
         deadline = now() + PATIENCE
         while not self._have_all(facts := (self.kept() or {}).get(name, {})):
             if now() > deadline:
-                return self.stuck.append(f"page servers of {name} lack something: {facts.get('archived')}, {facts.get('page_servers')}")
+                return self.stuck.append(
+                    f"page servers of {name} lack something: {facts.get('archived')}, {facts.get('page_servers')}"
+                )
             time.sleep(0.5)
-        called = self.call("verify", name, "--pages", *(("--last", facts["archived"]) if facts else ()))
+        called = self.call(
+            "verify", name, "--pages", *(("--last", facts["archived"]) if facts else ())
+        )
         if called.wait() != 0:
             self.stuck.append(f"page servers of {name}: {called.text}")
         self.log(f"{name}: {called.text.strip()}")
 
     @staticmethod
     def _have_all(facts: dict[str, Any]) -> bool:
-        known = {each["machine"] for each in facts.get("page_servers", ()) if each["address"] and each["position"] == facts["archived"]}
+        known = {
+            each["machine"]
+            for each in facts.get("page_servers", ())
+            if each["address"] and each["position"] == facts["archived"]
+        }
         return known == set(MACHINES)
 
 
@@ -310,9 +399,12 @@ def segment(words: list[str]) -> int:
         print(f"violation: {violation[:400]}")
     counts = one.check.counts()
     file.write_text(json.dumps(one.counts.of))
-    print(f"{kind}, seed {seed}: {', '.join(f'{what} {count}' for what, count in counts.most_common())}; "
-          f"PostgreSQL went back {len(one.past.losses)} times, {len(one.past.drops)} drops; others: {one.faults.said()}; "
-          f"all continue within {one.longest:.1f} s; {len(violations)} violations", flush=True)  # fmt: skip
+    print(
+        f"{kind}, seed {seed}: {', '.join(f'{what} {count}' for what, count in counts.most_common())}; "
+        f"PostgreSQL went back {len(one.past.losses)} times, {len(one.past.drops)} drops; others: {one.faults.said()}; "
+        f"all continue within {one.longest:.1f} s; {len(violations)} violations",
+        flush=True,
+    )
     if violations or os.environ.get("PAGELOG_TORTURE_KEEPS"):
         print(f"notes and logs are in {folder}")
     else:
@@ -323,17 +415,36 @@ def segment(words: list[str]) -> int:
 def segments(seconds: float, seed: int, only: list[str]) -> int:
     """The kind that has come least often is next."""
     torture_sqlite.build()
-    if subprocess.run(["gcc", "-fsyntax-only", "-xc", "-include", "rocksdb/c.h", os.devnull], stderr=subprocess.DEVNULL).returncode == 0:
+    if (
+        subprocess.run(
+            ["gcc", "-fsyntax-only", "-xc", "-include", "rocksdb/c.h", os.devnull],
+            stderr=subprocess.DEVNULL,
+        ).returncode
+        == 0
+    ):
         pages_program.program()
         os.environ[torture_pages.PAGE_SERVERS] = "1"
     counts, began, worst, number = Counts(), now(), 0, 0
     each = max(20.0, min(120.0, seconds / len(only or KINDS) - 10))
     while now() - began < seconds or number < len(only or KINDS):
-        kind = min(only or KINDS, key=lambda kind: sum(count for key, count in counts.of.items() if key.endswith("/" + kind)))
+        kind = min(
+            only or KINDS,
+            key=lambda kind: sum(
+                count for key, count in counts.of.items() if key.endswith("/" + kind)
+            ),
+        )
         with tempfile.NamedTemporaryFile("w+", suffix=".json") as file:
             file.write(json.dumps(counts.of))
             file.flush()
-            words = [sys.executable, __file__, "segment", kind, str(each), str(seed + number), file.name]
+            words = [
+                sys.executable,
+                __file__,
+                "segment",
+                kind,
+                str(each),
+                str(seed + number),
+                file.name,
+            ]
             worst = max(worst, abs(subprocess.run(in_own_mounts(words)).returncode))
             known, counts = counts, Counts(json.loads(Path(file.name).read_text()))
         if counts.of == known.of:
@@ -341,7 +452,9 @@ def segments(seconds: float, seed: int, only: list[str]) -> int:
             break
         number += 1
     print(counts.table())
-    print(f"administration: {sum(counts.of.values())} subcommands in {number} segments of {each:.0f} s: {'FAILED' if worst else 'no violation'}")
+    print(
+        f"administration: {sum(counts.of.values())} subcommands in {number} segments of {each:.0f} s: {'FAILED' if worst else 'no violation'}"
+    )
     return 1 if worst else 0
 
 
@@ -349,7 +462,13 @@ def in_own_mounts(words: list[str]) -> list[str]:
     """Where small disks can be mounted that end with what is called: for root."""
     unshare = ["unshare", "--mount", "--propagation", "private"]
     with tempfile.TemporaryDirectory() as folder:
-        can = os.getuid() == 0 and subprocess.run([*unshare, "mount", "-t", "tmpfs", "tmpfs", folder], capture_output=True).returncode == 0
+        can = (
+            os.getuid() == 0
+            and subprocess.run(
+                [*unshare, "mount", "-t", "tmpfs", "tmpfs", folder], capture_output=True
+            ).returncode
+            == 0
+        )
     return [*unshare, "env", "PAGELOG_TORTURE_MOUNTS=1", *words] if can else words
 
 
@@ -367,7 +486,9 @@ def main(words: list[str]) -> int:
         os.environ[VARIABLE] = str(Certificates().ca)
     only = [word for word in words if word in KINDS]
     numbers = [word for word in words if word not in (*KINDS, BY_TLS)]
-    return segments(float(numbers[0]) if numbers else 120.0, int(numbers[1]) if len(numbers) > 1 else 1, only)
+    return segments(
+        float(numbers[0]) if numbers else 120.0, int(numbers[1]) if len(numbers) > 1 else 1, only
+    )
 
 
 if __name__ == "__main__":

@@ -63,16 +63,40 @@ class RunnerOf:
         self.socket = folder / "socket"
         self.process: subprocess.Popen[bytes] | None = None
 
-    def begin(self, environment: dict[str, str] | None = None, listener: socket.socket | None = None) -> None:
+    def begin(
+        self, environment: dict[str, str] | None = None, listener: socket.socket | None = None
+    ) -> None:
         """Starts its process, with a socket that was made for it, as systemd does, or with none."""
-        words = [sys.executable, "-m", "pagelog", "runner", "--for", str(self._friend), "--socket", str(self.socket)]
+        words = [
+            sys.executable,
+            "-m",
+            "pagelog",
+            "runner",
+            "--for",
+            str(self._friend),
+            "--socket",
+            str(self.socket),
+        ]
         given = [] if listener is None else [listener.fileno()]
         if given:
-            words = ["sh", "-c", 'LISTEN_FDS=1 LISTEN_PID=$$; export LISTEN_FDS LISTEN_PID; exec "$@" 3<&"$0"', str(*given), *words]
-        self.process = subprocess.Popen(words, stdout=subprocess.DEVNULL, env={**os.environ, "PYTHONPATH": str(SOURCE), **(environment or {})},
-                                        pass_fds=given, **of_user(self._user))  # fmt: skip
+            words = [
+                "sh",
+                "-c",
+                'LISTEN_FDS=1 LISTEN_PID=$$; export LISTEN_FDS LISTEN_PID; exec "$@" 3<&"$0"',
+                str(*given),
+                *words,
+            ]
+        self.process = subprocess.Popen(
+            words,
+            stdout=subprocess.DEVNULL,
+            env={**os.environ, "PYTHONPATH": str(SOURCE), **(environment or {})},
+            pass_fds=given,
+            **of_user(self._user),
+        )
 
-    def start(self, environment: dict[str, str] | None = None, listener: socket.socket | None = None) -> None:
+    def start(
+        self, environment: dict[str, str] | None = None, listener: socket.socket | None = None
+    ) -> None:
         """Begins it, and waits until it answers."""
         self.begin(environment, listener)
         try:
@@ -92,7 +116,12 @@ class RunnerOf:
     def children(self) -> list[int]:
         """The processes that it has started, and that have not ended."""
         assert self.process is not None
-        return [int(each) for each in Path(f"/proc/{self.process.pid}/task/{self.process.pid}/children").read_text().split()]
+        return [
+            int(each)
+            for each in Path(f"/proc/{self.process.pid}/task/{self.process.pid}/children")
+            .read_text()
+            .split()
+        ]
 
     def kill(self) -> None:
         """Its end by force."""

@@ -35,18 +35,29 @@ class Rows:
         self.session = psycopg.connect(self.url, autocommit=True)
         names = [*(f"db{number:03}" for number in range(1, count + 1)), *more]
         report = {
-            name: {"state": "serving", "entries_left": 16_000_000 - at, "memory": 3, "hard": 100 + at}
+            name: {
+                "state": "serving",
+                "entries_left": 16_000_000 - at,
+                "memory": 3,
+                "hard": 100 + at,
+            }
             for at, name in enumerate(names)
             if has_reports
         }
-        self.session.execute("INSERT INTO pagelog_keeper (name, run, lines, beat, report) VALUES ('a', 'life', '127.0.0.1:1', 1, %s)",
-                             (json.dumps(report),))  # fmt: skip
+        self.session.execute(
+            "INSERT INTO pagelog_keeper (name, run, lines, beat, report) VALUES ('a', 'life', '127.0.0.1:1', 1, %s)",
+            (json.dumps(report),),
+        )
         with self.session.cursor() as cursor:
             cursor.executemany(
                 "INSERT INTO pagelog_log (name, format, archived, epoch, generation, next_generation, run, holder, address) "
-                f"VALUES (%s, {FORMAT}, 100, 1, 1, 2, 'run', 'a', '127.0.0.1:2')", [(name,) for name in names])  # fmt: skip
-        self.session.execute("INSERT INTO pagelog_generation (log, generation, run, holder, base, shift) "
-                             "SELECT id, 1, 'run', 'a', 0, 0 FROM pagelog_log")  # fmt: skip
+                f"VALUES (%s, {FORMAT}, 100, 1, 1, 2, 'run', 'a', '127.0.0.1:2')",
+                [(name,) for name in names],
+            )
+        self.session.execute(
+            "INSERT INTO pagelog_generation (log, generation, run, holder, base, shift) "
+            "SELECT id, 1, 'run', 'a', 0, 0 FROM pagelog_log"
+        )
 
     def __enter__(self) -> Rows:
         return self
@@ -65,11 +76,18 @@ class Page:
     def url(self) -> str:
         return f"http://127.0.0.1:{self.port}/"
 
-    def ask(self, path: str, method: str = "GET", body: str | None = None, **headers: str) -> tuple[HTTPResponse, str]:
+    def ask(
+        self, path: str, method: str = "GET", body: str | None = None, **headers: str
+    ) -> tuple[HTTPResponse, str]:
         """A reply and its body."""
         connection = HTTPConnection("127.0.0.1", self.port, timeout=PATIENCE)
         try:
-            connection.request(method, path, body, {name.replace("_", "-"): value for name, value in headers.items()})
+            connection.request(
+                method,
+                path,
+                body,
+                {name.replace("_", "-"): value for name, value in headers.items()},
+            )
             reply = connection.getresponse()
             return reply, reply.read().decode()
         finally:
@@ -106,15 +124,32 @@ def page_of(keeping: Keeping) -> Page:
 class Console(Page):
     """A running `pagelogctl console`, which ends with the `with`."""
 
-    def __init__(self, url: str, *, ttl: float = 600, more: str = "", token: str | None = None) -> None:
+    def __init__(
+        self, url: str, *, ttl: float = 600, more: str = "", token: str | None = None
+    ) -> None:
         self.folder = Path(tempfile.mkdtemp(prefix="pagelog-console-"))
-        file = self._private("credentials.toml", f'[archive]\nurl = "{url}"\n[keeper]\nttl = {ttl}\n{more}')
-        words: list[object] = [sys.executable, "-m", "pagelog", "console", "--listen", "127.0.0.1:0", "--credentials", file]
+        file = self._private(
+            "credentials.toml", f'[archive]\nurl = "{url}"\n[keeper]\nttl = {ttl}\n{more}'
+        )
+        words: list[object] = [
+            sys.executable,
+            "-m",
+            "pagelog",
+            "console",
+            "--listen",
+            "127.0.0.1:0",
+            "--credentials",
+            file,
+        ]
         words += ["--token-file", self._private("token", token + "\n")] if token else []
         self.log = (self.folder / "log").open("w+")
         environment = {**os.environ, "PYTHONPATH": str(SOURCE), "PYTHONDONTWRITEBYTECODE": "1"}
         self.process = subprocess.Popen(
-            list(map(str, words)), stdout=subprocess.PIPE, stderr=self.log, text=True, env=environment
+            list(map(str, words)),
+            stdout=subprocess.PIPE,
+            stderr=self.log,
+            text=True,
+            env=environment,
         )
         assert self.process.stdout is not None
         line = self.process.stdout.readline()
@@ -151,7 +186,9 @@ class Follower:
     """What a browser has that follows: the databases and the events, as the looks brought them."""
 
     def __init__(self, reply: HTTPResponse) -> None:
-        assert reply.status == 200 and reply.getheader("Content-Type") == "text/event-stream", reply.status
+        assert (
+            reply.status == 200 and reply.getheader("Content-Type") == "text/event-stream"
+        ), reply.status
         self._reply = reply
         self.databases: dict[str, Any] = {}
         self.events: list[Any] = []
@@ -178,7 +215,9 @@ class Follower:
         deadline = time.monotonic() + PATIENCE
         look = self.look()
         while not condition():
-            assert time.monotonic() < deadline, f"it did not come: {self.head}, {self.databases}, {self.said()}"
+            assert (
+                time.monotonic() < deadline
+            ), f"it did not come: {self.head}, {self.databases}, {self.said()}"
             look = self.look()
         return look
 

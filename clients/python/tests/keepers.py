@@ -31,6 +31,7 @@ from pagelog.keeper.referee import KeeperError, Referee, digest
 from pagelog.keeper.rows import Batch, Row
 from pagelog.keeper.run import orphans_of
 from pagelog.place import Keepers, Place, UnknownName
+from pagelog.store.settings import StoreSettings
 from postgres import postgres
 from quick_library import build
 from service import PATIENCE, PROGRAM, SOURCE, TABLE, WIDE_TABLE, Port, put, stand_still, token
@@ -56,7 +57,9 @@ def shared_url() -> str:
 
 
 def blocks(first: int, count: int, what: bytes = b"x") -> tuple[bytes, ...]:
-    return tuple(Block.of(lsn, [Put(0, 0, what + b"%d" % lsn)]).data for lsn in range(first, first + count))
+    return tuple(
+        Block.of(lsn, [Put(0, 0, what + b"%d" % lsn)]).data for lsn in range(first, first + count)
+    )
 
 
 def batch_of(row: Row, kept: Kept, run: str, count: int = 3, what: bytes = b"x") -> Batch:
@@ -137,14 +140,25 @@ class Replying(Line):
 
     def __init__(self, severity: str, state: str) -> None:
         super().__init__(stalls=True)
-        fields = b"".join(kind + text.encode() + b"\0" for kind, text in ((b"S", severity), (b"V", severity), (b"C", state), (b"M", "told")))
+        fields = b"".join(
+            kind + text.encode() + b"\0"
+            for kind, text in ((b"S", severity), (b"V", severity), (b"C", state), (b"M", "told"))
+        )
         self.instead = b"E" + (len(fields) + 5).to_bytes(4, "big") + fields + b"\0" + b"Z\0\0\0\5I"
 
 
 class Keeping:
     """Keepers of one referee, as processes, and the clients of their database. All of it ends with the `with`."""
 
-    def __init__(self, *, ttl: float = 1.5, standby: bool = True, audit: int = 1_000_000, url: str | None = None, more: str = "") -> None:
+    def __init__(
+        self,
+        *,
+        ttl: float = 1.5,
+        standby: bool = True,
+        audit: int = 1_000_000,
+        url: str | None = None,
+        more: str = "",
+    ) -> None:
         self.url = url or shared_url()
         self.environment = {**os.environ, "PYTHONPATH": str(SOURCE)}
         self.referee = Referee(self.url)
@@ -152,8 +166,10 @@ class Keeping:
         self.ttl = ttl
         self.file = self.folder / "credentials.toml"
         self.file.touch(mode=0o600)
-        self.file.write_text(f'[archive]\nurl = "{self.url}"\n[keeper]\nttl = {ttl}\nstandby = {"true" if standby else "false"}\n'
-                             f"audit = {audit}\n{more}")  # fmt: skip
+        self.file.write_text(
+            f'[archive]\nurl = "{self.url}"\n[keeper]\nttl = {ttl}\nstandby = {"true" if standby else "false"}\n'
+            f"audit = {audit}\n{more}"
+        )
         self.table = self.folder / "table.toml"
         self.table.write_text(WIDE_TABLE)
         self.keeper: tuple[object, ...] = ("-m", "pagelog")
@@ -169,6 +185,15 @@ class Keeping:
         """More of a keeper's arguments."""
         self.user: dict[str, Any] = {}
         """As whom keepers run, as `Popen` has it."""
+
+    def stores(self, folder: Path, **section: str) -> None:
+        """Its keepers have a store in this folder, with a section [store], and so has its own referee. Before they are started."""
+        url = f"file://{folder}"
+        lines = "".join(f'{key} = "{value}"\n' for key, value in section.items())
+        text = self.file.read_text().replace("[keeper]", f'store = "{url}"\n[keeper]')
+        self.file.write_text(f"{text}[store]\n{lines}")
+        self.referee.close()
+        self.referee = Referee(self.url, store=StoreSettings.of(url, section))
 
     def __enter__(self) -> Keeping:
         return self
@@ -189,14 +214,18 @@ class Keeping:
         for row in self.referee.everything().rows:
             if not row.dropped:
                 self.referee.drop(row.name)
-        self.referee._ask("DELETE FROM pagelog_keeper RETURNING name")  # the next test has keepers of these names in other folders
+        self.referee._ask(
+            "DELETE FROM pagelog_keeper RETURNING name"
+        )  # the next test has keepers of these names in other folders
         self.referee.close()
         if os.environ.get("PAGELOG_TEST_SAYS"):
             print(self.said())
         shutil.rmtree(self.folder, ignore_errors=True)
 
     def said(self) -> str:
-        return "\n".join(f"--- {file.stem}\n{file.read_text()}" for file in sorted(self.folder.glob("*.log")))
+        return "\n".join(
+            f"--- {file.stem}\n{file.read_text()}" for file in sorted(self.folder.glob("*.log"))
+        )
 
     def word(self, *words: object) -> str:
         """What a word of pagelogctl prints."""
@@ -234,13 +263,36 @@ class Keeping:
         for name in names:
             if self.ports[name] == 0:
                 self.held.append(Port())
-                self.ports[name] = self.held[-1].number  # which it has again when it is started again
-            words = [sys.executable, *self.keeper, "keep", "--name", self.names.get(name, name), "--lines", f"127.0.0.1:{self.ports[name]}",
-                     "--serve", self.host, "--folder", self.folder / name, "--program", program,
-                     "--credentials", self.file_of(name), *self.words]  # fmt: skip
+                self.ports[name] = self.held[
+                    -1
+                ].number  # which it has again when it is started again
+            words = [
+                sys.executable,
+                *self.keeper,
+                "keep",
+                "--name",
+                self.names.get(name, name),
+                "--lines",
+                f"127.0.0.1:{self.ports[name]}",
+                "--serve",
+                self.host,
+                "--folder",
+                self.folder / name,
+                "--program",
+                program,
+                "--credentials",
+                self.file_of(name),
+                *self.words,
+            ]
             with (self.folder / f"{name}.log").open("a") as log:
-                self.processes[name] = subprocess.Popen(list(map(str, words)), stdout=subprocess.PIPE, stderr=log, text=True,
-                                                        env=self.environment, **self.user)  # fmt: skip
+                self.processes[name] = subprocess.Popen(
+                    list(map(str, words)),
+                    stdout=subprocess.PIPE,
+                    stderr=log,
+                    text=True,
+                    env=self.environment,
+                    **self.user,
+                )
 
     def lines_of(self, name: str) -> str:
         """Where a keeper says that it listens."""
@@ -276,9 +328,14 @@ class Keeping:
         """The process of the service that has the database now."""
         found: list[int] = []
 
-        def is_noted() -> bool:  # a place may be told of a service that was killed just now, and what is noted of it may be gone
+        def is_noted() -> (
+            bool
+        ):  # a place may be told of a service that was killed just now, and what is noted of it may be gone
             try:
-                found[:] = [json.loads(file.read_text())["pid"] for file in self.folder.glob(f"*/{name}.{self.place(name).run}.json")]
+                found[:] = [
+                    json.loads(file.read_text())["pid"]
+                    for file in self.folder.glob(f"*/{name}.{self.place(name).run}.json")
+                ]
             except FileNotFoundError:
                 return False
             return len(found) == 1
@@ -288,13 +345,17 @@ class Keeping:
 
     def ring(self) -> None:
         """Has all keepers look now, however long their ttl is."""
-        with psycopg.connect(self.url, autocommit=True, target_session_attrs="read-write") as session:
+        with psycopg.connect(
+            self.url, autocommit=True, target_session_attrs="read-write"
+        ) as session:
             session.execute("NOTIFY pagelog_keeper")
 
     @contextmanager
     def line(self, name: str = "a") -> Iterator[Any]:
         """A connection to the lines of a keeper, as text."""
-        with socket.create_connection(("127.0.0.1", self.ports[name]), PATIENCE) as line, line.makefile("rw") as text:
+        with socket.create_connection(
+            ("127.0.0.1", self.ports[name]), PATIENCE
+        ) as line, line.makefile("rw") as text:
             yield text
 
     def metrics(self, keeper: str = "*") -> dict[tuple[str, str], float]:
@@ -303,7 +364,11 @@ class Keeping:
         address = re.findall(r"metrics at (\S+)", file.read_text())[-1]
         with urllib.request.urlopen(f"http://{address}/metrics", timeout=PATIENCE) as reply:
             families = text_string_to_metric_families(reply.read().decode())
-            return {(sample.name, ["", *sample.labels.values()][-1]): sample.value for family in families for sample in family.samples}
+            return {
+                (sample.name, ["", *sample.labels.values()][-1]): sample.value
+                for family in families
+                for sample in family.samples
+            }
 
     def row(self, name: str = "shop") -> Row:
         """What the referee shows of it."""
@@ -319,14 +384,33 @@ class Keeping:
         """How far each keeper's standby is."""
         look = self.referee.everything()
         row = look.row(name)
-        return {} if row is None else {standby.keeper: standby.reached for standby in look.standbys_of(row.id)}
+        return (
+            {}
+            if row is None
+            else {standby.keeper: standby.reached for standby in look.standbys_of(row.id)}
+        )
 
     def primary(self, name: str = "shop", id: int = 2, **options: Any) -> NamedPrimary:
         options = {"patience": PATIENCE, "timeout": PATIENCE, **options}
-        return Primary.named(name, keepers=self.addresses, principal=id, token=token(id), operator=(1, token(1)), **options)
+        return Primary.named(
+            name,
+            keepers=self.addresses,
+            principal=id,
+            token=token(id),
+            operator=(1, token(1)),
+            **options,
+        )
 
     def reader(self, name: str = "shop", **options: Any) -> NamedReader:
-        return Reader.named(name, keepers=self.addresses, principal=3, token=token(3), patience=PATIENCE, timeout=PATIENCE, **options)
+        return Reader.named(
+            name,
+            keepers=self.addresses,
+            principal=3,
+            token=token(3),
+            patience=PATIENCE,
+            timeout=PATIENCE,
+            **options,
+        )
 
     def archive(self, name: str = "shop") -> list[bytes]:
         """All archived blocks; the digest of them has been compared."""
@@ -341,7 +425,11 @@ def services(folder: Path) -> list[int]:
     found = []
     for process in Path("/proc").glob("[0-9]*"):
         try:
-            found += [int(process.name)] if os.readlink(process / "fd" / "2").startswith(f"{folder}/") else []
+            found += (
+                [int(process.name)]
+                if os.readlink(process / "fd" / "2").startswith(f"{folder}/")
+                else []
+            )
         except OSError:
             pass  # it has ended, or is another's
     return found
@@ -375,13 +463,18 @@ class Kept(unittest.TestCase):
     def setUp(self) -> None:
         self.keeping = self.enterContext(Keeping(**self.options))  # type: ignore[arg-type]
         self.addCleanup(self.say_if_failed)
-        self.assertTrue(self.keeping.referee.create("shop", self.keeping.table.read_text(), b"s" * 16))
+        self.assertTrue(
+            self.keeping.referee.create("shop", self.keeping.table.read_text(), b"s" * 16)
+        )
         self.keeping.start(*self.keepers)
 
     def say_if_failed(self) -> None:
         """What the keepers said, where the test has failed. While it is cleaned up its outcome is a success: its result has the failure."""
         result = self._outcome.result  # type: ignore[attr-defined]
-        if any(test is self or getattr(test, "test_case", None) is self for test, _ in result.failures + result.errors):
+        if any(
+            test is self or getattr(test, "test_case", None) is self
+            for test, _ in result.failures + result.errors
+        ):
             print(self.keeping.said())
 
     def texts(self, name: str = "shop") -> list[bytes]:
@@ -400,14 +493,20 @@ class Gate:
         self._table, self._lock = table, lock
         self._session = psycopg.connect(url, autocommit=True)
         self._session.execute(f"SELECT pg_advisory_lock({lock})")
-        self._session.execute(f"CREATE OR REPLACE FUNCTION pagelog_gate_{lock}() RETURNS trigger LANGUAGE plpgsql AS "
-                              f"$$ BEGIN PERFORM pg_advisory_xact_lock_shared({lock}); RETURN NEW; END $$")  # fmt: skip
-        self._session.execute(f"CREATE TRIGGER pagelog_gate BEFORE UPDATE ON {table} FOR EACH ROW WHEN ({when}) "
-                              f"EXECUTE FUNCTION pagelog_gate_{lock}()")  # fmt: skip
+        self._session.execute(
+            f"CREATE OR REPLACE FUNCTION pagelog_gate_{lock}() RETURNS trigger LANGUAGE plpgsql AS "
+            f"$$ BEGIN PERFORM pg_advisory_xact_lock_shared({lock}); RETURN NEW; END $$"
+        )
+        self._session.execute(
+            f"CREATE TRIGGER pagelog_gate BEFORE UPDATE ON {table} FOR EACH ROW WHEN ({when}) "
+            f"EXECUTE FUNCTION pagelog_gate_{lock}()"
+        )
 
     def somebody_waits(self) -> None:
         waits = f"SELECT 1 FROM pg_locks WHERE locktype = 'advisory' AND objid = {self._lock} AND NOT granted"
-        eventually(lambda: self._session.execute(waits).fetchone() is not None, "a statement at the gate")
+        eventually(
+            lambda: self._session.execute(waits).fetchone() is not None, "a statement at the gate"
+        )
 
     def open(self) -> None:
         self._session.execute("SELECT pg_advisory_unlock_all()")
@@ -426,8 +525,12 @@ class Trigger:
 
     def __init__(self, url: str, table: str, when: str, body: str) -> None:
         self._session, self._table = psycopg.connect(url, autocommit=True), table
-        self._session.execute(f"CREATE OR REPLACE FUNCTION pagelog_attack() RETURNS trigger LANGUAGE plpgsql AS $$ BEGIN {body}; RETURN NEW; END $$")
-        self._session.execute(f"CREATE TRIGGER pagelog_attack BEFORE {when} EXECUTE FUNCTION pagelog_attack()")
+        self._session.execute(
+            f"CREATE OR REPLACE FUNCTION pagelog_attack() RETURNS trigger LANGUAGE plpgsql AS $$ BEGIN {body}; RETURN NEW; END $$"
+        )
+        self._session.execute(
+            f"CREATE TRIGGER pagelog_attack BEFORE {when} EXECUTE FUNCTION pagelog_attack()"
+        )
 
     def close(self) -> None:
         if not self._session.closed:
@@ -442,9 +545,15 @@ class Tried(Trigger):
         with psycopg.connect(url, autocommit=True) as boss:
             boss.execute("CREATE SEQUENCE IF NOT EXISTS pagelog_tried")
             boss.execute("ALTER SEQUENCE pagelog_tried RESTART")
-        super().__init__(url, "pagelog_log", "UPDATE ON pagelog_log FOR EACH STATEMENT",
-                         f"IF current_setting('application_name') = '{session}' THEN PERFORM nextval('pagelog_tried'); END IF")  # fmt: skip
+        super().__init__(
+            url,
+            "pagelog_log",
+            "UPDATE ON pagelog_log FOR EACH STATEMENT",
+            f"IF current_setting('application_name') = '{session}' THEN PERFORM nextval('pagelog_tried'); END IF",
+        )
 
     def count(self) -> int:
-        [count] = self._session.execute("SELECT CASE WHEN is_called THEN last_value ELSE 0 END FROM pagelog_tried").fetchone() or [0]
+        [count] = self._session.execute(
+            "SELECT CASE WHEN is_called THEN last_value ELSE 0 END FROM pagelog_tried"
+        ).fetchone() or [0]
         return int(count)

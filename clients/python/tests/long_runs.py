@@ -35,7 +35,16 @@ class LongRun:
 
     def client(self, what: str, who: object, number: float) -> subprocess.Popen[bytes]:
         """Starts one."""
-        words = [sys.executable, "-B", self.file, what, self.keeping.folder, who, ",".join(self.keeping.addresses), number]
+        words = [
+            sys.executable,
+            "-B",
+            self.file,
+            what,
+            self.keeping.folder,
+            who,
+            ",".join(self.keeping.addresses),
+            number,
+        ]
         self.clients.append(subprocess.Popen(list(map(str, words))))
         return self.clients[-1]
 
@@ -53,7 +62,9 @@ class LongRun:
     def faults(self, statuses: Sequence[int]) -> list[str]:
         """What went wrong beside all else: clients that failed, and keepers."""
         found = [f"a client ended with status {status}" for status in statuses if status != 0]
-        return found + [line for line in self.keeping.said().splitlines() if "fault of the keeper" in line]
+        return found + [
+            line for line in self.keeping.said().splitlines() if "fault of the keeper" in line
+        ]
 
     def whole(self) -> int:
         """`run`, whatever becomes of it, and `stop`."""

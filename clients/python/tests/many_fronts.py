@@ -44,15 +44,23 @@ def main(runs: int) -> None:
     with ExitStack() as stack:
         stack.callback(shutil.rmtree, folder)
         stack.callback(end_fronts, folder)
-        listeners = [stack.enter_context(socket.create_server(("127.0.0.1", 0))) for _ in range(runs)]
+        listeners = [
+            stack.enter_context(socket.create_server(("127.0.0.1", 0))) for _ in range(runs)
+        ]
         threading.Thread(target=serve, args=(listeners,), daemon=True).start()
         port = Port()
         stack.callback(port.close)
-        front = Front(Tls(certificates["good"], "127.0.0.1", port.address, certificates.ca, ports=runs), folder, lambda _: None)
+        front = Front(
+            Tls(certificates["good"], "127.0.0.1", port.address, certificates.ca, ports=runs),
+            folder,
+            lambda _: None,
+        )
         began = time.monotonic()
         front.begin()
         assert front.process is not None
-        print(f"{runs} ports, clients with certificates: it answers after {time.monotonic() - began:.2f} s, {front.process.memory >> 20} MiB")
+        print(
+            f"{runs} ports, clients with certificates: it answers after {time.monotonic() - began:.2f} s, {front.process.memory >> 20} MiB"
+        )
         led, heard, identity = [], [], "11111111-1111-4111-8111-111111111111"
         context = certificates.context(certificates.client(identity))
         for number, each in enumerate(listeners):
@@ -63,13 +71,21 @@ def main(runs: int) -> None:
         for number in range(runs):
             host, _, at = str(front.place(f"run{number}")).rpartition(":")
             began = time.monotonic()
-            line = stack.enter_context(context.wrap_socket(socket.create_connection((host, int(at))), server_hostname="localhost"))
+            line = stack.enter_context(
+                context.wrap_socket(
+                    socket.create_connection((host, int(at))), server_hostname="localhost"
+                )
+            )
             assert line.recv(4) == b"here"
             heard.append(time.monotonic() - began)
-        print(f"connect, handshake and a word: {milliseconds(heard)}; {front.process.memory >> 20} MiB with {runs} connections, one a run")
+        print(
+            f"connect, handshake and a word: {milliseconds(heard)}; {front.process.memory >> 20} MiB with {runs} connections, one a run"
+        )
         began = time.monotonic()
         front.tend()
-        print(f"a look at it: {1000 * (time.monotonic() - began):.1f} ms; load {os.getloadavg()[0]:.0f}")
+        print(
+            f"a look at it: {1000 * (time.monotonic() - began):.1f} ms; load {os.getloadavg()[0]:.0f}"
+        )
 
 
 if __name__ == "__main__":

@@ -24,4 +24,6 @@ def program() -> Path:
 
 
 def started(folder: Path, *options: str) -> PagesProcess:
-    return PagesProcess(program(), folder, "127.0.0.1:0", "--cache", "8", "--memtable", "1", *options)
+    return PagesProcess(
+        program(), folder, "127.0.0.1:0", "--cache", "8", "--memtable", "1", *options
+    )

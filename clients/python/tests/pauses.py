@@ -35,7 +35,15 @@ def write(folder: Path, way: str, addresses: list[str], _: float) -> None:
     generation before, which may have waited for the switch; the longer of the two.
     """
     gc.freeze()  # what these tests import, a writer does not
-    primary = Primary.named("shop", keepers=addresses, principal=2, token=token(2), operator=(1, token(1)), patience=PATIENCE, timeout=PATIENCE)
+    primary = Primary.named(
+        "shop",
+        keepers=addresses,
+        principal=2,
+        token=token(2),
+        operator=(1, token(1)),
+        patience=PATIENCE,
+        timeout=PATIENCE,
+    )
     pauses, commits = [], []
     generation, last, before = 0, time.monotonic(), 0.0
     while not (folder / STOP).exists():
@@ -43,7 +51,9 @@ def write(folder: Path, way: str, addresses: list[str], _: float) -> None:
         primary.commit(durable=WAYS[way])
         now = time.monotonic()
         took, reached = now - last, primary.place.generation  # type: ignore[union-attr]
-        (commits if reached == generation else pauses).append(took if reached == generation else max(took, before))
+        (commits if reached == generation else pauses).append(
+            took if reached == generation else max(took, before)
+        )
         last, before, generation = now, took, reached
     (folder / "writer").write_text(json.dumps([commits, pauses[1:]]))
 
@@ -94,8 +104,11 @@ class Pauses(LongRun):
             sys.exit("a client failed")
         commits, pauses = map(sorted, json.loads((folder / "writer").read_text()))
         probed = sorted(json.loads((folder / "probe").read_text()))
-        print(f"{way}: the pause, ms: {percentiles(pauses)}; a commit of PostgreSQL's, ms: {percentiles(probed)}; "
-              f"a commit, ms: {percentiles(commits)}; load {os.getloadavg()[0]:.0f}", flush=True)  # fmt: skip
+        print(
+            f"{way}: the pause, ms: {percentiles(pauses)}; a commit of PostgreSQL's, ms: {percentiles(probed)}; "
+            f"a commit, ms: {percentiles(commits)}; load {os.getloadavg()[0]:.0f}",
+            flush=True,
+        )
 
     def run(self) -> int:
         self.keeping.word("create", "shop", "--table", self.keeping.table)
@@ -105,7 +118,9 @@ class Pauses(LongRun):
             self.measure(way)
         said = self.keeping.said()
         for what in ("closed", "switched"):
-            print(f"{what}, ms: {percentiles(sorted(float(took) / 1000 for took in re.findall(f'{what} in ([0-9.]+) ms', said)))}")
+            print(
+                f"{what}, ms: {percentiles(sorted(float(took) / 1000 for took in re.findall(f'{what} in ([0-9.]+) ms', said)))}"
+            )
         print(re.findall("a base of .*", said)[0])
         return 0
 

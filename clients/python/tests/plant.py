@@ -23,7 +23,12 @@ class Plant(NamedTuple):
         """From the folder of the package."""
         if self.module.startswith("c/"):
             return Path("..", self.module)
-        return Path("src", "pagelog", "keeper", self.module if self.module.endswith((".c", ".h")) else f"{self.module}.py")
+        return Path(
+            "src",
+            "pagelog",
+            "keeper",
+            self.module if self.module.endswith((".c", ".h")) else f"{self.module}.py",
+        )
 
     @property
     def is_of_pages(self) -> bool:
@@ -36,7 +41,13 @@ class Plant(NamedTuple):
         if found != 1:
             return f"its text is in {self.file} {found} times: {self.old!r}"
         is_c = self.part.startswith("c/")
-        tests = folder.parent / "c" / "tests" / f"{self.part[2:]}.py" if is_c else folder / "tests" / f"test_{self.part}.py"
-        if not tests.exists() or not any(self.test in line for line in tests.read_text().splitlines() if "def test_" in line):
+        tests = (
+            folder.parent / "c" / "tests" / f"{self.part[2:]}.py"
+            if is_c
+            else folder / "tests" / f"test_{self.part}.py"
+        )
+        if not tests.exists() or not any(
+            self.test in line for line in tests.read_text().splitlines() if "def test_" in line
+        ):
             return f"there is no test {self.test} in {self.part}"
         return None

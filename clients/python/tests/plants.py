@@ -43,7 +43,7 @@ PLANTS = {
     "grace": Plant("../store/tables", "g.since < now() - make_interval(secs => %(grace)s)\n", "%(grace)s >= 0\n", "store", "spares_what_another"),
     "on its way": Plant("bases", "        return min(position, int(found[0][0])) if found else position\n", "        return position\n", "store",
                         "leaves_what_is_on_its_way"),
-    "end in an object": Plant("bases", "return self._stored_mark(first, last) if self._referee.has_stored(self._log, first) else None", "return None",
+    "end in an object": Plant("bases", "return (\n            self._stored_mark(first, last) if self._referee.has_stored(self._log, first) else None\n        )", "return None",
                               "store", "end_of_a_transaction_is_found"),
     "foreign": Plant("../store/moving", "if said is not None and said.first > now]", "if False]", "store", "does_not_know_is_said"),
     "an older block's store": Plant("fates", "        if isinstance(found, int):\n", "        if False:\n", "buckets", "lives_on_from_the_store"),
@@ -54,7 +54,7 @@ PLANTS = {
     "lost too soon": Plant("fate", " if own.generation >= generation else Fate()", "", "identity", "asked_of_another_run"),
     "turns of another run": Plant("keeping", "is_of_another = database is not None and not self._is_of(database, of)", "is_of_another = False", "identity",
                                   "asked_of_another_run"),
-    "proofs, not compared": Plant("proving", "return Verdict.PROVED if hmac.compare_digest(proof.code.encode(), wanted.encode()) else Verdict.WRONG",
+    "proofs, not compared": Plant("proving", "return (\n            Verdict.PROVED\n            if hmac.compare_digest(proof.code.encode(), wanted.encode())\n            else Verdict.WRONG\n        )",
                                   "return Verdict.PROVED", "proofs", "proves_no_principal"),
     "proofs, by one nonce": Plant("lines", "self.nonce = secrets.token_hex(16)", "self.nonce = \"0\" * 32", "proofs", "proves_no_principal"),
     "proofs, of another database": Plant("proving", "(proof.name, proof.of.database) != (row.name, row.identity)", "proof.name != row.name", "proofs",
@@ -62,7 +62,7 @@ PLANTS = {
     "proofs, by an older table": Plant("proving", "if known is not None and known[0] == number:", "if known is not None:", "proofs",
                                        "no_more_proves_nothing"),
     "proofs, of turns": Plant("keeping", "is_free = word == \"back\" or held is None", "is_free = True", "proofs", "proves_no_principal"),
-    "proofs, of memory": Plant("keeping", " and not database.own.is_full and self._may(line, database):", " and not database.own.is_full:", "proofs",
+    "proofs, of memory": Plant("keeping", "if (\n            database is not None\n            and is_meant\n            and not database.own.is_full\n            and self._may(line, database)\n        ):", "if database is not None and is_meant and not database.own.is_full:", "proofs",
                                "proves_no_principal"),
     "proofs, of questions": Plant("shared", "why = None if database is None else await self.proving.settled_refusal(line, database)", "why = None",
                                   "proofs", "proves_no_principal"),
@@ -71,11 +71,11 @@ PLANTS = {
     "proofs, not read": Plant("proving", "            await asyncio.shield(self.read(database))\n", "            pass\n", "proofs", "no_more_proves_nothing"),
     "proofs, of clients": Plant("../place", "            if of and self._prover is not None:\n", "            if False:\n", "proofs", "never_counted"),
     "sealed, for any database": Plant("sealed", "return f\"pagelog table {identity}\".encode()", "return b\"\"", "sealed", "row_of_another_database"),
-    "sealed, beside plain": Plant("sealed", "return Stored(INSTEAD, b\"\", nonce", "return Stored(text, secret, nonce", "sealed", "dump_has_no_token"),
+    "sealed, beside plain": Plant("sealed", "INSTEAD, b\"\"", "text, secret", "sealed", "dump_has_no_token"),
     "sealed, by the old key": Plant("sealed", "if self._seen != (told.st_mtime_ns, told.st_ino):", "if self._seen is None:", "sealed", "follows_another"),
     "sealed, without a keeper's key": Plant("../desk/seal_words", "        if living := [name for name in without if beats.has_moved(name)]:\n",
                                             "        if living := []:\n", "sealed", "without_the_key"),
-    "sealed, of a copy": Plant("history", "stored = referee.stored(identity, values", "stored = referee.stored(row.identity, values",
+    "sealed, of a copy": Plant("history", "identity, v", "row.identity, v",
                                "sealed", "dump_has_no_token"),
     "roles, who looks": Plant("grants", "SECRETS: Rights(\"SELECT, UPDATE (text, secret, sealed, key)\")",
                               "SECRETS: Rights(\"SELECT, UPDATE (text, secret, sealed, key)\", \"SELECT\")", "grants", "who_looks_sees_no_secret"),
@@ -102,7 +102,7 @@ PLANTS = {
                                "        if False:\n", "named", "all_keepers_are_older"),
     "rings of another run": Plant("keeping", "if database is None or not self._is_of(database, of) or not self._may(line, database):",
                                   "if database is None or not self._may(line, database):", "quick_way", "word_of_memory"),
-    "full of another run": Plant("keeping", "database is not None and self._is_of(database, of) and", "database is not None and", "quick_way",
+    "full of another run": Plant("keeping", "is_meant = (\n            database is not None\n            and self._is_of(database, of)\n            and database.holds\n            and database.own.generation == generation\n        )", "is_meant = database is not None and database.holds and database.own.generation == generation", "quick_way",
                                  "word_of_memory"),
     "quick rings of another run": Plant("quick_way_lines.c", "bool is_of_this = *text == ' ' && strcmp(text + 1, way->of) == 0,",
                                         "bool is_of_this = *text == ' ' && (rings || strcmp(text + 1, way->of) == 0),", "quick_way",
@@ -127,7 +127,7 @@ PLANTS = {
     "SQLite, each commit": Plant("../primary", "            raise found\n        self.overwrite_sqlite = True\n", "            raise found\n", "primary",
                                  "costs_one_get"),
     "SQLite, moved": Plant("../named", "                self._overwrite_sqlite = True\n", "", "group", "nothing_is_written"),
-    "SQLite, restored": Plant("../restoring", "        primary.overwrite_sqlite = True", "        primary.durable += 0", "restore", "of_sqlite"),
+    "SQLite, restored": Plant("../restoring", "primary.overwrite_sqlite = (\n            True  # what it goes on with is the archive's log, as far as that is there\n        )", "primary.durable += 0  # what it goes on with is the archive's log, as far as that is there", "restore", "of_sqlite"),
     "memory of a pull": Plant("served", "            self.is_full |= self._reader.has_lacked_memory\n", "            pass\n", "successions",
                               "keeper_gets_no_memory_itself"),
     "small pulls": Plant("../reader", "                if self._most == 1 or isinstance(error, TimedOut):",
@@ -173,10 +173,10 @@ PLANTS = {
     "orphan": Plant("keeping", "            if fate is Fate.END:\n", "            if False:\n", "standbys", "orphan"),
     "table of a fence": Plant("served", "fence(self._table(Form.READING), KEEPER)", "fence(self._table(Form.OPEN), KEEPER)",
                               "runs", "cannot_be_opened_again"),
-    "table first": Plant("../operator", "(self._request(table), self._request(Failover(to)), self", "(self._request(Failover(to)), self._request(table), self",
+    "table first": Plant("../operator", "self._request(table),\n                self._request(Failover(to)),", "self._request(Failover(to)),\n                self._request(table),",
                          "reader", "failover_comes_between"),
     "given number": Plant("statements", " AND next_generation > %(next)s", "", "bases", "under_the_fence"),
-    "the rest": Plant("archiver", "return await self._batch_of(blocks, recorder) if", "return await self._batch_of((), recorder) if", "runs", "was_not_archived"),
+    "the rest": Plant("archiver", "return (\n            await self._batch_of(blocks, recorder) if served.reached + len(blocks) == end else None\n        )", "return await self._batch_of((), recorder) if served.reached + len(blocks) == end else None", "runs", "was_not_archived"),
     "one disk": Plant("referee", "        if self._requires_standby and rows:", "        if False:", "disks", "until_a_standby_has_it"),
     "one disk, taken": Plant("referee", "        if self._requires_standby and rows:", "        if False:", "disks", "nobody_takes_over"),
     "standby is there": Plant("referee", "            if reached is None:\n", "            if reached is None:\n                return\n"
@@ -204,8 +204,8 @@ PLANTS = {
     "told again, a twin": Plant("referee", "self.register(self._lines, self._beat)", "self.register(self._lines)", "referee", "amid_a_look"),
     "selected, looked up": Plant("referee", '"UPDATE pagelog_log SET archived = archived WHERE id = %s RETURNING archived, chain, generation, run"',
                                  '"SELECT archived, chain, generation, run FROM pagelog_log WHERE id = %s"', "disks", "what_it_has_alone"),
-    "looked up at an old leader": Plant("referee", 'SET archived = archived WHERE id = %s RETURNING archived, chain, generation, run", (log,))',
-                                        'SET archived = archived WHERE id = %s AND run = %s RETURNING archived, chain, generation, run", (log, run))',
+    "looked up at an old leader": Plant("referee", "\"UPDATE pagelog_log SET archived = archived WHERE id = %s RETURNING archived, chain, generation, run\",\n            (log,),",
+                                        "\"UPDATE pagelog_log SET archived = archived WHERE id = %s AND run = %s RETURNING archived, chain, generation, run\",\n            (log, run),",
                                         "disks", "switch_of_which_an_old_leader"),
     "once": Plant("keeping", "        if sentence != self._said and self._repeats", "        if self._repeats", "repeating", "has_returned"),
     "returned, not said": Plant("keeping", "!= self._said and self._repeats.try_to_say(\"the referee\", sentence):\n            self._said = sentence\n",
@@ -222,7 +222,7 @@ PLANTS = {
     "the rest of an earlier life": Plant("keeping", "has_handed_over = not self._may_have and ", "has_handed_over = ", "lives", "before_it_has"),
     "not at rest": Plant("database", "return self.served is None and not is_mine and", "return self.served is None and", "lives",
                                 "before_it_has"),
-    "adopted before the end": Plant("machine", "row.holder == facts.me:  # also", "row.holder == facts.me and not facts.ending:  # also",
+    "adopted before the end": Plant("machine", "row.run is not None and row.holder == facts.me\n", "row.run is not None and row.holder == facts.me and not facts.ending\n",
                                     "lives", "before_it_has"),
     "folder": Plant("folder", "            fcntl.flock(self._descriptor, fcntl.LOCK_EX | fcntl.LOCK_NB)\n", "            pass\n", "lives",
                     "its_folder"),
@@ -236,9 +236,9 @@ PLANTS = {
     "noted late, by a keeper": Plant("run", "            made._note()\n            _give(child, table)\n",
                                      "            _give(child, table)\n            made._note()\n", "lives", "could_not_note"),
     "not listening": Plant("run", "(facts.run in wanted and facts.address is not None):", "facts.run in wanted:", "runs", "was_killed_while"),
-    "ended session": Plant("refusal", "not is_ended and ", "", "referee", "ends_a_session"),
+    "ended session": Plant("refusal", "return (\n        error.sqlstate is not None\n        and not is_ended\n        and not error.sqlstate.startswith((\"57P\", \"08\", \"40003\"))\n    )", "return error.sqlstate is not None and not error.sqlstate.startswith((\"57P\", \"08\", \"40003\"))", "referee", "ends_a_session"),
     "unknown completion": Plant("refusal", ', "40003"', "", "referee", "ends_a_session"),
-    "quick way, wait": Plant("quick_way", ' if position else b""\n', ' if False else b""\n', "quick_way", "not_there_is_said"),
+    "quick way, wait": Plant("quick_way", "f\"durable {self._name} {self._generation} {position}{of}\\n\".encode()\n            if position\n            else b\"\"", "f\"durable {self._name} {self._generation} {position}{of}\\n\".encode() if False else b\"\"", "quick_way", "not_there_is_said"),
     "quick way, turn": Plant("archiver", "                self._wanted()\n", "                pass\n", "quick_way", "is_wanted_waits"),
     "quick way, early turn": Plant("archiver", "        if self.turn.is_wanted:\n            way.stop()\n", "", "quick_way", "as_it_begins"),
     "quick way, not lent": Plant("archiver", "        if len(self._waits):\n            self._end_way()", "        pass", "quick_way", "cannot_be_lent"),
@@ -279,9 +279,9 @@ PLANTS = {
     "late state": Plant("looker", "            if not is_whole:\n", "            if False:\n", "looks", "late_answer"),
     "look in a thread": Plant("work", "            if not await served.looked_at_once():\n                await", "            await", "looks",
                               "hold_up_no_other"),
-    "many pulls": Plant("puller", "len(reply.blocks) == PULL_MAX or ", "", "quick", "few_blocks"),
+    "many pulls": Plant("puller", "if (\n            not isinstance(reply, Blocks)\n            or len(reply.blocks) == PULL_MAX\n            or mismatch(act, epoch, reply) is not None\n        ):", "if not isinstance(reply, Blocks) or mismatch(act, epoch, reply) is not None:", "quick", "few_blocks"),
     "beginning of a list": Plant("../trail/store", "                for text, line in texts:\n", "                for text, line in ():\n", "kept_trails", "each_generation"),
-    "list of a release": Plant("recorder", "while self._served.is_after_release and ", "while False and ", "kept_trails", "who_takes_over"),
+    "list of a release": Plant("recorder", "while (\n            self._served.is_after_release\n            and time.monotonic() < ends\n            and await self._call(self._is_open)\n        ):", "while False and time.monotonic() < ends and await self._call(self._is_open):", "kept_trails", "who_takes_over"),
     "zombie's list": Plant("../trail/keeper", "last.generation > self.generation or ", "", "trail", "another_generation"),
     "another run's list": Plant("../trail/keeper", " or self._is_anothers(last)", "", "kept_trails", "run_of_the_number"),
     "older keeper's list": Plant("../trail/keeper", "                    one = self.trail.claim(one, self.of)\n", "                    pass\n", "kept_trails",
@@ -290,10 +290,10 @@ PLANTS = {
     "row of another list": Plant("../trail/statements", "id = %(list)s AND COALESCE(of_run, '') = %(of)s", "id = %(list)s AND %(of)s <> '?'",
                                  "kept_trails", "no_list_of_another"),
     "lines of another run": Plant("statements", " AND t.of_run = v.of_run", "", "kept_trails", "no_list_of_another"),
-    "trails, by a step": Plant("schema", "_IDENTITY, _TRAILS,", "_IDENTITY, (),", "kept_trails",
+    "trails, by a step": Plant("schema", "_TRAILS,", "(),", "kept_trails",
                                "list_of_an_older"),
     "saved, of another name": Plant("rescuing", "served.database if of.ancestor is None else of.ancestor", "None", "lives", "opens_under"),
-    "rival of before": Plant("database", " or self._rose <= self.served.back_since:", ":", "identity", "a_writer_whose_run_continues"),
+    "rival of before": Plant("database", "if (\n            self.served is None\n            or self.served.back_since is None\n            or self._rose <= self.served.back_since\n        ):", "if self.served is None or self.served.back_since is None:", "identity", "a_writer_whose_run_continues"),
     "unknown, not told": Plant("../place", "if is_unknown and (self._own is None or is_told):", "if is_unknown:", "named", "who_had_a_database"),
     "another run's writer": Plant("../named", "self.place is not None and place.run != self.place.run or self.keepers", "self.keepers", "identity",
                                   "test_a_writer_is_told_nothing_of_another_run_whose"),
@@ -324,7 +324,7 @@ PLANTS = {
     "acknowledged, not noted": Plant("served", "            self.acknowledged.note(position)  # before it is acknowledged\n", "            pass\n", "lives",
                                      "since_the_last_look"),
     "acknowledged by the thread": Plant("quick_way_referee.c", "        *way->start.noted = way->reached;\n", "", "quick_way", "acknowledged_is_known"),
-    "acknowledged, not asked": Plant("run", "return seen if acknowledged is None else", "return seen if True else", "runs", "was_acknowledged_is_known"),
+    "acknowledged, not asked": Plant("run", "return (\n            seen\n            if acknowledged is None\n            else replace(seen, archived=max(seen.archived, acknowledged.position))\n        )", "return seen if True else replace(seen, archived=max(seen.archived, acknowledged.position))", "runs", "was_acknowledged_is_known"),
     "dropped, and made again": Plant("orphans", "found.was_dropped and found.seen.generation == 0 and", "found.was_dropped and", "machine",
                                     "had_a_generation"),
     "set aside, not said": Plant("keeping", "            self._shared.asides.begin()\n", "", "lives", "set_aside_is_shown"),
@@ -337,8 +337,7 @@ PLANTS = {
                           "fits_into_a_block"),
     "group, lost": Plant("../group", "isinstance(error, Lost) and each.position >= error.position", "False", "group", "as_the_service_died"),
     "group, in the log": Plant("../group", "                error = self._waited(each) or error", "                each.settle(error)", "group", "the_rest_is_lost"),
-    "group, fenced": Plant("../named", "        if self._ended is not None:\n            raise self._ended\n        return self._pack(commits)",
-                           "        return self._pack(commits)", "group", "fenced_as_it_begins"),
+    "group, fenced": Plant("../named", "        if self._ended is not None:\n            raise self._ended\n\n    def _is_behind_another", "\n    def _is_behind_another", "group", "fenced_as_it_begins"),
     "group, goes on": Plant("../group", "        if self._ended is not None:\n", "        if False:\n", "group", "interrupted"),
     "group, interrupted": Plant("../group", "            if not each.is_settled:\n", "            if False:\n", "group", "interrupted"),
     "stuck": Plant("beginning", "return self._stuck_for >= self._shared.settings.ttl", "return False", "beginnings", "refused_what_fills_it"),
@@ -348,22 +347,22 @@ PLANTS = {
     "few questions": Plant("fates", "_AT_ONCE, _MOST = 4, 10_000", "_AT_ONCE, _MOST = 10_000, 10_000", "meanwhile", "few_of_their"),
     "few positions": Plant("waits", "if len(waits) >= _MOST:", "if False:", "meanwhile", "no_more_than"),
     "no name": Plant("keeping", "if NAME.fullmatch(name) is None:", "if False:", "keepers", "words_that_no"),
-    "group, left meanwhile": Plant("../group", "self._leader is not None and not self._leader.under", "not self._leader.under", "group", "has_left"),
-    "group, left twice": Plant("../group", "not self._leader.under_way.locked():", "False:", "named", "middle_of_what"),
+    "group, left meanwhile": Plant("../group", "if (\n                    not self._changed.wait(_GONE)\n                    and self._leader is not None\n                    and not self._leader.under_way.locked()\n                ):", "if not self._changed.wait(_GONE) and not self._leader.under_way.locked():", "group", "has_left"),
+    "group, left twice": Plant("../group", "if (\n                    not self._changed.wait(_GONE)\n                    and self._leader is not None\n                    and not self._leader.under_way.locked()\n                ):", "if not self._changed.wait(_GONE) and self._leader is not None and False:", "named", "middle_of_what"),
     "most of the archive": Plant("../place", "(place.generation, place.archived))", "place.generation)", "named", "who_knows_most"),
-    "awaited": Plant("keeping", "return min(usual, _SOON) if", "return usual if", "standbys", "no_usual_look"),
+    "awaited": Plant("keeping", "return (\n            min(usual, _SOON) if any(each.is_awaited for each in self.databases.values()) else usual\n        )", "return usual if any(each.is_awaited for each in self.databases.values()) else usual", "standbys", "no_usual_look"),
     "awaited by its standby": Plant("database", "return self.served.kind is Kind.STANDBY and row.wanted in (self.shared.settings.name, \"*\")",
                                     "return False", "standbys", "no_usual_look"),
     "awaited by its holder": Plant("database", "            return any(row.wanted in (standby.keeper, \"*\") for standby in self._others)",
                                    "            return False", "standbys", "no_usual_look"),
     "another thread": Plant("referee", "rows = self._ask(statements.PIECE,", "rows = self._ask_bounded(statements.PIECE,", "attacks", "without_another_thread"),
-    "beside": Plant("committer", "self._beside is None or is_there", "True", "attacks", "no_connection_that_is_made"),
-    "beside, large": Plant("committer", " or sum(len(block) for batch in batches for block in batch.blocks) > SMALL:", ":", "attacks",
+    "beside": Plant("committer", "if (\n            self._beside is None\n            or is_there\n            or sum(len(block) for batch in batches for block in batch.blocks) > SMALL\n        ):", "if True or sum(len(block) for batch in batches for block in batch.blocks) > SMALL:", "attacks", "no_connection_that_is_made"),
+    "beside, large": Plant("committer", "if (\n            self._beside is None\n            or is_there\n            or sum(len(block) for batch in batches for block in batch.blocks) > SMALL\n        ):", "if self._beside is None or is_there:", "attacks",
                            "no_connection_that_is_made"),
     "superseded": Plant("../named_reader", "        self._leave_superseded()\n", "", "readers", "goes_on_reading_moves"),
     "superseded, idle": Plant("../polling", "            if known < now - _IDLE:\n", "            if False:\n", "readers", "has_not_read"),
-    "superseded, stood still": Plant("../polling", "now - self._read >= _IDLE:  #", "self._thread is None:  #", "readers", "stood_still"),
-    "superseded, late": Plant("../polling", "is_wanted = Backoff(2 * EACH, SLOWEST), True", "is_wanted = Backoff(2 * EACH, SLOWEST), self._is_wanted(-1.0, 0.0)",
+    "superseded, stood still": Plant("../polling", "if (\n                now - self._read >= _IDLE\n            )", "if self._thread is None", "readers", "stood_still"),
+    "superseded, late": Plant("../polling", "silence, is_wanted = (\n            Backoff(2 * EACH, SLOWEST),\n            True,", "silence, is_wanted = Backoff(2 * EACH, SLOWEST), self._is_wanted(\n            -1.0, 0.0",
                               "readers", "late_to_its_first"),
     "answers, slow": Plant("../place", "min(2 * seconds, _SLOWEST_ANSWER)", "seconds", "named", "always_takes_longer"),
     "answers, late": Plant("../place", "if not self._poll.poll(", "if time.monotonic() > deadline or not self._poll.poll(", "named", "while_this_process"),
@@ -393,7 +392,7 @@ PLANTS = {
     "own folder": Plant("keeping", "over = self._folder.lives if self._folder.take() else ()", "over = ()", "lives", "its_services_at_once"),
     "disowned": Plant("keeping", "            self._is_disowned = await self._is_of_another_folder()\n", "", "lives", "services_of_the_first_end"),
     "refused, orphans": Plant("keeping", "            await self._end_what_holds_nothing()\n", "", "lives", "services_of_the_first_end"),
-    "no text": Plant("referee", "made.pgconn.notify_handler = self._take_notification", "made.add_notify_handler(self._take_notification)",
+    "no text": Plant("referee", "made.pgconn.notify_handler = (", "made.add_notify_handler(",
                      "strangers", "no_text_is_heard"),
     "next, twice": Plant("places", "            self._give_up(before)\n", "            pass\n", "strangers", "one_next_of_a_name"),
     "where, many": Plant("keeping", " or not self._moving.acquire(line):", ":", "strangers", "few_wheres"),
@@ -408,9 +407,9 @@ PLANTS = {
     "unexpected, the statement": Plant("referee", "fetchall()\n        except Exception as error:\n            raise self._meaning(error) from error",
                                        "fetchall()\n        except psycopg.Error as error:\n            raise self._meaning(error) from error",
                                        "many", "in_doubt_and_the_next"),
-    "unexpected, the connection": Plant("referee", "except Exception as error:  # also what nobody expected", "except psycopg.Error as error:  #",
+    "unexpected, the connection": Plant("referee", "except (\n                Exception\n            ) as error:  # also what nobody expected: a half-made connection is of no use", "except psycopg.Error as error:  #: a half-made connection is of no use",
                                         "many", "cannot_be_made"),
-    "unexpected, the committer": Plant("committer", "            except Exception as error:  # also what", "            except KeeperError as error:  #",
+    "unexpected, the committer": Plant("committer", "Exception\n            ) as error:  # also what nobody expected: it ends the connection, and nothing else", "KeeperError\n            ) as error:  # nobody expected: it ends the connection, and nothing else",
                                        "many", "nobody_can_make"),
     "refused, at once": Plant("archiver", "            self._refused, self._is_asked = (batch.old, batch.blocks), False\n            self._pause()",
                               "            self.ring()", "disks", "stays_full"),
@@ -455,7 +454,7 @@ PLANTS = {
                                  "run_that_continues"),
     "any table is switched to": Plant("statements", "    AND table_number <= %(table_number)s\n  RETURNING id, generation),\nnoted",
                                       "  RETURNING id, generation),\nnoted", "changes", "switch_which_is_given_up"),
-    "switched to for ever": Plant("switch", " and has_newest_table(referee, switch) else False", " else False", "changes", "switch_which_is_given_up"),
+    "switched to for ever": Plant("switch", "return (\n        None\n        if kept is not None and kept.archived == switch.old and has_newest_table(referee, switch)\n        else False\n    )", "return None if kept is not None and kept.archived == switch.old else False", "changes", "switch_which_is_given_up"),
     "a table upon another": Plant("statements", " AND table_number = %(seen)s AND NOT dropped", " AND NOT dropped", "changes", "knows_the_newest_one"),
     "a table of another database": Plant("statements", "WHERE id = %(id)s AND identity = %(identity)s::uuid AND table_number = %(seen)s",
                                          "WHERE id = %(id)s AND table_number = %(seen)s", "changes", "knows_the_newest_one"),
@@ -466,16 +465,16 @@ PLANTS = {
     "changed, believed": Plant("../desk/table_changes", " and self._referee.newest_table(row.id) == (row.table_number, row.run):", ":", "changes",
                                "old_leader"),
     "changed, paused": Plant("machine", "    if row.paused and not has_old_table:", "    if row.paused:", "changes", "while_it_is_paused"),
-    "changed, given up": Plant("standing", "if database.row.paused and not is_asked_for and", "if database.row.paused and", "changes", "while_it_is_paused"),
-    "changed, a standby": Plant("machine", "(row.run_table >= row.table_number or facts.still >= wait):", "False:", "machine", "table_that_was_changed"),
+    "changed, given up": Plant("standing", "if (\n            database.row.paused\n            and not is_asked_for\n            and database.succession.stage in (Stage.MAKING, Stage.READY)\n        ):", "if database.row.paused and database.succession.stage in (Stage.MAKING, Stage.READY):", "changes", "while_it_is_paused"),
+    "changed, a standby": Plant("machine", "if (\n        facts.own is not None\n        and facts.own.has_old_table(row)\n        and (row.run_table >= row.table_number or facts.still >= wait)\n    ):", "if facts.own is not None and facts.own.has_old_table(row) and False:", "machine", "table_that_was_changed"),
     "changed, adopted": Plant("beginning", "        served.generation, served.table_number = row.generation, row.run_table\n",
                               "        served.generation = row.generation\n", "changes", "killed_at_each_statement"),
     "changed, being ended": Plant("keeping", "            if each.leaving:\n", "            if False:\n", "changes", "is_about_to_end"),
-    "changed, a stalled holder": Plant("../desk/table_changes", "(is_late or not self._beats.may_be_alive(row.holder)):", "is_late:", "changes",
+    "changed, a stalled holder": Plant("../desk/table_changes", "if (\n                    row.run is not None\n                    and row.run in self._held\n                    and (is_late or not self._beats.may_be_alive(row.holder))\n                ):", "if row.run is not None and row.run in self._held and is_late:", "changes",
                                        "paused_and_stands_still"),
-    "changed, for ever": Plant("../desk/table_changes", "(is_late or not self._beats.may_be_alive(row.holder)):", "not self._beats.may_be_alive(row.holder):",
+    "changed, for ever": Plant("../desk/table_changes", "and (is_late or not self._beats.may_be_alive(row.holder))", "and not self._beats.may_be_alive(row.holder)",
                                "changes", "nobody_makes_in_time"),
-    "changed, an unreported run": Plant("../desk/table_changes", " or not self._was_reported_since(look, each)}", "}", "changes", "took_it_just_now"),
+    "changed, an unreported run": Plant("../desk/table_changes", "found = {\n            run: each\n            for run, each in self._held.items()\n            if run == row.run or not self._was_reported_since(look, each)\n        }", "found = {run: each for run, each in self._held.items() if run == row.run}", "changes", "took_it_just_now"),
     "changed, a keeper that ended": Plant("keeping", "            await self._say_what_is_left()\n", "", "changes", "that_has_ended_is_not_named"),
     "changed, older keepers": Plant("../desk/table_changes", "        self._refuse_older_keepers()\n", "", "changes", "while_an_older_keeper_lives"),
     "changed, faulty": Plant("../desk/table_changes", "        check(text)\n", "", "changes", "faulty_one_never"),
@@ -497,8 +496,7 @@ PLANTS = {
     "front, renewed by hope": Plant("haproxy", "        if \"Success!\" not in answers[1]:", "        if False:", "fronts", "front_refuses_is_tried"),
     "front, a key of another": Plant("certificate", "            context_of(pem)  # whether the key is that of the certificate\n", "", "fronts", "cannot_be_used"),
     "front, nothing in force": Plant("certificate", "        self._seen = seen\n", "        self._seen, self.now = seen, None\n", "fronts", "cannot_be_used"),
-    "front, other ports": Plant("front", "        return [*(led.port for led in self._led.values() if led.port), *self._free, "
-                                "*(noted if isinstance(self.tls.ports, int) else ())]\n", "        return []\n", "fronts", "killed_comes_back"),
+    "front, other ports": Plant("front", "return [\n            *(led.port for led in self._led.values() if led.port),\n            *self._free,\n            *(noted if isinstance(self.tls.ports, int) else ()),\n        ]", "return []", "fronts", "killed_comes_back"),
     "front, a taken port": Plant("front", "            if led.port not in ports:\n", "            if False:\n", "fronts", "another_program_has"),
     "front, of another form": Plant("front", "(noted[\"run\"], noted[\"form\"]) != (left.name, self.tls.form)", "noted[\"run\"] != left.name", "fronts",
                                     "to_be_otherwise"),
@@ -513,7 +511,7 @@ PLANTS = {
     "front, older TLS": Plant("haproxy", "ssl-min-ver TLSv1.3", "ssl-min-ver TLSv1.2", "fronts", "less_than_tls_1_3"),
     "front, open to all": Plant("unix", "        (folder / name).chmod(mode)  # before it listens\n", "        (folder / name).chmod(0o666)\n", "fronts",
                                 "nobody_else_may_connect"),
-    "front, too many": Plant("haproxy", "(limit - len(ports) - _SPARE) // 2)", "limit)", "fronts", "as_descriptors_allow"),
+    "front, too many": Plant("haproxy", "most = max(\n            8, (limit - len(ports) - _SPARE) // 2\n        )  # a connection has two descriptors; it raises no limit", "most = max(8, limit)  # a connection has two descriptors; it raises no limit", "fronts", "as_descriptors_allow"),
     "front, a key that others read": Plant("certificate", " & 0o007:", " & 0:", "fronts", "others_may_read"),
     "front, taken for a service": Plant("run", "        if not file.name.startswith(FRONT) and (found", "        if (found", "fronts", "knows_of_no_fronts"),
     "front, unreached": Plant("machine", "    if own.unreached >= facts.ttl and not row.paused:", "    if False:", "machine", "no_client_reaches"),
@@ -538,7 +536,7 @@ PLANTS = {
     "TLS, a front is left": Plant("front_care", "self.front.leave if is_needed else self.front.end", "self.front.leave", "secured", "each_kind_of_client"),
     "TLS, taken in vain": Plant("machine", "    if decision.action is Action.TAKE and facts.is_unreached:\n", "    if False:\n", "machine", "no_client_reaches"),
     "ways, none to the only": Plant("ways", "way.address != NOWHERE and ", "", "secured", "way_is_of_one_run"),
-    "TLS, a cookie in the clear": Plant("../console/web", ", secure=self._is_secure)", ")", "secured", "both_show_the_newest"),
+    "TLS, a cookie in the clear": Plant("../console/web", "COOKIE,\n            self.door.cookie(),\n            max_age=LASTS,\n            httponly=True,\n            samesite=\"Strict\",\n            secure=self._is_secure,", "COOKIE, self.door.cookie(), max_age=LASTS, httponly=True, samesite=\"Strict\"", "secured", "both_show_the_newest"),
     "TLS, the first certificate": Plant("certificate", "            if self._file.changed() and", "            if False and", "secured", "both_show_the_newest"),
     "PostgreSQL, less than verify-full": Plant("hosts", "os.environ.get(\"PGSSLMODE\")) == \"verify-full\"", "os.environ.get(\"PGSSLMODE\")) is not None", "secured",
                                                "less_than_verify_full"),
@@ -559,7 +557,7 @@ PLANTS = {
     "TLS, broken files": Plant("../secure", "                    pass  # as where", "                    raise  # as where", "trust", "files_that_change"),
     "TLS, long records": Plant("../secure", "self._received(max(buflen, _RECORD))", "self._received(buflen)", "trust", "database_by_tls"),
     "TLS, polls": Plant("../polling", "place.database, trust and trust.files)", "place.database)", "trust", "who_believes"),
-    "TLS, services": Plant("../following", "trust=self._trust)", "trust=None)", "trust", "no_answer"),
+    "TLS, services": Plant("../following", "place.address, timeout=self._timeout, attempts=attempts, pause=AGAIN, trust=self._trust\n", "place.address, timeout=self._timeout, attempts=attempts, pause=AGAIN, trust=None\n", "trust", "no_answer"),
     "TLS, lines": Plant("../place", "return _Line(address, self._trust)", "return _Line(address, None)", "trust", "no_answer"),
     "TLS, accounts": Plant("../client", "trust=account.trust", "trust=None", "trust", "words_of_files"),
     "TLS, why": Plant("../place", '        if isinstance(error, (ConnectionRefusedError, SecurityError)):\n', "        if isinstance(error, ConnectionRefusedError):\n", "trust", "no_answer"),
@@ -569,7 +567,9 @@ PLANTS = {
 }  # fmt: skip
 for beside in sorted(Path(__file__).parent.glob("plants_*.py")):
     more: dict[str, Plant] = importlib.import_module(beside.stem).PLANTS
-    assert not PLANTS.keys() & more.keys(), f"{beside.name} has names that are there: {PLANTS.keys() & more.keys()}"
+    assert (
+        not PLANTS.keys() & more.keys()
+    ), f"{beside.name} has names that are there: {PLANTS.keys() & more.keys()}"
     PLANTS.update(more)
 
 
@@ -578,15 +578,23 @@ def failure(plant: Plant) -> str | None:
     with tempfile.TemporaryDirectory(prefix="pagelog-plants-") as folder:
         Path(folder).chmod(0o711)  # services run as another user
         copy = Path(folder) / "clients" / "python"
-        shutil.copytree(PYTHON, copy, ignore=shutil.ignore_patterns("__pycache__", ".mypy_cache", "bytecode"))
+        shutil.copytree(
+            PYTHON, copy, ignore=shutil.ignore_patterns("__pycache__", ".mypy_cache", "bytecode")
+        )
         if plant.module.startswith("c/"):
-            shutil.copytree(PYTHON.parent / "c", copy.parent / "c", ignore=shutil.ignore_patterns("out", "*.so"))
+            shutil.copytree(
+                PYTHON.parent / "c", copy.parent / "c", ignore=shutil.ignore_patterns("out", "*.so")
+            )
         else:
             (copy.parent / "c").symlink_to(PYTHON.parent / "c")  # for SQLite
-        shutil.copytree(PYTHON.parent / "pages", copy.parent / "pages")  # with what was built: another build is of an edit
+        shutil.copytree(
+            PYTHON.parent / "pages", copy.parent / "pages"
+        )  # with what was built: another build is of an edit
         (Path(folder) / "docs").symlink_to(PYTHON.parent.parent / "docs")  # whose commands are run
         (Path(folder) / "scripts").symlink_to(PYTHON.parent.parent / "scripts")  # for peers of TLS
-        (copy.parent.parent / ".git").symlink_to(PYTHON.parent.parent / ".git")  # which has the clients of 0.1.0
+        (copy.parent.parent / ".git").symlink_to(
+            PYTHON.parent.parent / ".git"
+        )  # which has the clients of 0.1.0
         tables = Path(folder) / "crates" / "pagelog" / "data"
         tables.mkdir(parents=True)
         shutil.copy(PYTHON.parent.parent / "crates" / "pagelog" / "data" / "t0.toml", tables)
@@ -596,20 +604,41 @@ def failure(plant: Plant) -> str | None:
         file.write_text(file.read_text().replace(plant.old, plant.new))
         if plant.is_of_pages:  # which does not compile is no plant
             subprocess.run(["make", "-s", "-C", str(copy.parent / "pages"), "checked"], check=True)
-        if plant.module.startswith("c/") and not plant.part.startswith("c/"):  # before the test's time begins
-            subprocess.run(["make", "-s", "-C", str(copy.parent / "c"), "CFLAGS=-O0", "pagelog_vfs.so"], check=True)
+        if plant.module.startswith("c/") and not plant.part.startswith(
+            "c/"
+        ):  # before the test's time begins
+            subprocess.run(
+                ["make", "-s", "-C", str(copy.parent / "c"), "CFLAGS=-O0", "pagelog_vfs.so"],
+                check=True,
+            )
         words = [str(copy / "test"), plant.part, plant.test]
         environment = {**os.environ, "PAGELOG_TEST_PATIENCE": "40"}
         if plant.part.startswith("c/"):
             library = copy.parent / "c" / "out" / "whole" / "pagelog_vfs.so"
-            subprocess.run(["make", "-s", "-C", str(copy.parent / "c"), "out/whole/pagelog_vfs.so"], check=True)
+            subprocess.run(
+                ["make", "-s", "-C", str(copy.parent / "c"), "out/whole/pagelog_vfs.so"], check=True
+            )
             environment |= {"PAGELOG_EXTENSION": str(library), "PAGELOG_LIBRARY": str(library)}
             part = copy.parent / "c" / "tests" / f"{plant.part[2:]}.py"
-            words = [sys.executable, "-B", str(part), *re.findall(rf"def (test_\w*{plant.test}\w*)", part.read_text())]
-        done = subprocess.run(words, stdout=subprocess.PIPE, stderr=subprocess.STDOUT, text=True, env=environment)
+            words = [
+                sys.executable,
+                "-B",
+                str(part),
+                *re.findall(rf"def (test_\w*{plant.test}\w*)", part.read_text()),
+            ]
+        done = subprocess.run(
+            words, stdout=subprocess.PIPE, stderr=subprocess.STDOUT, text=True, env=environment
+        )
         if "clients/python: 0 passed, 0 failed" in done.stdout:
             raise AssertionError(f"there is no test {plant.test} in {plant.part}")
-        errors = [line.strip() for line in done.stdout.splitlines() if re.match(r"\w+: test_\w+ failed: |\s*([\w.]+(Error|Exception|Base|Lost|Doubt|TimedOut|Archive|Away|Object|History)\b|pagelog\.rules\.)", line)]
+        errors = [
+            line.strip()
+            for line in done.stdout.splitlines()
+            if re.match(
+                r"\w+: test_\w+ failed: |\s*([\w.]+(Error|Exception|Base|Lost|Doubt|TimedOut|Archive|Away|Object|History)\b|pagelog\.rules\.)",
+                line,
+            )
+        ]
         return None if done.returncode == 0 else (errors or ["it did not come to its end"])[-1]
 
 
@@ -628,7 +657,10 @@ def main(names: list[str]) -> int:
     missed = 0
     for name in names or PLANTS:
         why = failure(PLANTS[name])
-        print(f"{name}: {'seen by' if why else 'NOT SEEN by'} {PLANTS[name].part} {PLANTS[name].test}: {why}", flush=True)
+        print(
+            f"{name}: {'seen by' if why else 'NOT SEEN by'} {PLANTS[name].part} {PLANTS[name].test}: {why}",
+            flush=True,
+        )
         missed += why is None
     print(f"plants: {len(names or PLANTS) - missed} seen, {missed} not seen")
     return 1 if missed else 0

@@ -2,7 +2,7 @@
 
 from plant import Plant
 
-_SQLITE, _POSTGRES, _URL = "../archive_sqlite", "../archive_postgres", "../archive_url"
+_SQLITE, _POSTGRES, _URL = "../archive/sqlite", "../archive/postgres", "../archive/url"
 PLANTS = {
     "driver, no transaction": Plant(_POSTGRES, '            session.change("BEGIN")\n', "", "engine", "what_fails_leaves_nothing"),
     "driver, no transaction in a file": Plant(_SQLITE, '            session.change("BEGIN IMMEDIATE")\n            yield session\n            session.change("COMMIT")\n',
@@ -11,7 +11,7 @@ PLANTS = {
     "driver, a lock that comes late": Plant(_SQLITE, '"BEGIN IMMEDIATE"', '"BEGIN"', "engine", "had_from_the_beginning"),
     "driver, a lock that is not waited for": Plant(_SQLITE, "timeout=BUSY_SECONDS", "timeout=0", "engine", "on_the_disk"),
     "driver, not on the disk": Plant(_SQLITE, "synchronous=FULL", "synchronous=NORMAL", "engine", "on_the_disk"),
-    "driver, the moved end": Plant("../archive_tables", "\nWHERE id = %(log)s AND archived = %(before)s\n", "\nWHERE id = %(log)s AND %(before)s >= 0\n",
+    "driver, the moved end": Plant("../archive/tables", "\nWHERE id = %(log)s AND archived = %(before)s\n", "\nWHERE id = %(log)s AND %(before)s >= 0\n",
                                    "engine", "waits_for_another"),
     "driver, the moved list": Plant("../trail/statements", " AND kept = %(before)s AND ended IS NULL\n", " AND %(before)s >= 0 AND ended IS NULL\n",
                                     "engine", "second_keeps_nothing"),
@@ -43,10 +43,10 @@ PLANTS = {
     "driver, an older trail": Plant("../trail/store", "            session.change(statements.ADD_OF_RUN)\n", "            pass\n", "engine",
                                     "its_trails_are_read"),
     "driver, a text for bytes": Plant(_SQLITE, "            connection.text_factory = _text\n", "", "archive", "damage_is_found"),
-    "driver, psycopg for a file": Plant("../archive_engine", "\n\ndef engine_of", "\nimport psycopg\n\n\ndef engine_of", "explaining", "needs_no_driver"),
-    "driver, tables that are made again": Plant("../archive_session", " if not self.has_table(table)]", "]", "grants", "by_three_roles"),
+    "driver, psycopg for a file": Plant("../archive/engine", "\n\ndef engine_of", "\nimport psycopg\n\n\ndef engine_of", "explaining", "needs_no_driver"),
+    "driver, tables that are made again": Plant("../archive/session", " if not self.has_table(table)]", "]", "grants", "by_three_roles"),
     "driver, a list without its texts": Plant("../trail/store", "            with self.engine.begin() as session:\n                id = session",
                                               "            with self.engine.session() as session:\n                id = session", "engine", "with_its_texts"),
     "driver, one by one": Plant(_POSTGRES, "if connection.info.transaction_status in (TransactionStatus.INTRANS, TransactionStatus.INERROR):", "if False:",
                                 "engine", "takes_too_long"),
-}
+}  # fmt: skip

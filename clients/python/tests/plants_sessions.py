@@ -4,4 +4,4 @@ from plant import Plant
 
 PLANTS = {
     "sessions, never retrieved": Plant("session", "                _look_at(work)  # it may", "                # it may", "meanwhile", "never_retrieved"),
-}
+}  # fmt: skip

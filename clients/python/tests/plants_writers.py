@@ -43,4 +43,6 @@ PLANTS = {
     "early, unasked": Plant("keeping", "                self._turns.expect(name, held)\n", "                pass\n", "turns", "is_such_a_one"),
     "early, of who proves nothing": Plant("keeping", "generation < held and self._may(line, database):", "generation < held:", "turns", "is_such_a_one"),
     "turn, given back lately": Plant("turns", "            self._given_back = time.monotonic()\n", "", "turns", "given_back_lately"),
-}
+    "turn, of a keeper that waits": Plant("c/pagelog_turn.c", "        if (now >= until && is_young(turn, now)) until = turn->led + YOUNG_MS;\n", "        (void)is_young;\n",
+                                          "c/turns", "may_take_longer_than_a_second"),
+}  # fmt: skip

@@ -30,7 +30,9 @@ def programs() -> Path:
     """The folder of PostgreSQL's programs: the newest beside `psql`, or that of `initdb`."""
     known = shutil.which("psql")
     tops = {Path(known).parent.parent, Path(known).resolve().parents[2]} if known else set()
-    folders = [folder for top in tops for folder in sorted(top.glob("lib/postgresql/*/bin"), reverse=True)]
+    folders = [
+        folder for top in tops for folder in sorted(top.glob("lib/postgresql/*/bin"), reverse=True)
+    ]
     initdb = shutil.which("initdb")
     folders += [Path(initdb).resolve().parent] if initdb else []
     for folder in folders:
@@ -58,7 +60,12 @@ class Postgres:
 
     def run(self, program: str, *arguments: object) -> None:
         with (self.folder / "said").open("a+") as said:
-            done = self.call([str(programs() / program), *map(str, arguments)], cwd=self.folder, stdout=said, stderr=said)
+            done = self.call(
+                [str(programs() / program), *map(str, arguments)],
+                cwd=self.folder,
+                stdout=said,
+                stderr=said,
+            )
             if done.returncode != 0:
                 said.seek(0)
                 raise AssertionError(f"{program} failed: {said.read()}")
@@ -69,7 +76,19 @@ class Postgres:
 
     def start(self) -> None:
         options = f"-k {self.folder} -c listen_addresses= -c max_connections=30 -c fsync={FSYNC}"
-        self.run("pg_ctl", "-D", self.data, "-o", options, "-l", self.folder / "log", "-w", "-t", PATIENCE, "start")
+        self.run(
+            "pg_ctl",
+            "-D",
+            self.data,
+            "-o",
+            options,
+            "-l",
+            self.folder / "log",
+            "-w",
+            "-t",
+            PATIENCE,
+            "start",
+        )
 
     def crash(self) -> None:
         """Ends it at once, without a checkpoint."""
@@ -96,7 +115,20 @@ def _run(words: list[str], **how: Any) -> subprocess.CompletedProcess[bytes]:
 
 def initdb(data: Path, *more: object) -> list[str]:
     """The words that make a cluster there."""
-    words = (programs() / "initdb", "-D", data, "-U", "pagelog", "-A", "trust", "--no-sync", "-E", "UTF8", "--locale=C", *more)
+    words = (
+        programs() / "initdb",
+        "-D",
+        data,
+        "-U",
+        "pagelog",
+        "-A",
+        "trust",
+        "--no-sync",
+        "-E",
+        "UTF8",
+        "--locale=C",
+        *more,
+    )
     return list(map(str, words))
 
 
@@ -112,7 +144,9 @@ def make_cluster() -> Path:
     atexit.register(shutil.rmtree, folder, ignore_errors=True)
     if USER:
         shutil.chown(folder, USER)
-    done = _run(initdb(folder / "data"), cwd=folder, stdout=subprocess.PIPE, stderr=subprocess.STDOUT)
+    done = _run(
+        initdb(folder / "data"), cwd=folder, stdout=subprocess.PIPE, stderr=subprocess.STDOUT
+    )
     if done.returncode != 0:
         raise AssertionError(f"initdb failed: {done.stdout.decode()}")
     return folder / "data"

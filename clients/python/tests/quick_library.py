@@ -18,9 +18,13 @@ SOURCES = (*KEEPER.glob("quick_way*.[ch]"), CLIENT / "setup.py")
 LIBRARY = KEEPER / "_quick_way.abi3.so"
 OUT = CLIENT / "out"
 # What the compiler, the linker or Python says where something is not installed.
-LACKING = re.compile(r"fatal error: (?!quick_way)\S+: No such file|cannot find -l|No module named 'setuptools'|gcc' failed: No such file")
+LACKING = re.compile(
+    r"fatal error: (?!quick_way)\S+: No such file|cannot find -l|No module named 'setuptools'|gcc' failed: No such file"
+)
 WITHOUT = "the quick way is not built, and durable commits take longer"
-INSTALL = "apt-get install gcc libc6-dev libpq-dev libb2-dev libssl-dev zlib1g-dev python3-setuptools"
+INSTALL = (
+    "apt-get install gcc libc6-dev libpq-dev libb2-dev libssl-dev zlib1g-dev python3-setuptools"
+)
 
 
 class NotBuilt(Exception):
@@ -33,15 +37,35 @@ class NotBuilt(Exception):
 
 
 def _is_fresh() -> bool:
-    return LIBRARY.exists() and all(each.stat().st_mtime <= LIBRARY.stat().st_mtime for each in SOURCES)
+    return LIBRARY.exists() and all(
+        each.stat().st_mtime <= LIBRARY.stat().st_mtime for each in SOURCES
+    )
 
 
 def _make() -> None:
     """Builds it elsewhere, and then puts it in its place, where it may be loaded at any time."""
     made, objects = OUT / "quick_way", OUT / "objects"
-    words = [sys.executable, "-B", "setup.py", "-q", "build_ext", "--build-lib", made, "--build-temp", objects, "--force"]
-    done = subprocess.run(list(map(str, words)), cwd=CLIENT, env={**os.environ, "CFLAGS": "-Werror", "LC_ALL": "C.UTF-8"},
-                          stdin=subprocess.DEVNULL, stdout=subprocess.PIPE, stderr=subprocess.STDOUT, text=True)  # fmt: skip
+    words = [
+        sys.executable,
+        "-B",
+        "setup.py",
+        "-q",
+        "build_ext",
+        "--build-lib",
+        made,
+        "--build-temp",
+        objects,
+        "--force",
+    ]
+    done = subprocess.run(
+        list(map(str, words)),
+        cwd=CLIENT,
+        env={**os.environ, "CFLAGS": "-Werror", "LC_ALL": "C.UTF-8"},
+        stdin=subprocess.DEVNULL,
+        stdout=subprocess.PIPE,
+        stderr=subprocess.STDOUT,
+        text=True,
+    )
     built = made / LIBRARY.relative_to(CLIENT / "src")
     if done.returncode or not built.exists():
         raise NotBuilt(done.stdout)
@@ -64,7 +88,10 @@ def build() -> bool:
         if not _is_fresh():
             _make_if_older()
     except (NotBuilt, OSError) as error:
-        print(f"{WITHOUT}: {INSTALL if isinstance(error, NotBuilt) and error.is_lacking else 'clients/python/test says why'}", flush=True)
+        print(
+            f"{WITHOUT}: {INSTALL if isinstance(error, NotBuilt) and error.is_lacking else 'clients/python/test says why'}",
+            flush=True,
+        )
         return False
     return True
 

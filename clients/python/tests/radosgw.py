@@ -1,8 +1,8 @@
-"""Tries the store at a real server of S3: radosgw over a small Ceph, as ordinary processes on loopback. Run by hand.
+"""Tries the store at a real server of S3: radosgw over a small Ceph, or Swift, as ordinary processes on loopback. Run by hand.
 
-Usage: python3 -B clients/python/tests/radosgw.py [PART [TEST]]     (PART is a class below, by default all)
+Usage: python3 -B clients/python/tests/radosgw.py [--swift] [PART [TEST]]     (PART is a class below, by default all)
 
-It needs: apt-get install --no-install-recommends radosgw ceph-mon ceph-osd ceph-mgr ceph-common
+It needs (for Swift see swift.py): apt-get install --no-install-recommends radosgw ceph-mon ceph-osd ceph-mgr ceph-common
 """
 
 from __future__ import annotations
@@ -26,10 +26,15 @@ sys.path.insert(0, str(Path(__file__).resolve().parent.parent / "src"))
 
 from pagelog.keeper.bases import Base, Bases, make_base
 from pagelog.store.checking import checked
-from pagelog.store.place import store_of
+from pagelog.store.legal_holds import holding
+from pagelog.store.place import StoreError, store_of
 from pagelog.store.settings import StoreSettings
 from service import Port
+from swift import Swift
 from test_branches import ByRows
+from test_buckets import LegalHolds
+from test_compacting import Compacted, Meanwhile
+from test_compacting import Deaths as CompactingDeaths
 from test_images import pages
 from test_rescues import Rescues
 from test_store import SMALL, Deaths, Held, ImageDeaths, Images, Moves, Past, pages_of
@@ -87,7 +92,16 @@ class Radosgw:
         conf.write_text(_CONF.format(fsid=fsid, mon=mon, old=old, dir=self.dir, port=port))
         self.words: tuple[object, ...] = ("-c", conf, "--keyring", self.dir / "keyring")
         self._keys()
-        self.run("monmaptool", "--create", "--fsid", fsid, "--addv", "a", f"[v2:127.0.0.1:{mon},v1:127.0.0.1:{old}]", self.dir / "monmap")
+        self.run(
+            "monmaptool",
+            "--create",
+            "--fsid",
+            fsid,
+            "--addv",
+            "a",
+            f"[v2:127.0.0.1:{mon},v1:127.0.0.1:{old}]",
+            self.dir / "monmap",
+        )
         self.run("ceph-mon", *self.words, "--mkfs", "-i", "a", "--monmap", self.dir / "monmap")
         self.run("ceph-mon", *self.words, "-i", "a")
         self.run("ceph", *self.words, "osd", "new", fsid)
@@ -96,19 +110,44 @@ class Radosgw:
         self.run("ceph-osd", *self.words, "-i", "0")
         self.run("radosgw", *self.words, "-n", "client.rgw")
         self._wait()
-        made = self.run("radosgw-admin", *self.words, "-n", "client.admin", "user", "create", "--uid=pagelog", "--display-name=pagelog")
+        made = self.run(
+            "radosgw-admin",
+            *self.words,
+            "-n",
+            "client.admin",
+            "user",
+            "create",
+            "--uid=pagelog",
+            "--display-name=pagelog",
+        )
         [keys] = json.loads(made[made.index("{") :])["keys"]
         self.key, self.secret = keys["access_key"], keys["secret_key"]
         return self
 
     def _keys(self) -> None:
         caps = ("--cap", "mon", "allow *", "--cap", "osd", "allow *", "--cap", "mgr", "allow *")
-        self.run("ceph-authtool", "--create-keyring", self.dir / "keyring", "--gen-key", "-n", "mon.", "--cap", "mon", "allow *")
+        self.run(
+            "ceph-authtool",
+            "--create-keyring",
+            self.dir / "keyring",
+            "--gen-key",
+            "-n",
+            "mon.",
+            "--cap",
+            "mon",
+            "allow *",
+        )
         for name in ("client.admin", "client.rgw", "mgr.x", "osd.0"):
             self.run("ceph-authtool", self.dir / "keyring", "--gen-key", "-n", name, *caps)
 
     def run(self, *words: object) -> str:
-        done = subprocess.run(list(map(str, words)), stdout=subprocess.PIPE, stderr=subprocess.STDOUT, text=True, timeout=PATIENCE)
+        done = subprocess.run(
+            list(map(str, words)),
+            stdout=subprocess.PIPE,
+            stderr=subprocess.STDOUT,
+            text=True,
+            timeout=PATIENCE,
+        )
         if done.returncode:
             raise AssertionError(f"{words}: {done.stdout}")
         return done.stdout
@@ -132,12 +171,20 @@ class Radosgw:
         shutil.rmtree(self.dir, ignore_errors=True)
 
 
-SERVER = Radosgw()
+IS_SWIFT = "--swift" in sys.argv
+SERVER: Radosgw | Swift = Swift() if IS_SWIFT else Radosgw()
 
 
 class AtRadosgw(unittest.TestCase):
     def new_settings(self) -> StoreSettings:
-        return StoreSettings(f"s3://versions/{self.id()}", endpoint_url=SERVER.url, seal=SMALL, age=0.0, tail=0.0, grace=0.0)
+        return StoreSettings(
+            f"s3://versions/{self.id()}",
+            endpoint_url=SERVER.url,
+            seal=SMALL,
+            age=0.0,
+            tail=0.0,
+            grace=0.0,
+        )
 
 
 class MovesThere(AtRadosgw, Moves):
@@ -180,11 +227,54 @@ class BranchesThere(AtRadosgw, ByRows):
     test_images_are_shared_as_blocks_are = None
 
 
+class CompactedThere(AtRadosgw, Compacted):
+    test_a_pack_that_cannot_be_read_is_left = None  # of files
+
+
+class MeanwhileThere(AtRadosgw, Meanwhile):
+    test_a_pack_that_is_lost_before_its_images_are_in_it_is_made_again = None  # of files
+
+
+class CompactingDeathsThere(AtRadosgw, CompactingDeaths):
+    pass
+
+
+class LegalHoldsThere(LegalHolds):
+    """A bucket with object lock, in which nothing is kept for a time of its own."""
+
+    # Of the double.
+    test_an_object_that_is_missing_is_named = None
+    test_a_store_that_does_not_confirm_a_legal_hold_is_refused = None
+
+    def new_settings(self) -> StoreSettings:
+        url = f"s3://legal/{self.id()}"
+        return StoreSettings(url, endpoint_url=SERVER.url, seal=SMALL, age=0.0, tail=0.0, grace=0.0)
+
+    def without_lock(self) -> str:
+        return f"s3://versions/{self.id()}"
+
+
+class RefusedThere(unittest.TestCase):
+    """A server that does not know object lock."""
+
+    def test_legal_holds_are_refused_by_name(self) -> None:
+        store = store_of(StoreSettings("s3://versions/x", endpoint_url=SERVER.url))
+        wanted = "the bucket versions has no object lock, and so no legal holds"
+        self.assertRaisesRegex(StoreError, wanted, holding, store)
+
+
 class LockedThere(MovesThere):
     """A bucket whose objects nobody can delete or change."""
 
     def new_settings(self) -> StoreSettings:
-        return StoreSettings(f"s3://locked/{self.id()}", endpoint_url=SERVER.url, seal=SMALL, age=0.0, tail=0.0, grace=0.0)
+        return StoreSettings(
+            f"s3://locked/{self.id()}",
+            endpoint_url=SERVER.url,
+            seal=SMALL,
+            age=0.0,
+            tail=0.0,
+            grace=0.0,
+        )
 
     def test_what_was_deleted_or_changed_is_read_as_it_was(self) -> None:
         self.write(400)
@@ -206,19 +296,32 @@ def prepare() -> None:
     """The buckets, and what the server says of itself."""
     import boto3
 
-    os.environ.update(AWS_ACCESS_KEY_ID=SERVER.key, AWS_SECRET_ACCESS_KEY=SERVER.secret, AWS_DEFAULT_REGION="us-east-1", AWS_EC2_METADATA_DISABLED="true",
-                      AWS_CONFIG_FILE="/dev/null", AWS_SHARED_CREDENTIALS_FILE="/dev/null")  # fmt: skip
+    os.environ.update(
+        AWS_ACCESS_KEY_ID=SERVER.key,
+        AWS_SECRET_ACCESS_KEY=SERVER.secret,
+        AWS_DEFAULT_REGION="us-east-1",
+        AWS_EC2_METADATA_DISABLED="true",
+        AWS_CONFIG_FILE="/dev/null",
+        AWS_SHARED_CREDENTIALS_FILE="/dev/null",
+    )
     client: Any = boto3.client("s3", endpoint_url=SERVER.url)
     client.create_bucket(Bucket="versions")
     client.put_bucket_versioning(Bucket="versions", VersioningConfiguration={"Status": "Enabled"})
-    client.create_bucket(Bucket="locked", ObjectLockEnabledForBucket=True)
-    rule = {"ObjectLockEnabled": "Enabled", "Rule": {"DefaultRetention": {"Mode": "COMPLIANCE", "Days": 1}}}
+    said("versions")
+    if IS_SWIFT:
+        return
+    for name in ("locked", "legal"):
+        client.create_bucket(Bucket=name, ObjectLockEnabledForBucket=True)
+    rule = {
+        "ObjectLockEnabled": "Enabled",
+        "Rule": {"DefaultRetention": {"Mode": "COMPLIANCE", "Days": 1}},
+    }
     client.put_object_lock_configuration(Bucket="locked", ObjectLockConfiguration=rule)
-    for name in ("versions", "locked"):
-        for found in checked(StoreSettings(f"s3://{name}/check", endpoint_url=SERVER.url)):
-            print(f"{name}: {found.what}: {found.said}", flush=True)
+    said("locked")
     for sse, key in (("AES256", None), ("aws:kms", "testkey-1")):
-        settings = StoreSettings("s3://versions/check", endpoint_url=SERVER.url, sse=sse, sse_key=key)
+        settings = StoreSettings(
+            "s3://versions/check", endpoint_url=SERVER.url, sse=sse, sse_key=key
+        )
         try:
             store_of(settings).put("a", b"1")
             print(f"encryption {sse}: confirmed")
@@ -226,18 +329,39 @@ def prepare() -> None:
             print(f"encryption {sse}: {error}")
 
 
+def said(bucket: str) -> None:
+    for found in checked(StoreSettings(f"s3://{bucket}/check", endpoint_url=SERVER.url)):
+        print(f"{bucket}: {found.what}: {found.said}", flush=True)
+
+
 def main(arguments: list[str]) -> int:
+    arguments = [word for word in arguments if word != "--swift"]
     os.environ.setdefault("PAGELOG_TEST_FSYNC", "off")
     began = time.monotonic()
     with SERVER:
-        print(f"radosgw is up after {time.monotonic() - began:.1f} s", flush=True)
+        print(f"{type(SERVER).__name__} is up after {time.monotonic() - began:.1f} s", flush=True)
         prepare()
         loader = unittest.TestLoader()
         if len(arguments) > 1:
             loader.testNamePatterns = [f"*{arguments[1]}*"]
-        kinds = [MovesThere, DeathsThere, PastThere, RescuesThere, ImagesThere, ImageDeathsThere, HeldThere, BranchesThere, LockedThere]
+        kinds = [
+            MovesThere,
+            DeathsThere,
+            PastThere,
+            RescuesThere,
+            ImagesThere,
+            ImageDeathsThere,
+            HeldThere,
+            BranchesThere,
+            CompactedThere,
+            MeanwhileThere,
+            CompactingDeathsThere,
+        ]
+        kinds += [RefusedThere] if IS_SWIFT else [LegalHoldsThere, LockedThere]
         chosen = [kind for kind in kinds if not arguments or kind.__name__ == arguments[0]]
-        done = unittest.TextTestRunner(verbosity=2).run(unittest.TestSuite(map(loader.loadTestsFromTestCase, chosen)))
+        done = unittest.TextTestRunner(verbosity=2).run(
+            unittest.TestSuite(map(loader.loadTestsFromTestCase, chosen))
+        )
     return 0 if done.wasSuccessful() else 1
 
 

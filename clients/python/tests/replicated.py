@@ -34,13 +34,41 @@ class Server(Postgres):
         if self.user:
             shutil.chown(self.folder, self.user)
         self.data = self.folder / "data"
-        self.run("pg_basebackup", "-h", leader.folder, "-U", "pagelog", "-D", self.data, "-R", "-X", "stream", "-c", "fast", "--no-sync")
+        self.run(
+            "pg_basebackup",
+            "-h",
+            leader.folder,
+            "-U",
+            "pagelog",
+            "-D",
+            self.data,
+            "-R",
+            "-X",
+            "stream",
+            "-c",
+            "fast",
+            "--no-sync",
+        )
         self.start()
 
     def start(self) -> None:
-        options = (f"-k {self.folder} -c listen_addresses= -c max_connections={self.connections} -c wal_level=replica -c max_wal_senders=8 -c hot_standby=on "
-                   f"-c fsync={FSYNC}")  # fmt: skip
-        self.run("pg_ctl", "-D", self.data, "-o", options, "-l", self.folder / "log", "-w", "-t", PATIENCE, "start")
+        options = (
+            f"-k {self.folder} -c listen_addresses= -c max_connections={self.connections} -c wal_level=replica -c max_wal_senders=8 -c hot_standby=on "
+            f"-c fsync={FSYNC}"
+        )
+        self.run(
+            "pg_ctl",
+            "-D",
+            self.data,
+            "-o",
+            options,
+            "-l",
+            self.folder / "log",
+            "-w",
+            "-t",
+            PATIENCE,
+            "start",
+        )
 
     def kill(self) -> list[str]:
         """Its first process is killed; the others end by themselves, and are returned."""
@@ -51,8 +79,21 @@ class Server(Postgres):
 
     def setting(self, name: str, value: str) -> None:
         """Sets it for good, without a wait for the standby."""
-        self.run("psql", "-h", self.folder, "-U", "pagelog", "-d", "postgres", "-c", "SET synchronous_commit = local",
-                 "-c", f"ALTER SYSTEM SET {name} = '{value}'", "-c", "SELECT pg_reload_conf()")  # fmt: skip
+        self.run(
+            "psql",
+            "-h",
+            self.folder,
+            "-U",
+            "pagelog",
+            "-d",
+            "postgres",
+            "-c",
+            "SET synchronous_commit = local",
+            "-c",
+            f"ALTER SYSTEM SET {name} = '{value}'",
+            "-c",
+            "SELECT pg_reload_conf()",
+        )
 
 
 class Pair:

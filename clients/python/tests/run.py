@@ -17,7 +17,11 @@ from pathlib import Path
 
 sys.path.insert(0, str(Path(__file__).resolve().parent.parent / "src"))
 
-PATIENCE = 3600 if os.environ.get("PAGELOG_TEST_LONG") else 2 * int(os.environ.get("PAGELOG_TEST_PATIENCE", "300"))
+PATIENCE = (
+    3600
+    if os.environ.get("PAGELOG_TEST_LONG")
+    else 2 * int(os.environ.get("PAGELOG_TEST_PATIENCE", "300"))
+)
 """How many seconds a test may take before it is taken to hang. Most take less than one where the machine is idle."""
 PARTS = {
     "test_bytes": "blocks, requests and replies against the trial and the pages",
@@ -42,6 +46,7 @@ PARTS = {
     "test_zones": "six copies, and rows that end at an LSN",
     "test_trail": "trails of audit lists, kept and asked",
     "test_replay": "trails decided again by the plain model",
+    "test_verify": "trails exported, and verified by pagelog-verify",
     "test_at_rest": "trails and archives: times, missing pieces, and names that are given again",
     "test_console": "the console: its JSON, its events, and who may look",
     "test_console_board": "what the console makes of its looks, and browsers that take nothing",
@@ -89,20 +94,38 @@ PARTS = {
     "test_pages_compared": "page servers beside one another",
     "test_pages_secured": "page servers by TLS",
     "test_pages_sqlite": "SQLite at page servers",
+    "test_pages_nearest": "readers beside a service that ask page servers for pages",
     "test_tasks_page": "the commands of docs/TASKS.md, as they are printed",
     "test_disks": "what durable means as PostgreSQL loses its standby, its leader, or room",
     "test_soak": "named databases that live on for a while",
     "test_administered": "the check of the torture of administration",
     "test_images": "images of pages, and blocks of them",
     "test_store": "the object store below the archive: seal, put, keep, cut, whatever dies or goes back",
+    "test_compacting": "packs of images of which little is needed still",
     "test_rescues": "databases that are made again from their store alone",
     "test_branches": "branches of named databases",
     "test_buckets": "the store in a bucket, and under keepers",
     "test_bases": "bases in PostgreSQL, pruned, and begun again",
     "test_referee": "one writer of an archive, by statements of PostgreSQL",
 }
-LONGEST = ("mixed", "identity", "changes", "successions", "console", "set_back", "pages", "disks", "keepers", "lives", "care", "kept_trails", "standbys",
-           "postgresql_page", "words", "archive")  # fmt: skip
+LONGEST = (
+    "mixed",
+    "identity",
+    "changes",
+    "successions",
+    "console",
+    "set_back",
+    "pages",
+    "disks",
+    "keepers",
+    "lives",
+    "care",
+    "kept_trails",
+    "standbys",
+    "postgresql_page",
+    "words",
+    "archive",
+)
 """These are begun first, so that none of them goes on alone at the end."""
 END = 40
 """So many lines of a part that failed are shown once more."""
@@ -123,12 +146,17 @@ class Timed(unittest.TestResult):
         signal.alarm(0)
         super().stopTest(test)
         if os.environ.get("PAGELOG_TEST_TIMES"):
-            print(f"{time.monotonic() - self.began:6.2f} s, {processor_time() - self.spent:6.2f} s of a processor: {test.id()}")
+            print(
+                f"{time.monotonic() - self.began:6.2f} s, {processor_time() - self.spent:6.2f} s of a processor: {test.id()}"
+            )
 
 
 def processor_time() -> float:
     """What this process has taken of processors, and those that it has waited for."""
-    return sum(resource.getrusage(who).ru_utime + resource.getrusage(who).ru_stime for who in (resource.RUSAGE_SELF, resource.RUSAGE_CHILDREN))
+    return sum(
+        resource.getrusage(who).ru_utime + resource.getrusage(who).ru_stime
+        for who in (resource.RUSAGE_SELF, resource.RUSAGE_CHILDREN)
+    )
 
 
 def hangs(_: int, __: object) -> None:
@@ -157,7 +185,10 @@ def play(module: str, words: str, only: str | None) -> tuple[int, int]:
     if result.testsRun:
         reasons = sorted({reason for _, reason in result.skipped})
         left = f", {len(result.skipped)} left out: {'; '.join(reasons)}" if reasons else ""
-        print(f"{module[5:]}: {words}: {passed} passed, {failed} failed{left}, {time.monotonic() - began:.1f} s", flush=True)
+        print(
+            f"{module[5:]}: {words}: {passed} passed, {failed} failed{left}, {time.monotonic() - began:.1f} s",
+            flush=True,
+        )
     return passed, failed
 
 
@@ -169,7 +200,9 @@ def side_by_side(names: list[str]) -> list[subprocess.Popen[str]]:
             time.sleep(0.05)
         command = [sys.executable, __file__, name[5:]]
         output = tempfile.TemporaryFile("w+")
-        running.append(subprocess.Popen(command, stdout=output, stderr=subprocess.STDOUT, text=True))
+        running.append(
+            subprocess.Popen(command, stdout=output, stderr=subprocess.STDOUT, text=True)
+        )
         running[-1].output = output  # type: ignore[attr-defined]
     return running
 
@@ -209,9 +242,13 @@ def main(arguments: list[str]) -> int:
             os.environ[postgres.CLUSTER] = str(postgres.make_cluster())
         names = [f"test_{name}" for name in LONGEST]
         names += [name for name in reversed(PARTS) if name not in names]
-        passed, failed = play_all([name for name in names if name in OF_ANY_SERVICE or not is_model])
+        passed, failed = play_all(
+            [name for name in names if name in OF_ANY_SERVICE or not is_model]
+        )
     if not arguments and os.environ.get("PAGELOG_TEST_LONG") and shutil.which("mypy"):
-        done = subprocess.run(["mypy"], cwd=Path(__file__).resolve().parent.parent, capture_output=True, text=True)
+        done = subprocess.run(
+            ["mypy"], cwd=Path(__file__).resolve().parent.parent, capture_output=True, text=True
+        )
         print(f"mypy: {done.stdout.strip()}")
         passed, failed = passed + (done.returncode == 0), failed + (done.returncode != 0)
     print(f"clients/python: {passed} passed, {failed} failed")

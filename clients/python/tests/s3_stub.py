@@ -24,6 +24,10 @@ class S3(ThreadingHTTPServer):
         self.answers: list[int] = []
         self.requests: list[str] = []
         self.confirms = True
+        self.locks = False
+        """Whether its buckets have object lock."""
+        self.holds: set[tuple[str, int]] = set()
+        """Versions that have a legal hold, by path and number."""
         threading.Thread(target=self.serve_forever, daemon=True).start()
 
     def __exit__(self, *_: object) -> None:
@@ -66,13 +70,17 @@ class _Handler(BaseHTTPRequestHandler):
     def do_PUT(self) -> None:
         if (found := self._begin()) is None:
             return
-        path, _, data = found
+        path, query, data = found
+        if "legal-hold" in query:
+            return self._hold((path, int(query["versionId"][0])), data)
         wanted = self.headers.get("Content-MD5")
         if wanted is not None and base64.b64decode(wanted) != hashlib.md5(data).digest():
             return self._fail(400, "BadDigest")
         self.server.objects.setdefault(path, []).append(data)
         sse = self.headers.get("x-amz-server-side-encryption")
-        self._say(200, **({"x_amz_server_side_encryption": sse} if sse and self.server.confirms else {}))
+        self._say(
+            200, **({"x_amz_server_side_encryption": sse} if sse and self.server.confirms else {})
+        )
 
     def do_GET(self) -> None:
         if (found := self._begin()) is None:
@@ -80,12 +88,27 @@ class _Handler(BaseHTTPRequestHandler):
         path, query, _ = found
         if "versions" in query:
             return self._versions(path, query)
+        if "object-lock" in query and self.server.locks:
+            enabled = b"<ObjectLockEnabled>Enabled</ObjectLockEnabled>"
+            return self._say(
+                200, b"<ObjectLockConfiguration>%b</ObjectLockConfiguration>" % enabled
+            )
         if "versioning" in query or "object-lock" in query:
             return self._fail(404, "ObjectLockConfigurationNotFoundError")
+        if "legal-hold" in query:
+            if (path, int(query["versionId"][0])) not in self.server.holds:
+                return self._fail(404, "NoSuchObjectLockConfiguration")
+            return self._say(200, b"<LegalHold><Status>ON</Status></LegalHold>")
         if "list-type" in query:
             return self._list(path, query)
         versions = self.server.objects.get(path, [])
-        data = versions[int(query["versionId"][0])] if "versionId" in query else versions[-1] if versions else None
+        data = (
+            versions[int(query["versionId"][0])]
+            if "versionId" in query
+            else versions[-1]
+            if versions
+            else None
+        )
         if data is None:
             return self._fail(404, "NoSuchKey")
         if part := self.headers.get("Range"):
@@ -96,25 +119,54 @@ class _Handler(BaseHTTPRequestHandler):
         self._say(200, data)
 
     def do_DELETE(self) -> None:
-        if (found := self._begin()) is not None:
-            self.server.objects.setdefault(found[0], []).append(None)
-            self._say(204)
+        if (found := self._begin()) is None:
+            return
+        path, query, _ = found
+        if "versionId" not in query:
+            self.server.objects.setdefault(path, []).append(None)
+        elif (path, number := int(query["versionId"][0])) in self.server.holds:
+            return self._fail(403, "AccessDenied")
+        else:
+            self.server.objects[path][number] = None
+        self._say(204)
+
+    def _hold(self, version: tuple[str, int], data: bytes) -> None:
+        if not self.server.locks:
+            return self._fail(400, "InvalidRequest")
+        if self.server.confirms:
+            (self.server.holds.add if b">ON<" in data else self.server.holds.discard)(version)
+        self._say(200)
 
     def _list(self, path: str, query: dict[str, list[str]]) -> None:
-        prefix, after = query.get("prefix", [""])[0], max(query.get("start-after", [""])[0], query.get("continuation-token", [""])[0])
+        prefix, after = query.get("prefix", [""])[0], max(
+            query.get("start-after", [""])[0], query.get("continuation-token", [""])[0]
+        )
         bucket = path.rstrip("/") + "/"
-        there = {key[len(bucket) :]: versions[-1] for key, versions in self.server.objects.items() if versions[-1] is not None}
+        there = {
+            key[len(bucket) :]: versions[-1]
+            for key, versions in self.server.objects.items()
+            if versions[-1] is not None
+        }
         keys = sorted(key for key in there if key.startswith(prefix) and key > after)
         page = keys[:_PAGE]
-        each = "".join(f"<Contents><Key>{escape(key)}</Key><Size>{len(there[key] or b'')}</Size></Contents>" for key in page)
-        more = f"<IsTruncated>true</IsTruncated><NextContinuationToken>{escape(page[-1])}</NextContinuationToken>" if len(keys) > _PAGE else ""
+        each = "".join(
+            f"<Contents><Key>{escape(key)}</Key><Size>{len(there[key] or b'')}</Size></Contents>"
+            for key in page
+        )
+        more = (
+            f"<IsTruncated>true</IsTruncated><NextContinuationToken>{escape(page[-1])}</NextContinuationToken>"
+            if len(keys) > _PAGE
+            else ""
+        )
         self._say(200, f"<ListBucketResult>{each}{more}</ListBucketResult>".encode())
 
     def _versions(self, path: str, query: dict[str, list[str]]) -> None:
         bucket, prefix = path.rstrip("/") + "/", query.get("prefix", [""])[0]
         each = "".join(
             f"<Version><Key>{escape(key[len(bucket) :])}</Key><VersionId>{number}</VersionId></Version>"
-            for key, versions in self.server.objects.items() if key.startswith(bucket + prefix)
-            for number, data in reversed(list(enumerate(versions))) if data is not None
-        )  # fmt: skip
+            for key, versions in self.server.objects.items()
+            if key.startswith(bucket + prefix)
+            for number, data in reversed(list(enumerate(versions)))
+            if data is not None
+        )
         self._say(200, f"<ListVersionsResult>{each}</ListVersionsResult>".encode())

@@ -24,8 +24,18 @@ OURS = re.compile(r"quick_way|libpq(?!.*libffi)", re.DOTALL)
 """What is in each report of the library. Of what libpq has made for it the stack may end in libpq; psycopg calls that by libffi."""
 _UNDEFINED = "-fno-wrapv -fsanitize=undefined -fno-sanitize-recover=undefined -static-libubsan"
 KINDS = {
-    "address": ("libasan.so", f"-fsanitize=address {_UNDEFINED}", "ASAN_OPTIONS", "exitcode=0:handle_abort=1"),
-    "thread": ("libtsan.so", "-fsanitize=thread", "TSAN_OPTIONS", "exitcode=0:history_size=4:io_sync=0"),
+    "address": (
+        "libasan.so",
+        f"-fsanitize=address {_UNDEFINED}",
+        "ASAN_OPTIONS",
+        "exitcode=0:handle_abort=1",
+    ),
+    "thread": (
+        "libtsan.so",
+        "-fsanitize=thread",
+        "TSAN_OPTIONS",
+        "exitcode=0:history_size=4:io_sync=0",
+    ),
 }
 """What is loaded first, how the library is compiled, and what the sanitizer is told: a leak of Python's own ends nothing with a status,
 and what goes through a socket orders nothing."""
@@ -39,28 +49,46 @@ exec -a "$0" {python} "$@"
 
 
 def path_of(library: str) -> str:
-    return subprocess.run(["gcc", f"-print-file-name={library}"], check=True, capture_output=True, text=True).stdout.strip()
+    return subprocess.run(
+        ["gcc", f"-print-file-name={library}"], check=True, capture_output=True, text=True
+    ).stdout.strip()
 
 
 def make(folder: Path, kind: str) -> Path:
     """The copy in this folder, with a library and a Python of its own. Returns that one's folder."""
     library, flags, options, said = KINDS[kind]
     copy, bin = folder / "clients" / "python", folder / "bin"
-    shutil.copytree(PYTHON, copy, ignore=shutil.ignore_patterns("__pycache__", ".mypy_cache", "out", LIBRARY.name))
+    shutil.copytree(
+        PYTHON,
+        copy,
+        ignore=shutil.ignore_patterns("__pycache__", ".mypy_cache", "out", LIBRARY.name),
+    )
     tables = folder / "crates" / "pagelog" / "data"
     tables.mkdir(parents=True)
     shutil.copy(TOP / "crates" / "pagelog" / "data" / "t0.toml", tables)
     environment = {**os.environ, "CFLAGS": f"{flags} -fno-omit-frame-pointer -g -Werror"}
-    subprocess.run([sys.executable, "-B", "setup.py", "-q", "build_ext", "--inplace"], cwd=copy, env=environment, check=True)
+    subprocess.run(
+        [sys.executable, "-B", "setup.py", "-q", "build_ext", "--inplace"],
+        cwd=copy,
+        env=environment,
+        check=True,
+    )
     if not (copy / LIBRARY).exists():
         raise SystemExit("the quick way was not built")
     bin.mkdir()
     (folder / "said").mkdir()
     (folder / "strip.c").write_text(f"#include <stdlib.h>\n{STRIP}")
-    subprocess.run(["gcc", "-shared", "-fPIC", "-o", folder / "strip.so", folder / "strip.c"], check=True)
+    subprocess.run(
+        ["gcc", "-shared", "-fPIC", "-o", folder / "strip.so", folder / "strip.c"], check=True
+    )
     log = folder / "said" / kind
-    text = PYTHON_OF_THE_COPY.format(preload=f"{path_of(library)} {folder / 'strip.so'}", options=options, said=f"{said}:log_path={log}",
-                                     log=log, python=sys.executable)  # fmt: skip
+    text = PYTHON_OF_THE_COPY.format(
+        preload=f"{path_of(library)} {folder / 'strip.so'}",
+        options=options,
+        said=f"{said}:log_path={log}",
+        log=log,
+        python=sys.executable,
+    )
     (bin / "python3").write_text(text)
     (bin / "python3").chmod(0o755)
     return bin
@@ -69,7 +97,11 @@ def make(folder: Path, kind: str) -> Path:
 def reports(folder: Path) -> list[str]:
     """Each on its own: an error, a race, or one leak of many."""
     texts = [file.read_text(errors="replace") for file in sorted(folder.iterdir())]
-    pieces = [piece for text in texts for piece in re.split(r"\n={10,}\n|\n(?=(?:Direct|Indirect) leak of)", text)]
+    pieces = [
+        piece
+        for text in texts
+        for piece in re.split(r"\n={10,}\n|\n(?=(?:Direct|Indirect) leak of)", text)
+    ]
     return [piece for piece in pieces if re.search(r"^\s+#\d|runtime error", piece, re.MULTILINE)]
 
 
@@ -81,8 +113,14 @@ def main(words: list[str]) -> int:
         folder = Path(name)
         bin = make(folder, words[0])
         copy = folder / "clients" / "python"
-        command = [copy / "torture", *words[2:]] if words[1] == "torture" else [copy / "test", *words[1:]]
-        environment = {"PAGELOG": str(TOP / "crates" / "pagelog" / "out" / "pagelog"), **os.environ, "PATH": f"{bin}:{os.environ['PATH']}"}
+        command = (
+            [copy / "torture", *words[2:]] if words[1] == "torture" else [copy / "test", *words[1:]]
+        )
+        environment = {
+            "PAGELOG": str(TOP / "crates" / "pagelog" / "out" / "pagelog"),
+            **os.environ,
+            "PATH": f"{bin}:{os.environ['PATH']}",
+        }
         done = subprocess.run(list(map(str, command)), env=environment).returncode
         found = reports(folder / "said")
         ours = [report for report in found if OURS.search(report)]

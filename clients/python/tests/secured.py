@@ -34,7 +34,21 @@ class Certificates:
 
     def _make(self, folder: Path) -> None:
         for ca in ("ca", "other-ca"):
-            _openssl(folder, "req", "-x509", *_KEY, "-nodes", "-keyout", f"{ca}.key", "-out", f"{ca}.pem", "-days", "30", "-subj", f"/CN={ca}")
+            _openssl(
+                folder,
+                "req",
+                "-x509",
+                *_KEY,
+                "-nodes",
+                "-keyout",
+                f"{ca}.key",
+                "-out",
+                f"{ca}.pem",
+                "-days",
+                "30",
+                "-subj",
+                f"/CN={ca}",
+            )
         _sign(folder, "good", "ca", "/CN=good")
         _sign(folder, "renewed", "ca", "/CN=renewed")
 
@@ -63,13 +77,44 @@ def _openssl(folder: Path, *words: str) -> None:
 
 
 def _sign(folder: Path, name: str, ca: str, subject: str, *, client: bool = False) -> None:
-    _openssl(folder, "req", *_KEY, "-nodes", "-keyout", f"{name}.key", "-out", f"{name}.csr", "-subj", subject)
+    _openssl(
+        folder,
+        "req",
+        *_KEY,
+        "-nodes",
+        "-keyout",
+        f"{name}.key",
+        "-out",
+        f"{name}.csr",
+        "-subj",
+        subject,
+    )
     hosts = "" if client else "subjectAltName=DNS:localhost,IP:127.0.0.1\n"
-    (folder / f"{name}.ext").write_text(f"{hosts}extendedKeyUsage={'clientAuth' if client else 'serverAuth'}\n")
-    _openssl(folder, "x509", "-req", "-in", f"{name}.csr", "-CA", f"{ca}.pem", "-CAkey", f"{ca}.key", "-CAcreateserial", "-days", "20",
-             "-extfile", f"{name}.ext", "-out", f"{name}.pem")  # fmt: skip
+    (folder / f"{name}.ext").write_text(
+        f"{hosts}extendedKeyUsage={'clientAuth' if client else 'serverAuth'}\n"
+    )
+    _openssl(
+        folder,
+        "x509",
+        "-req",
+        "-in",
+        f"{name}.csr",
+        "-CA",
+        f"{ca}.pem",
+        "-CAkey",
+        f"{ca}.key",
+        "-CAcreateserial",
+        "-days",
+        "20",
+        "-extfile",
+        f"{name}.ext",
+        "-out",
+        f"{name}.pem",
+    )
     (folder / f"{name}.both").touch(mode=0o600)
-    (folder / f"{name}.both").write_bytes((folder / f"{name}.pem").read_bytes() + (folder / f"{name}.key").read_bytes())
+    (folder / f"{name}.both").write_bytes(
+        (folder / f"{name}.pem").read_bytes() + (folder / f"{name}.key").read_bytes()
+    )
 
 
 class Wire:
@@ -87,10 +132,19 @@ class Wire:
 class _Tunnel:
     """A connection whose far end goes over TLS, if there is a context, and over the wire that is looked at."""
 
-    def __init__(self, near: socket.socket, far: socket.socket, context: ssl.SSLContext | None, host: str, wire: Wire) -> None:
+    def __init__(
+        self,
+        near: socket.socket,
+        far: socket.socket,
+        context: ssl.SSLContext | None,
+        host: str,
+        wire: Wire,
+    ) -> None:
         self._near, self._far, self._wire = near, far, wire
         self._in, self._out = ssl.MemoryBIO(), ssl.MemoryBIO()
-        self._tls = None if context is None else context.wrap_bio(self._in, self._out, server_hostname=host)
+        self._tls = (
+            None if context is None else context.wrap_bio(self._in, self._out, server_hostname=host)
+        )
         if self._tls is not None:
             self._until(self._tls.do_handshake)
 
@@ -213,7 +267,9 @@ class Secured(Keeping):
     def file_of(self, name: str) -> Path:
         file = self.folder / f"{name}.toml"
         file.touch(mode=0o600)
-        file.write_text(f'{self.file.read_text()}\ntls = "{self.pair}"\ntls_lines = "{self.secure[name].address}"\ntls_ports = 8\n{self.also}\n')
+        file.write_text(
+            f'{self.file.read_text()}\ntls = "{self.pair}"\ntls_lines = "{self.secure[name].address}"\ntls_ports = 8\n{self.also}\n'
+        )
         return file
 
     def __exit__(self, *error: object) -> None:

@@ -64,7 +64,9 @@ class Port:
 
     def __init__(self) -> None:
         self._socket = socket.socket()
-        self._socket.setsockopt(socket.SOL_SOCKET, socket.SO_REUSEADDR, 1)  # as a program that listens does
+        self._socket.setsockopt(
+            socket.SOL_SOCKET, socket.SO_REUSEADDR, 1
+        )  # as a program that listens does
         self._socket.bind(("127.0.0.1", 0))
         self.number = int(self._socket.getsockname()[1])
         self.address = f"127.0.0.1:{self.number}"
@@ -77,22 +79,46 @@ class Service:
     """A running `serve`. It ends with the `with`, or with `stop`; its port is held until then, or as long as there is this object."""
 
     def __init__(
-        self, *, table: str | None = None, dbs: int = 1, workers: int = 12, audit: int = 1_000_000, connections: int = 4_000_000_000,
+        self,
+        *,
+        table: str | None = None,
+        dbs: int = 1,
+        workers: int = 12,
+        audit: int = 1_000_000,
+        connections: int = 4_000_000_000,
         primary: int = 2,
-    ) -> None:  # fmt: skip
+    ) -> None:
         self.port = Port()
         self.folder = Path(tempfile.mkdtemp(prefix="pagelog-test-"))
         self.table = TABLE
         if table is not None:
             self.table = self.folder / "table.toml"
             self.table.write_text(table)
-        words = [PROGRAM, "serve", "--listen", self.port.address, "--table", self.table, "--primary", primary, "--dbs", dbs,
-                 "--workers", workers, "--connections", connections, "--audit", audit]  # fmt: skip
+        words = [
+            PROGRAM,
+            "serve",
+            "--listen",
+            self.port.address,
+            "--table",
+            self.table,
+            "--primary",
+            primary,
+            "--dbs",
+            dbs,
+            "--workers",
+            workers,
+            "--connections",
+            connections,
+            "--audit",
+            audit,
+        ]
         self.words = [str(word) for word in words]
         self.start()
 
     def start(self) -> None:
-        self.process = subprocess.Popen(self.words, stdout=subprocess.PIPE, stderr=subprocess.STDOUT, text=True)
+        self.process = subprocess.Popen(
+            self.words, stdout=subprocess.PIPE, stderr=subprocess.STDOUT, text=True
+        )
         assert self.process.stdout is not None
         line = self.process.stdout.readline()
         if not line.startswith("listening "):
@@ -125,7 +151,9 @@ class Service:
         resource.prlimit(self.process.pid, resource.RLIMIT_DATA, (most, resource.RLIM_INFINITY))
 
     def unlimit_memory(self) -> None:
-        resource.prlimit(self.process.pid, resource.RLIMIT_DATA, (resource.RLIM_INFINITY, resource.RLIM_INFINITY))
+        resource.prlimit(
+            self.process.pid, resource.RLIMIT_DATA, (resource.RLIM_INFINITY, resource.RLIM_INFINITY)
+        )
 
     # Clients of it.
 
@@ -139,18 +167,27 @@ class Service:
         return pagelog.Operator(self.connection(), pagelog.Credentials.of(1, token(1)), db)
 
     def page_server(self, db: int = 0, partitions: tuple[int, ...] = (0,)) -> pagelog.PageServer:
-        return pagelog.PageServer(self.connection(), pagelog.Credentials.of(4, token(4)), db, partitions)
+        return pagelog.PageServer(
+            self.connection(), pagelog.Credentials.of(4, token(4)), db, partitions
+        )
 
     def connection(self, attempts: int = 20) -> pagelog.Connection:
         return pagelog.Connection(self.address, timeout=PATIENCE, attempts=attempts, pause=0.01)
 
     def credentials_file(
-        self, *, name: str = "credentials.toml", url: str | None = None, audit: int | None = None, **elsewhere: str
+        self,
+        *,
+        name: str = "credentials.toml",
+        url: str | None = None,
+        audit: int | None = None,
+        **elsewhere: str,
     ) -> Path:
         """A file with a section for each role, at this service, or at the address that `elsewhere` has for it."""
         ids = {"primary": 2, "secondary": 3, "page_server": 4, "operator": 1}
-        text = "".join(f'[{role}]\nto = "{elsewhere.get(role, self.address)}"\nid = {id}\ntoken = "{token(id)}"\n'
-                       for role, id in ids.items())  # fmt: skip
+        text = "".join(
+            f'[{role}]\nto = "{elsewhere.get(role, self.address)}"\nid = {id}\ntoken = "{token(id)}"\n'
+            for role, id in ids.items()
+        )
         text += f'[archive]\nurl = "{url}"\n' if url else ""
         text += f"[service]\naudit = {audit}\n" if audit else ""
         file = self.folder / name
@@ -173,8 +210,14 @@ def fill(primary: pagelog.Primary, count: int, *, seed: int = 1, empties: bool =
                 yield ()
                 continue
             size = 8000 if chance.random() < 0.02 else chance.randrange(1, 120)
-            records = [put(chance.randrange(40) + 65536 * chance.randrange(3), chance.randbytes(size), chance.randrange(190))
-                       for _ in range(chance.randrange(1, 4))]  # fmt: skip
+            records = [
+                put(
+                    chance.randrange(40) + 65536 * chance.randrange(3),
+                    chance.randbytes(size),
+                    chance.randrange(190),
+                )
+                for _ in range(chance.randrange(1, 4))
+            ]
             yield records + ([pagelog.Zero(chance.randrange(40))] if chance.random() < 0.1 else [])
 
     for _ in primary.stream(transactions()):
@@ -188,13 +231,17 @@ def interrupted(call: Callable[[], object], file: str, at: int) -> bool:
 
     def look(frame: FrameType, event: str, _: object) -> None:
         nonlocal left
-        is_place = event in ("c_return", "c_exception") or (event == "call" and not frame.f_code.co_flags & inspect.CO_GENERATOR)
+        is_place = event in ("c_return", "c_exception") or (
+            event == "call" and not frame.f_code.co_flags & inspect.CO_GENERATOR
+        )
         if is_place and frame.f_code.co_filename == name:
             left -= 1
             if left == 0:
                 raise KeyboardInterrupt
 
-    with patch.object(sys, "unraisablehook"):  # what ends a generator that nobody has any more is told of there
+    with patch.object(
+        sys, "unraisablehook"
+    ):  # what ends a generator that nobody has any more is told of there
         sys.setprofile(look)
         try:
             call()

@@ -22,7 +22,17 @@ class SmallDisks(Postgres):
         self.holder: subprocess.Popen[str] | None = None
         super().__init__()
         self.run("createdb", "-h", self.folder, "-U", "pagelog", "kept")
-        self.run("psql", "-h", self.folder, "-U", "pagelog", "-d", "kept", "-c", f"CREATE TABLESPACE small LOCATION '{self.folder}/tables'")
+        self.run(
+            "psql",
+            "-h",
+            self.folder,
+            "-U",
+            "pagelog",
+            "-d",
+            "kept",
+            "-c",
+            f"CREATE TABLESPACE small LOCATION '{self.folder}/tables'",
+        )
 
     @property
     def kept(self) -> str:
@@ -31,12 +41,19 @@ class SmallDisks(Postgres):
 
     def make(self) -> None:
         self._mount()
-        self.call(initdb(self.data, "-X", self.folder / "log-of-writes", "--wal-segsize=1"), cwd=self.folder, stdout=subprocess.DEVNULL, check=True)
+        self.call(
+            initdb(self.data, "-X", self.folder / "log-of-writes", "--wal-segsize=1"),
+            cwd=self.folder,
+            stdout=subprocess.DEVNULL,
+            check=True,
+        )
 
     def call(self, words: list[str], **how: Any) -> subprocess.CompletedProcess[bytes]:
         assert self.holder is not None
         user = ["setpriv", f"--reuid={self.user}", f"--regid={self.user}", "--clear-groups"]
-        return subprocess.run(["nsenter", f"--target={self.holder.pid}", "--mount", *user, *words], **how)
+        return subprocess.run(
+            ["nsenter", f"--target={self.holder.pid}", "--mount", *user, *words], **how
+        )
 
     def _mount(self) -> None:
         if self.user is None:
@@ -44,9 +61,25 @@ class SmallDisks(Postgres):
         disks = [self.folder / name for name in ("log-of-writes", "tables")]
         for disk in disks:
             disk.mkdir()
-        mounts = "".join(f"mount -t tmpfs -o size={SIZE},mode=700,uid={self.user},gid={self.user} tmpfs {disk} && " for disk in disks)
-        self.holder = subprocess.Popen(["unshare", "--mount", "--propagation", "private", "sh", "-c", mounts + "echo made && exec cat"],
-                                       stdin=subprocess.PIPE, stdout=subprocess.PIPE, stderr=subprocess.PIPE, text=True)  # fmt: skip
+        mounts = "".join(
+            f"mount -t tmpfs -o size={SIZE},mode=700,uid={self.user},gid={self.user} tmpfs {disk} && "
+            for disk in disks
+        )
+        self.holder = subprocess.Popen(
+            [
+                "unshare",
+                "--mount",
+                "--propagation",
+                "private",
+                "sh",
+                "-c",
+                mounts + "echo made && exec cat",
+            ],
+            stdin=subprocess.PIPE,
+            stdout=subprocess.PIPE,
+            stderr=subprocess.PIPE,
+            text=True,
+        )
         assert self.holder.stdout is not None and self.holder.stderr is not None
         if self.holder.stdout.readline() != "made\n":
             why = self.holder.stderr.read().strip().replace(str(self.folder), "..")
@@ -61,9 +94,23 @@ class SmallDisks(Postgres):
 
     def start(self) -> None:
         """It makes no checkpoint by itself, with which it would use what it has of its disk again, and stays down where it had to end."""
-        options = (f"-k {self.folder} -c listen_addresses= -c max_connections=30 -c fsync=off -c restart_after_crash=off -c min_wal_size=2MB "
-                   "-c max_wal_size=1GB -c checkpoint_timeout=1h")  # fmt: skip
-        super().run("pg_ctl", "-D", self.data, "-o", options, "-l", self.folder / "log", "-w", "-t", PATIENCE, "start")
+        options = (
+            f"-k {self.folder} -c listen_addresses= -c max_connections=30 -c fsync=off -c restart_after_crash=off -c min_wal_size=2MB "
+            "-c max_wal_size=1GB -c checkpoint_timeout=1h"
+        )
+        super().run(
+            "pg_ctl",
+            "-D",
+            self.data,
+            "-o",
+            options,
+            "-l",
+            self.folder / "log",
+            "-w",
+            "-t",
+            PATIENCE,
+            "start",
+        )
 
     def fill(self, disk: str) -> None:
         """Nothing more goes to this disk."""

@@ -34,7 +34,14 @@ def load(folder: Path = C) -> None:
         _loaded.append(folder)
 
 
-def connected(keepers: Sequence[str], level: str = "full", id: int = 2, name: str = "shop", file: str = "", **more: object) -> sqlite3.Connection:
+def connected(
+    keepers: Sequence[str],
+    level: str = "full",
+    id: int = 2,
+    name: str = "shop",
+    file: str = "",
+    **more: object,
+) -> sqlite3.Connection:
     """A connection that may write, at this level; with a `mode` it reads."""
     load()
     operator = "" if "mode" in more else f"&op=1&optoken={token(1)}"
@@ -53,7 +60,10 @@ def error_of(connection: sqlite3.Connection) -> str:
 
 def enter(keepers: Sequence[str], count: int, first: int = 0, folder: Path = C) -> None:
     """Another process enters numbers, with the VFS of this folder."""
-    subprocess.run([sys.executable, "-B", __file__, ",".join(keepers), str(count), str(first), str(folder)], check=True)
+    subprocess.run(
+        [sys.executable, "-B", __file__, ",".join(keepers), str(count), str(first), str(folder)],
+        check=True,
+    )
 
 
 def main(keepers: str, count: str, first: str = "0", folder: str = "") -> None:

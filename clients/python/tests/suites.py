@@ -73,7 +73,9 @@ class Outcomes:
 
     def counts(self) -> str:
         """How many of each."""
-        return ", ".join(f"{count} {outcome}" for outcome, count in sorted(Counter(self.of.values()).items()))
+        return ", ".join(
+            f"{count} {outcome}" for outcome, count in sorted(Counter(self.of.values()).items())
+        )
 
 
 class Faults(threading.Thread):
@@ -86,7 +88,9 @@ class Faults(threading.Thread):
         self.done: Counter[str] = Counter()
 
     def run(self) -> None:
-        deeds: Iterator[Callable[[], None]] = itertools.cycle((self.succession, self.switchover, self.kill_service, self.kill_keeper))
+        deeds: Iterator[Callable[[], None]] = itertools.cycle(
+            (self.succession, self.switchover, self.kill_service, self.kill_keeper)
+        )
         while not self._over.wait(EACH):
             deed = next(deeds)
             try:
@@ -102,14 +106,33 @@ class Faults(threading.Thread):
     @property
     def is_each_done(self) -> bool:
         """Whether each kind has come."""
-        return all(self.done[kind] for kind in ("successions", "switchovers", "kills of a service", "kills of a keeper"))
+        return all(
+            self.done[kind]
+            for kind in ("successions", "switchovers", "kills of a service", "kills of a keeper")
+        )
 
     def _ask(self, subcommand: str, what: str) -> None:
         """Calls it for each database, all at once."""
         keeping, called = self._keeping, []
         for name in self._names:
-            words = [sys.executable, "-B", "-m", "pagelog", subcommand, name, "--credentials", str(keeping.file)]
-            called.append(subprocess.Popen(words, env=keeping.environment, stdout=subprocess.DEVNULL, stderr=subprocess.DEVNULL))
+            words = [
+                sys.executable,
+                "-B",
+                "-m",
+                "pagelog",
+                subcommand,
+                name,
+                "--credentials",
+                str(keeping.file),
+            ]
+            called.append(
+                subprocess.Popen(
+                    words,
+                    env=keeping.environment,
+                    stdout=subprocess.DEVNULL,
+                    stderr=subprocess.DEVNULL,
+                )
+            )
         for process in called:
             self.done[what if process.wait() == 0 else f"{what} that were refused"] += 1
 
@@ -148,14 +171,28 @@ class Suite:
         """Runs it, with its databases at this URI."""
         noted = folder / f"{self.name}.outcomes"
         noted.write_text("")
-        environment = {**os.environ, "PYTHONPATH": os.pathsep.join((str(HERE / "suites"), *self._paths(sources))), "PYTHONDONTWRITEBYTECODE": "1",
-                       "SUITE_FILES": json.dumps(self.files), "SUITE_URI": uri, "SUITE_OUTCOMES": str(noted),
-                       "SUITE_EXTENSION": str(C / "pagelog_vfs.so") if "vfs=pagelog" in uri else ""}  # fmt: skip
+        environment = {
+            **os.environ,
+            "PYTHONPATH": os.pathsep.join((str(HERE / "suites"), *self._paths(sources))),
+            "PYTHONDONTWRITEBYTECODE": "1",
+            "SUITE_FILES": json.dumps(self.files),
+            "SUITE_URI": uri,
+            "SUITE_OUTCOMES": str(noted),
+            "SUITE_EXTENSION": str(C / "pagelog_vfs.so") if "vfs=pagelog" in uri else "",
+        }
         began = time.monotonic()
         with (folder / f"{self.name}.log").open("w") as log:
             words = self.words(sources, only)
             try:
-                status = subprocess.run(words, cwd=self.folder(sources), env=environment, stdin=subprocess.DEVNULL, stdout=log, stderr=log, timeout=LONGEST).returncode
+                status = subprocess.run(
+                    words,
+                    cwd=self.folder(sources),
+                    env=environment,
+                    stdin=subprocess.DEVNULL,
+                    stdout=log,
+                    stderr=log,
+                    timeout=LONGEST,
+                ).returncode
             except subprocess.TimeoutExpired:
                 status = -1
         found = Outcomes(status=status, seconds=time.monotonic() - began)
@@ -174,20 +211,59 @@ def _python_words(sources: Path, only: Sequence[str]) -> list[str]:
 
 
 def _django_words(sources: Path, only: Sequence[str]) -> list[str]:
-    there = [name for name in only or DJANGO if (sources / "django" / "tests" / name.partition(".")[0]).is_dir()]
-    return [sys.executable, "-B", "-W", "ignore", "runtests.py", "--settings=django_settings", "--parallel=1", "-v1", *there]
+    there = [
+        name
+        for name in only or DJANGO
+        if (sources / "django" / "tests" / name.partition(".")[0]).is_dir()
+    ]
+    return [
+        sys.executable,
+        "-B",
+        "-W",
+        "ignore",
+        "runtests.py",
+        "--settings=django_settings",
+        "--parallel=1",
+        "-v1",
+        *there,
+    ]
 
 
 def _sqlalchemy_words(_: Path, only: Sequence[str]) -> list[str]:
-    return [sys.executable, "-B", "-m", "pytest", "-q", "-p", "no:cacheprovider", *only, "suite_of_sqlalchemy.py"]
+    return [
+        sys.executable,
+        "-B",
+        "-m",
+        "pytest",
+        "-q",
+        "-p",
+        "no:cacheprovider",
+        *only,
+        "suite_of_sqlalchemy.py",
+    ]
 
 
 SUITES = {
     suite.name: suite
     for suite in (
-        Suite("python", {":memory:": "m0 m1 m2 m3 m4 m5", "@test_": "file"}, _python_words, lambda sources: sources / "scratch"),
-        Suite("django", {"default.suite": "default", "other.suite": "other"}, _django_words, lambda sources: sources / "django" / "tests"),
-        Suite("sqlalchemy", {"main.suite": "main", "pysqlite_test_schema.db": "schema"}, _sqlalchemy_words, lambda _: HERE / "suites"),
+        Suite(
+            "python",
+            {":memory:": "m0 m1 m2 m3 m4 m5", "@test_": "file"},
+            _python_words,
+            lambda sources: sources / "scratch",
+        ),
+        Suite(
+            "django",
+            {"default.suite": "default", "other.suite": "other"},
+            _django_words,
+            lambda sources: sources / "django" / "tests",
+        ),
+        Suite(
+            "sqlalchemy",
+            {"main.suite": "main", "pysqlite_test_schema.db": "schema"},
+            _sqlalchemy_words,
+            lambda _: HERE / "suites",
+        ),
     )
 }
 
@@ -223,9 +299,24 @@ def run_scripts(sources: Path, folder: Path, where: str, only: Sequence[str]) ->
         path = tests / f"{script}.test"
         words = [str(fixture), str(path), "--verbose=1"]
         if where:
-            words = [str(fixture), str(C / "tests" / "prelude.tcl"), str(C / "pagelog_vfs.so"), f"where={where}", str(path), "--verbose=1"]
+            words = [
+                str(fixture),
+                str(C / "tests" / "prelude.tcl"),
+                str(C / "pagelog_vfs.so"),
+                f"where={where}",
+                str(path),
+                "--verbose=1",
+            ]
         try:
-            done = subprocess.run(words, cwd=scratch, capture_output=True, text=True, errors="replace", timeout=SCRIPT_LONGEST, stdin=subprocess.DEVNULL)
+            done = subprocess.run(
+                words,
+                cwd=scratch,
+                capture_output=True,
+                text=True,
+                errors="replace",
+                timeout=SCRIPT_LONGEST,
+                stdin=subprocess.DEVNULL,
+            )
             text, status = done.stdout + done.stderr, done.returncode
         except subprocess.TimeoutExpired as error:
             text, status = (error.stdout or b"").decode(errors="replace"), -1
@@ -234,7 +325,9 @@ def run_scripts(sources: Path, folder: Path, where: str, only: Sequence[str]) ->
         found.of.update({f"{script}: {test}": outcome for test, outcome in outcomes.items()})
         found.why.update({f"{script}: {test}": reason for test, reason in why.items()})
         if "errors out of" not in text:
-            found.of[f"{script}: its end"] = f"none, status {status}: {text.strip().splitlines()[-1:] or ''}"
+            found.of[
+                f"{script}: its end"
+            ] = f"none, status {status}: {text.strip().splitlines()[-1:] or ''}"
     found.seconds = time.monotonic() - began
     return found
 
@@ -252,8 +345,10 @@ def differences(plain: Outcomes, named: Outcomes) -> list[str]:
 
 
 def uri_of(keeping: Keeping) -> str:
-    return (f"file:NAME?vfs=pagelog&where={','.join(keeping.addresses)}&name=NAME&id=2&token={token(2)}&op=1&optoken={token(1)}"
-            f"&errors=log")  # fmt: skip
+    return (
+        f"file:NAME?vfs=pagelog&where={','.join(keeping.addresses)}&name=NAME&id=2&token={token(2)}&op=1&optoken={token(1)}"
+        f"&errors=log"
+    )
 
 
 def play(name: str, sources: Path, logs: Path, only: Sequence[str]) -> list[str]:
@@ -265,10 +360,15 @@ def play(name: str, sources: Path, logs: Path, only: Sequence[str]) -> list[str]
         for file in folder.glob("*.database*"):
             file.unlink()
     if name in SUITES:
-        plain = SUITES[name].run(sources, folders["plain"], f"file:{folders['plain']}/NAME.database", only)
+        plain = SUITES[name].run(
+            sources, folders["plain"], f"file:{folders['plain']}/NAME.database", only
+        )
     else:
         plain = run_scripts(sources, folders["plain"], "", only)
-    print(f"{name}: on files: {plain.counts()}; status {plain.status}, {plain.seconds:.0f} s", flush=True)
+    print(
+        f"{name}: on files: {plain.counts()}; status {plain.status}, {plain.seconds:.0f} s",
+        flush=True,
+    )
     with Keeping(ttl=TTL, url=new_url()) as keeping:
         for database in databases:
             keeping.word("create", database, "--table", keeping.table)
@@ -282,14 +382,23 @@ def play(name: str, sources: Path, logs: Path, only: Sequence[str]) -> list[str]
             while rounds < ROUNDS and not (rounds and faults.is_each_done):
                 rounds += 1
                 if name in SUITES:
-                    named.take(plain, SUITES[name].run(sources, folders["named"], uri_of(keeping), only))
+                    named.take(
+                        plain, SUITES[name].run(sources, folders["named"], uri_of(keeping), only)
+                    )
                 else:
-                    named.take(plain, run_scripts(sources, folders["named"], ",".join(keeping.addresses), only))
+                    named.take(
+                        plain,
+                        run_scripts(sources, folders["named"], ",".join(keeping.addresses), only),
+                    )
         finally:
             faults.end()
         (folders["named"] / "keepers.log").write_text(keeping.said())
-    print(f"{name}: named, {rounds} times: {named.counts()}; status {named.status}, {named.seconds:.0f} s")
-    print(f"  meanwhile {', '.join(f'{count} {what}' for what, count in sorted(faults.done.items())) or 'nothing'}, over {len(databases)} databases")
+    print(
+        f"{name}: named, {rounds} times: {named.counts()}; status {named.status}, {named.seconds:.0f} s"
+    )
+    print(
+        f"  meanwhile {', '.join(f'{count} {what}' for what, count in sorted(faults.done.items())) or 'nothing'}, over {len(databases)} databases"
+    )
     found = differences(plain, named)
     same = len({*plain.of, *named.of}) - len(found)
     print(f"  {same} the same, {len(found)} another outcome", *found, sep="\n  ", flush=True)

@@ -24,18 +24,40 @@ class Administered(unittest.TestCase):
         with (self.folder / f"{who}.notes").open("a") as notes:
             notes.write(json.dumps({"what": what, "noted": at, **facts}) + "\n")
 
-    def commit(self, number: int, at: float, *, life: str = "x", what: str = "acknowledged") -> dict[str, Any]:
+    def commit(
+        self, number: int, at: float, *, life: str = "x", what: str = "acknowledged"
+    ) -> dict[str, Any]:
         """A writer's link to the chain of s1, whose numbers are those of its commits."""
         before = GENESIS
         for each in range(1, number):
             before = link(before, life, "w", each)
-        one = {"name": "s1", "life": life, "seq": number, "before": before, "sum": link(before, life, "w", number)}
+        one = {
+            "name": "s1",
+            "life": life,
+            "seq": number,
+            "before": before,
+            "sum": link(before, life, "w", number),
+        }
         self.note("w", "try", at, number=number, links=[one])
         self.note("w", what, at + 0.1, number=number, links=[one], began=at, durable=True)
         return one
 
-    def look(self, at: float, one: dict[str, Any], who: str = "s1.final-durable", kind: str = "durable") -> None:
-        self.note(who, "look", at + 0.1, kind=kind, name="s1", opened=1, process=1, life=one["life"], seq=one["seq"], sum=one["sum"], began=at)
+    def look(
+        self, at: float, one: dict[str, Any], who: str = "s1.final-durable", kind: str = "durable"
+    ) -> None:
+        self.note(
+            who,
+            "look",
+            at + 0.1,
+            kind=kind,
+            name="s1",
+            opened=1,
+            process=1,
+            life=one["life"],
+            seq=one["seq"],
+            sum=one["sum"],
+            began=at,
+        )
 
     def violations(self) -> list[str]:
         return Check(self.folder, self.past).violations()
@@ -70,17 +92,35 @@ class Administered(unittest.TestCase):
         self.assert_one("whose life is gone")
         self.past.drops = [Drop("s1", 10, 10.5, True)]
         self.assertEqual(self.violations(), [])
-        self.past.lose(Loss(8, 10.9), copied=9.5, back=10.8)  # which undoes the drop, and excuses what came after the copy alone
+        self.past.lose(
+            Loss(8, 10.9), copied=9.5, back=10.8
+        )  # which undoes the drop, and excuses what came after the copy alone
         self.assertEqual(self.violations(), [])
         self.past.losses = [Loss(9.6, 10.9)]
         self.assert_one("whose life is gone")
 
     def test_a_position_that_moved(self) -> None:
         self.past.drops.append(Drop("s1", 20, 21, True))
-        for at, lives, is_excused in ((19, "xx", False), (22, "xx", False), (22, "xy", True), (21 + BOUND + 1, "xy", False)):
+        for at, lives, is_excused in (
+            (19, "xx", False),
+            (22, "xx", False),
+            (22, "xy", True),
+            (21 + BOUND + 1, "xy", False),
+        ):
             with self.subTest(at=at, lives=lives):
-                self.note("s1.readers-at", "moved", at + 0.1, name="s1", began=at, lives=[*lives], position=7, seqs=[2, 1])
-                self.assert_one("moved: position 7 has link 1 of life") if not is_excused else self.assertEqual(self.violations(), [])
+                self.note(
+                    "s1.readers-at",
+                    "moved",
+                    at + 0.1,
+                    name="s1",
+                    began=at,
+                    lives=[*lives],
+                    position=7,
+                    seqs=[2, 1],
+                )
+                self.assert_one(
+                    "moved: position 7 has link 1 of life"
+                ) if not is_excused else self.assertEqual(self.violations(), [])
                 (self.folder / "s1.readers-at.notes").unlink()
 
     def test_acknowledged_after_a_drop(self) -> None:
@@ -96,6 +136,22 @@ class Administered(unittest.TestCase):
 
     def test_refused_and_yet_there(self) -> None:
         self.look(11, self.commit(1, 9, what="refused"))
+        self.assert_one("refused, and yet there")
+
+    def test_what_a_drop_took_is_there_for_a_while_still(self) -> None:
+        one = self.commit(1, 10, what="lost")
+        self.look(12, one)
+        for drop, is_excused in (
+            (Drop("s1", 10.05, 11, True), True),
+            (Drop("s2", 10.05, 11, True), False),
+            (Drop("s1", 9, 9.9, True), False),
+            (Drop("s1", 12.5, 13, True), False),
+        ):
+            with self.subTest(drop=vars(drop)):
+                self.past.drops = [drop]
+                self.assertEqual(self.violations() == [], is_excused)
+        self.past.drops = [Drop("s1", 10.05, 11, True)]
+        self.look(11 + BOUND + 1, one)
         self.assert_one("refused, and yet there")
 
     def test_refused_by_the_last_of_two_databases(self) -> None:
@@ -166,12 +222,26 @@ class Administered(unittest.TestCase):
         links = [{"name": "p1", "life": "x"}]
         for number in (1, 2):
             self.note("p1.w-0", "try", 9, number=number, links=links)
-            self.note("p1.w-0", "acknowledged", 10, number=number, links=links, began=9, durable=True)
-        facts = {"kind": "durable", "name": "p1", "opened": 1, "life": "x", "end": 2, "writer": "p1.w-0", "first": 0, "began": 11}
+            self.note(
+                "p1.w-0", "acknowledged", 10, number=number, links=links, began=9, durable=True
+            )
+        facts = {
+            "kind": "durable",
+            "name": "p1",
+            "opened": 1,
+            "life": "x",
+            "end": 2,
+            "writer": "p1.w-0",
+            "first": 0,
+            "began": 11,
+        }
         self.note("p1.final-durable", "look", 11, bits=hex(0b110), **facts)
         self.assertEqual(self.violations(), [])
         self.note("p1.final-durable", "look", 12, bits=hex(0b010), **{**facts, "began": 12})
-        self.assertEqual(sorted(each.split(":")[0].split(" {")[0] for each in self.violations()), ["lost or stale", "p1.final-durable went back"])
+        self.assertEqual(
+            sorted(each.split(":")[0].split(" {")[0] for each in self.violations()),
+            ["lost or stale", "p1.final-durable went back"],
+        )
         self.note("p1.final-durable", "look", 13, bits=hex(0b1110), **{**facts, "began": 13})
         self.assertIn("invented: [3]", " ".join(self.violations()))
 
@@ -182,7 +252,15 @@ class Administered(unittest.TestCase):
         self.assertEqual(self.violations(), [])
 
     def test_entries_differ_by_life_writer_and_number(self) -> None:
-        self.assertEqual(len({entry(*each) for each in (("x", "w", 1), ("y", "w", 1), ("x", "v", 1), ("x", "w", 2))}), 4)
+        self.assertEqual(
+            len(
+                {
+                    entry(*each)
+                    for each in (("x", "w", 1), ("y", "w", 1), ("x", "v", 1), ("x", "w", 2))
+                }
+            ),
+            4,
+        )
 
 
 if __name__ == "__main__":

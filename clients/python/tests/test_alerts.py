@@ -30,13 +30,21 @@ NO_PROMTOOL = "THE ALERT RULES WERE NOT TESTED, since promtool is not here: apt-
 class Rules(unittest.TestCase):
     @unittest.skipUnless(shutil.which("promtool"), NO_PROMTOOL)
     def test_each_alert_fires_in_its_case_and_not_beside_it(self) -> None:
-        for arguments in (("test", "rules", "alerts_test.yml"), ("check", "rules", "--lint=all", "alerts.yml"), ("check", "config", "scrape.yml")):
-            done = subprocess.run(["promtool", *arguments], cwd=RULES, capture_output=True, text=True)
+        for arguments in (
+            ("test", "rules", "alerts_test.yml"),
+            ("check", "rules", "--lint=all", "alerts.yml"),
+            ("check", "config", "scrape.yml"),
+        ):
+            done = subprocess.run(
+                ["promtool", *arguments], cwd=RULES, capture_output=True, text=True
+            )
             self.assertEqual(done.returncode, 0, done.stdout + done.stderr)
 
     def test_each_alert_has_a_case(self) -> None:
         alerts = re.findall(r"- alert: (\w+)", (RULES / "alerts.yml").read_text())
-        cases = re.findall(r"alertname: (\w+)[^{}]*?exp_alerts:\n", (RULES / "alerts_test.yml").read_text())
+        cases = re.findall(
+            r"alertname: (\w+)[^{}]*?exp_alerts:\n", (RULES / "alerts_test.yml").read_text()
+        )
         self.assertEqual(sorted(set(cases)), sorted(alerts))
 
     def test_each_alert_names_a_section_of_the_runbook(self) -> None:
@@ -44,8 +52,12 @@ class Rules(unittest.TestCase):
         for rule in rules:
             found = re.search(r"runbook: docs/(\w+).md#(\S+)", rule)
             assert found is not None, rule.split()[0]
-            headings = re.findall(r"^#+ (.*)$", (TOP / "docs" / f"{found[1]}.md").read_text(), flags=re.M)
-            anchors = {re.sub(r"[^\w -]", "", heading).lower().replace(" ", "-") for heading in headings}
+            headings = re.findall(
+                r"^#+ (.*)$", (TOP / "docs" / f"{found[1]}.md").read_text(), flags=re.M
+            )
+            anchors = {
+                re.sub(r"[^\w -]", "", heading).lower().replace(" ", "-") for heading in headings
+            }
             self.assertIn(found[2], anchors, rule.split()[0])
 
 
@@ -58,7 +70,9 @@ class Scrapes(unittest.TestCase):
         """The address of an exporter, which ends with the test."""
         file = self.service.credentials_file(audit=200_000)
         numbers = [word for db in range(dbs) for word in ("--db", db)]
-        process = words("metrics", "--credentials", file, "--listen", "127.0.0.1:0", *numbers, *more)
+        process = words(
+            "metrics", "--credentials", file, "--listen", "127.0.0.1:0", *numbers, *more
+        )
         assert process.stdout is not None
         self.addCleanup(process.communicate)
         self.addCleanup(process.kill)
@@ -88,9 +102,14 @@ class Scrapes(unittest.TestCase):
         self.assertEqual((found['pagelog_up{db="0"}'], found['pagelog_archive_up{db="0"}']), (0, 0))
         self.service.start()
         Archive(f"sqlite:///{self.folder}/not-made-yet.db", create=True).close()
-        while (found := scrape(address))['pagelog_up{db="0"}'] == 0 or found['pagelog_archive_up{db="0"}'] == 0:
+        while (found := scrape(address))['pagelog_up{db="0"}'] == 0 or found[
+            'pagelog_archive_up{db="0"}'
+        ] == 0:
             time.sleep(0.1)
-        self.assertEqual((found['pagelog_archived_blocks{db="0"}'], found['pagelog_backlog_entries{db="0"}']), (0, 0))
+        self.assertEqual(
+            (found['pagelog_archived_blocks{db="0"}'], found['pagelog_backlog_entries{db="0"}']),
+            (0, 0),
+        )
 
     def test_an_archive_that_is_silent_is_down_and_the_rest_is_served(self) -> None:
         with socket.create_server(("127.0.0.1", 0)) as silent:
@@ -127,7 +146,9 @@ class Scrapes(unittest.TestCase):
         self.assertEqual(scrape(address)['pagelog_log_went_back_total{db="0"}'], 0)
         self.service.restart()
         found = scrape(address)
-        self.assertEqual((found['pagelog_up{db="0"}'], found['pagelog_log_went_back_total{db="0"}']), (1, 1))
+        self.assertEqual(
+            (found['pagelog_up{db="0"}'], found['pagelog_log_went_back_total{db="0"}']), (1, 1)
+        )
         self.assertEqual(found['pagelog_hardened_blocks{db="0"}'], 0)
 
 
@@ -172,7 +193,10 @@ class Watching(unittest.TestCase):
                 found = dict(look_at_all([("hangs", hangs), ("fast", fast)], 0.1))
                 self.assertIsInstance(found["hangs"], NotInTime)
         goes_on.set()
-        while isinstance(found := look_at_all([("hangs", hangs)], 0.1), dict) and found["hangs"] is not True:
+        while (
+            isinstance(found := look_at_all([("hangs", hangs)], 0.1), dict)
+            and found["hangs"] is not True
+        ):
             pass
 
 

@@ -20,8 +20,8 @@ from click.testing import CliRunner
 
 from pagelog import Block, Put
 from pagelog.archive import Archive
-from pagelog.archive_care import drop
-from pagelog.archiving import Archiver
+from pagelog.archive.care import drop
+from pagelog.archive.archiving import Archiver
 from pagelog.desk.options import status_of
 from pagelog.desk.trail_words import _times
 from pagelog.desk.words import pagelogctl
@@ -52,30 +52,59 @@ class Times(unittest.TestCase):
     def setUp(self) -> None:
         before = os.environ.get("TZ")
         self.addCleanup(time.tzset)
-        self.addCleanup(lambda: os.environ.pop("TZ") if before is None else os.environ.update(TZ=before))
+        self.addCleanup(
+            lambda: os.environ.pop("TZ") if before is None else os.environ.update(TZ=before)
+        )
         os.environ["TZ"] = "CET-1CEST,M3.5.0,M10.5.0/3"
         time.tzset()
 
     def test_a_time_of_another_season_is_by_the_rules_of_then(self) -> None:
-        both = [int(datetime(2026, month, 1, 14, 5, tzinfo=zone).timestamp() * 1_000_000) for month, zone in ((1, WINTER), (7, SUMMER))]
-        self.assertEqual(_times("2026-01-01T14:05", "2026-07-01T14:05"), tuple(both))  # whenever this is asked
+        both = [
+            int(datetime(2026, month, 1, 14, 5, tzinfo=zone).timestamp() * 1_000_000)
+            for month, zone in ((1, WINTER), (7, SUMMER))
+        ]
+        self.assertEqual(
+            _times("2026-01-01T14:05", "2026-07-01T14:05"), tuple(both)
+        )  # whenever this is asked
         winter = datetime(2026, 11, 28, 12, 0)
-        self.assertEqual(moment("2026-07-01T14:05", None, winter), datetime(2026, 7, 1, 14, 5, tzinfo=SUMMER))
-        self.assertEqual(moment("2026-01-31", None, datetime(2026, 7, 1, 14, 5)), datetime(2026, 1, 31, tzinfo=WINTER))
+        self.assertEqual(
+            moment("2026-07-01T14:05", None, winter), datetime(2026, 7, 1, 14, 5, tzinfo=SUMMER)
+        )
+        self.assertEqual(
+            moment("2026-01-31", None, datetime(2026, 7, 1, 14, 5)),
+            datetime(2026, 1, 31, tzinfo=WINTER),
+        )
         # The night before was summer still, and it begins again at 02:00.
         changed = datetime(2026, 10, 25, 10, 0)
-        self.assertEqual(moment("23:00", None, changed), datetime(2026, 10, 24, 23, 0, tzinfo=SUMMER))
-        self.assertEqual(moment("09:59", None, changed), datetime(2026, 10, 25, 9, 59, tzinfo=WINTER))
-        self.assertEqual(moment("10:00", moment("23:00", None, changed), changed), datetime(2026, 10, 25, 10, 0, tzinfo=WINTER))
+        self.assertEqual(
+            moment("23:00", None, changed), datetime(2026, 10, 24, 23, 0, tzinfo=SUMMER)
+        )
+        self.assertEqual(
+            moment("09:59", None, changed), datetime(2026, 10, 25, 9, 59, tzinfo=WINTER)
+        )
+        self.assertEqual(
+            moment("10:00", moment("23:00", None, changed), changed),
+            datetime(2026, 10, 25, 10, 0, tzinfo=WINTER),
+        )
 
     def test_a_time_of_day_in_a_zone_of_its_own_is_the_last_that_has_passed(self) -> None:
         for now, text, wanted in (
-            (datetime(2026, 11, 28, 23, 30, tzinfo=WEST), "04:00Z", datetime(2026, 11, 29, 4, tzinfo=timezone.utc)),
-            (datetime(2026, 11, 29, 1, 0, tzinfo=SUMMER), "23:30Z", datetime(2026, 11, 27, 23, 30, tzinfo=timezone.utc)),
+            (
+                datetime(2026, 11, 28, 23, 30, tzinfo=WEST),
+                "04:00Z",
+                datetime(2026, 11, 29, 4, tzinfo=timezone.utc),
+            ),
+            (
+                datetime(2026, 11, 29, 1, 0, tzinfo=SUMMER),
+                "23:30Z",
+                datetime(2026, 11, 27, 23, 30, tzinfo=timezone.utc),
+            ),
         ):
             self.assertEqual(moment(text, None, now), wanted)
         since = datetime(2026, 11, 28, 23, 30, tzinfo=WEST)
-        self.assertEqual(moment("04:31Z", since, since), datetime(2026, 11, 29, 4, 31, tzinfo=timezone.utc))
+        self.assertEqual(
+            moment("04:31Z", since, since), datetime(2026, 11, 29, 4, 31, tzinfo=timezone.utc)
+        )
 
     def test_digits_are_a_date_and_not_a_time_of_day(self) -> None:
         now = datetime(2026, 11, 28, 12, 0)
@@ -106,7 +135,9 @@ class Listed:
             self.asked(2, Role.PRIMARY, Operation.STATUS, 0, 0)
 
     def asked(self, principal: int, role: Role, operation: Operation, a: int, b: int) -> None:
-        self.entries.append(Entry(len(self.entries) + 1, 1, principal, role, 1, operation, a, b, 0, 0, 0))
+        self.entries.append(
+            Entry(len(self.entries) + 1, 1, principal, role, 1, operation, a, b, 0, 0, 0)
+        )
 
     def audit(self, first: int, max: int = AUDIT_MAX) -> tuple[Entry, ...]:
         found = tuple(self.entries[first - 1 : first - 1 + max])
@@ -128,17 +159,30 @@ class Stored(unittest.TestCase):
         one, pieces = self.trail.begin(), []
         for at in times:
             numbers = range(one.kept + 1, one.kept + count + 1)
-            lines = (Entry(number, 1, 2, Role.PRIMARY, 1, Operation.STATUS, 0, 0, 0, 0, 0) for number in numbers)
+            lines = (
+                Entry(number, 1, 2, Role.PRIMARY, 1, Operation.STATUS, 0, 0, 0, 0, 0)
+                for number in numbers
+            )
             piece, one = piece_behind(one, b"".join(map(encode_entry, lines)), at)
             pieces.append(piece)
         for piece in pieces:
             change(self.trail, NEW_PIECE, **piece)
-        change(self.trail, "UPDATE pagelog_trail_list SET kept = %(kept)s, seen = %(seen)s, digest = %(digest)s", kept=one.kept, seen=one.seen,
-               digest=one.digest)  # fmt: skip
+        change(
+            self.trail,
+            "UPDATE pagelog_trail_list SET kept = %(kept)s, seen = %(seen)s, digest = %(digest)s",
+            kept=one.kept,
+            seen=one.seen,
+            digest=one.digest,
+        )
         return one
 
     def take_out(self, first: int) -> None:
-        self.assertEqual(change(self.trail, "DELETE FROM pagelog_trail_piece WHERE first = %(first)s", first=first), 1)
+        self.assertEqual(
+            change(
+                self.trail, "DELETE FROM pagelog_trail_piece WHERE first = %(first)s", first=first
+            ),
+            1,
+        )
 
 
 class Long(Stored):
@@ -151,10 +195,15 @@ class Long(Stored):
         recorder._keeper.resume(self.trail.begin())
         lines = recorder.last_lines()
         assert lines is not None
-        self.trail.keep(self.trail.lists()[0], zlib.decompress(lines.values["data"]), lines.one.seen)
+        self.trail.keep(
+            self.trail.lists()[0], zlib.decompress(lines.values["data"]), lines.one.seen
+        )
         [one] = self.trail.lists()
         self.assertGreater(one.kept, 2 * AUDIT_MAX)
-        self.assertEqual([found.entry for found in answer(self.trail, one, Question())], service.entries[: one.kept])
+        self.assertEqual(
+            [found.entry for found in answer(self.trail, one, Question())],
+            service.entries[: one.kept],
+        )
         service.connects += 1
         TrailKeeper(service, self.trail).step()  # type: ignore[arg-type]
         self.assertEqual(len(self.trail.lists()), 1)
@@ -164,11 +213,24 @@ class Missing(Stored):
     def test_a_piece_that_is_missing_in_a_time_is_found(self) -> None:
         """Pieces of lines 1, 4, 7, 10 and 13, seen at 10 to 50: those of a time are 7 and 10."""
         one = self.keep([10, 20, 30, 40, 50])
-        for times, pieces in ((dict(since=30, until=50), [7, 10]), (dict(since=30), [7, 10, 13]), (dict(until=30), [1, 4]), (dict(since=60), []),
-                              (dict(until=10), []), (dict(since=11, until=19), [])):  # fmt: skip
+        for times, pieces in (
+            (dict(since=30, until=50), [7, 10]),
+            (dict(since=30), [7, 10, 13]),
+            (dict(until=30), [1, 4]),
+            (dict(since=60), []),
+            (dict(until=10), []),
+            (dict(since=11, until=19), []),
+        ):
             self.assertEqual([piece.first for piece in self.trail.pieces(one, **times)], pieces)
-        for gone, times in ((7, dict(since=30, until=50)), (7, dict(since=30)), (10, dict(since=30, until=50)), (4, dict(until=30)), (1, dict(until=20)),
-                            (13, dict(since=60)), (13, dict(since=30))):  # fmt: skip
+        for gone, times in (
+            (7, dict(since=30, until=50)),
+            (7, dict(since=30)),
+            (10, dict(since=30, until=50)),
+            (4, dict(until=30)),
+            (1, dict(until=20)),
+            (13, dict(since=60)),
+            (13, dict(since=30)),
+        ):
             with self.subTest(gone=gone, **times):
                 kept = row_of_piece(self.trail, gone)
                 self.take_out(gone)
@@ -179,12 +241,26 @@ class Missing(Stored):
 
     def test_a_time_that_was_changed_is_found(self) -> None:
         one = self.keep([10, 20, 30, 40])
-        for first, seen, times in ((7, 25, dict(since=30)), (7, 45, dict(since=30, until=40)), (4, 99, dict(until=30))):
+        for first, seen, times in (
+            (7, 25, dict(since=30)),
+            (7, 45, dict(since=30, until=40)),
+            (4, 99, dict(until=30)),
+        ):
             before = row_of_piece(self.trail, first)["seen"]
-            change(self.trail, "UPDATE pagelog_trail_piece SET seen = %(seen)s WHERE first = %(first)s", first=first, seen=seen)
+            change(
+                self.trail,
+                "UPDATE pagelog_trail_piece SET seen = %(seen)s WHERE first = %(first)s",
+                first=first,
+                seen=seen,
+            )
             with self.assertRaises(BrokenTrail):
                 list(self.trail.pieces(one, **times))
-            change(self.trail, "UPDATE pagelog_trail_piece SET seen = %(seen)s WHERE first = %(first)s", first=first, seen=before)
+            change(
+                self.trail,
+                "UPDATE pagelog_trail_piece SET seen = %(seen)s WHERE first = %(first)s",
+                first=first,
+                seen=before,
+            )
 
 
 class Named(Stored):
@@ -195,8 +271,10 @@ class Named(Stored):
         new.step()
         old.end("generation 1 was released: the database was dropped")
         with Trail(self.url, "shop!1") as dropped:
-            self.assertEqual([one.ended for one in (*dropped.lists(), *self.trail.lists())],
-                             ["generation 1 was released: the database was dropped", None])  # fmt: skip
+            self.assertEqual(
+                [one.ended for one in (*dropped.lists(), *self.trail.lists())],
+                ["generation 1 was released: the database was dropped", None],
+            )
         new.step()
         self.assertEqual(len(self.trail.lists()), 1)
 
@@ -214,13 +292,19 @@ class Texts(Stored):
     def setUp(self) -> None:
         super().setUp()
         self.text = TABLE.read_bytes()
-        self.denied = self.text.replace(b"deny", b"dent", 1) if b"deny" in self.text else self.text.replace(b"allow", b"allot", 1)
+        self.denied = (
+            self.text.replace(b"deny", b"dent", 1)
+            if b"deny" in self.text
+            else self.text.replace(b"allow", b"allot", 1)
+        )
         self.code = read(self.denied)
         self.assertIsInstance(self.code, int)
         self.one = self.trail.begin(start=Start(self.text, 2), tables=[self.text])
         lines = ((0, 0, 0), (3, 7, self.code), (3, 7, self.code))
-        entries = (Entry(number, 1, 1, Role.OPERATOR, 1, Operation.SET_TABLE, len(self.text), 0, *verdict)
-                   for number, verdict in enumerate(lines, 1))  # fmt: skip
+        entries = (
+            Entry(number, 1, 1, Role.OPERATOR, 1, Operation.SET_TABLE, len(self.text), 0, *verdict)
+            for number, verdict in enumerate(lines, 1)
+        )
         self.one = self.trail.keep(self.one, b"".join(map(encode_entry, entries)), 5)
 
     def test_a_denied_text_need_not_be_one_of_its_length_that_was_set(self) -> None:
@@ -239,11 +323,17 @@ class Logs(unittest.TestCase):
     def test_a_log_that_is_archived_again_after_a_drop_is_sealed_anew(self) -> None:
         url = f"sqlite:///{self.enterContext(tempfile.TemporaryDirectory())}/archive.db"
         for what in (b"one", b"two"):
-            with Archive(url, "shop", create=True) as archive, Trail(url, "shop", create=True) as trail:
+            with Archive(url, "shop", create=True) as archive, Trail(
+                url, "shop", create=True
+            ) as trail:
                 for first in (1, 4):
-                    archive.keep([Block.of(lsn, [Put(0, 0, what)]) for lsn in range(first, first + 3)], 1)
+                    archive.keep(
+                        [Block.of(lsn, [Put(0, 0, what)]) for lsn in range(first, first + 3)], 1
+                    )
                     seal(trail, archive)
-                self.assertEqual((len(list(sealed_blocks(trail, archive))), sorted(trail.seals())), (6, [3, 6]))
+                self.assertEqual(
+                    (len(list(sealed_blocks(trail, archive))), sorted(trail.seals())), (6, [3, 6])
+                )
                 self.assertEqual(drop(archive), 6)
         with Archive(url, "bare", create=True) as archive:
             self.assertEqual(drop(archive), 0)
@@ -260,42 +350,82 @@ class Ends(Stored):
 
     def ends(self, status: int, *arguments: object) -> str:
         done = CliRunner().invoke(pagelogctl, [*map(str, arguments)])
-        self.assertEqual((done.exit_code, done.exception.__class__), (status, SystemExit), (done.output, done.exc_info))
+        self.assertEqual(
+            (done.exit_code, done.exception.__class__),
+            (status, SystemExit),
+            (done.output, done.exc_info),
+        )
         return done.output
 
     def test_credentials_that_cannot_be_read_are_a_line(self) -> None:
         for word in ("trail", "replay"):
-            self.assertIn("none.toml", self.ends(1, word, "shop", "--url", self.url, "--credentials", self.folder / "none.toml"))
+            self.assertIn(
+                "none.toml",
+                self.ends(
+                    1, word, "shop", "--url", self.url, "--credentials", self.folder / "none.toml"
+                ),
+            )
 
     def test_a_word_whose_output_is_closed_does_its_work(self) -> None:
         with Archive(self.url, "0", create=True) as archive:
             archive.keep([Block.of(1)], 1)
-        command = [sys.executable, "-B", "-m", "pagelog", "drop", "--log", "0", "--yes", "--url", self.url, "--credentials", os.devnull]
-        done = subprocess.run(["sh", "-c", '"$@" >&-', "sh", *command], stderr=subprocess.PIPE, timeout=PATIENCE,
-                              env={**os.environ, "PYTHONPATH": str(SOURCE)})  # fmt: skip
+        command = [
+            sys.executable,
+            "-B",
+            "-m",
+            "pagelog",
+            "drop",
+            "--log",
+            "0",
+            "--yes",
+            "--url",
+            self.url,
+            "--credentials",
+            os.devnull,
+        ]
+        done = subprocess.run(
+            ["sh", "-c", '"$@" >&-', "sh", *command],
+            stderr=subprocess.PIPE,
+            timeout=PATIENCE,
+            env={**os.environ, "PYTHONPATH": str(SOURCE)},
+        )
         goes = f"to be deleted: log 0 of {self.url}\n  LSN 1 to 1: 1 block of {len(Block.of(1).data)} bytes, highest epoch 1\n  it has no trail, and so no times\n"
         self.assertEqual((done.returncode, done.stderr.decode()), (0, goes))
 
     def test_a_picture_that_cannot_be_written_is_a_line(self) -> None:
         self.keep([5])
         module = SimpleNamespace(draw=lambda *_: (self.folder / "none" / "shop.svg").write_text(""))
-        with patch.dict("sys.modules", {"pygal": SimpleNamespace(), "pagelog.desk.trail_plot": module}):
-            said = self.ends(1, "trail", "shop", "--url", self.url, "--plot", self.folder / "none" / "shop.svg")
+        with patch.dict(
+            "sys.modules", {"pygal": SimpleNamespace(), "pagelog.desk.trail_plot": module}
+        ):
+            said = self.ends(
+                1, "trail", "shop", "--url", self.url, "--plot", self.folder / "none" / "shop.svg"
+            )
         self.assertIn("shop.svg: No such file or directory", said)
 
     def test_an_archive_that_was_told_to_end_amid_it_is_not_done(self) -> None:
         file = self.folder / "c.toml"
-        file.write_text("".join(f'[{role}]\nto = "127.0.0.1:1"\nid = {id}\ntoken = "{str(id) * 32}"\n'
-                                for role, id in (("secondary", 3), ("operator", 1))))  # fmt: skip
+        file.write_text(
+            "".join(
+                f'[{role}]\nto = "127.0.0.1:1"\nid = {id}\ntoken = "{str(id) * 32}"\n'
+                for role, id in (("secondary", 3), ("operator", 1))
+            )
+        )
         file.chmod(0o600)
         for number in (signal.SIGTERM, signal.SIGINT):
+
             def told(_: object, **__: object) -> int:
                 os.kill(os.getpid(), number)
                 return 5
 
             with patch.object(Archiver, "run", told):
-                self.assertIn("archived 0 of 0", self.ends(128 + number, "archive", "--credentials", file, "--url", self.url))
-            with patch.object(TrailKeeper, "run", told), patch.object(TrailKeeper, "step", lambda _: None):
+                self.assertIn(
+                    "archived 0 of 0",
+                    self.ends(128 + number, "archive", "--credentials", file, "--url", self.url),
+                )
+            with patch.object(TrailKeeper, "run", told), patch.object(
+                TrailKeeper, "step", lambda _: None
+            ):
                 self.ends(128 + number, "record", "shop", "--credentials", file, "--url", self.url)
 
     def test_a_postgresql_that_is_away_or_in_doubt_is_tried_again(self) -> None:
@@ -314,7 +444,10 @@ class Pruned(Stored):
         self.trail.prune(DAY)
         days = [one.kept - 3 * 3 + 1 + at for at in range(9)]
         for since in (None, 6):
-            self.assertEqual([found.entry.number for found in answer(self.trail, stale, Question(since=since))], days)
+            self.assertEqual(
+                [found.entry.number for found in answer(self.trail, stale, Question(since=since))],
+                days,
+            )
         rest = [found.entry.number for found in reading]
         self.assertEqual((rest[-9:], rest[:-9]), (days, list(range(2, 3 * _PIECES + 1))))
         with self.assertRaisesRegex(NotReplayable, "taken away"):
@@ -336,7 +469,10 @@ class Pruned(Stored):
         service.more(3)
         keeper.step()
         [one] = self.trail.lists()
-        self.assertEqual((one.ended, one.pruned, one.kept * LINE_SIZE), (None, 3, len(b"".join(map(encode_entry, service.entries[: one.kept])))))
+        self.assertEqual(
+            (one.ended, one.pruned, one.kept * LINE_SIZE),
+            (None, 3, len(b"".join(map(encode_entry, service.entries[: one.kept])))),
+        )
         self.assertGreater(one.kept, 9)
 
 

@@ -22,7 +22,18 @@ from unittest.mock import Mock, patch
 import psycopg
 from click.testing import CliRunner
 
-from keepers import Gate, Kept, Keeping, Line, Trigger, batch_of, blocks, eventually, new_database, new_url
+from keepers import (
+    Gate,
+    Kept,
+    Keeping,
+    Line,
+    Trigger,
+    batch_of,
+    blocks,
+    eventually,
+    new_database,
+    new_url,
+)
 from pagelog import Connection, ConnectionLost, OlderEpoch, OtherPrimary, Primary, Reader
 from pagelog.desk.words import pagelogctl
 from pagelog.keeper import referee as referee_module
@@ -50,15 +61,19 @@ class Statements(Kept):
         with self.keeping.primary() as primary:
             self.commit(primary, "1", durable=True)
             # It is committed, and PostgreSQL warns, as where its wait for the standby was cancelled.
-            trigger = Trigger(self.keeping.url, "pagelog_log", "UPDATE ON pagelog_log FOR EACH ROW WHEN (NEW.address IS NOT NULL AND "
-                              "OLD.address IS NULL)", "RAISE WARNING 'cancelled'")  # fmt: skip
+            trigger = Trigger(
+                self.keeping.url,
+                "pagelog_log",
+                "UPDATE ON pagelog_log FOR EACH ROW WHEN (NEW.address IS NOT NULL AND "
+                "OLD.address IS NULL)",
+                "RAISE WARNING 'cancelled'",
+            )
             self.addCleanup(trigger.close)
             os.kill(self.keeping.pid(), signal.SIGKILL)
             self.assertEqual(self.commit(primary, "2", durable=True), 2)
             self.assertIn("cancelled", self.keeping.said())
             self.keeping.kill("a", signal.SIGTERM)
             self.assertEqual(self.texts(), [b"1", b"2"])
-
 
     def test_what_an_earlier_life_archives_late_stops_nothing(self) -> None:
         with self.keeping.primary() as primary:
@@ -69,15 +84,19 @@ class Statements(Kept):
             self.commit(primary, "3")
             # A batch that an earlier life had sent arrives once the position has been read: the next batch does not fit.
             row = self.keeping.row()
-            with Reader(Connection(place.address), keeper_of(b"s" * 16, "shop", place.run)) as reader:
+            with Reader(
+                Connection(place.address), keeper_of(b"s" * 16, "shop", place.run)
+            ) as reader:
                 late = (reader.pull(2, max=1).blocks[0].data,)
             batch = Batch(row.id, place.run, row.generation, 1, digest(row.chain, late), late)
             self.assertEqual(self.keeping.referee.keep([batch]), {row.id})
             self.keeping.kill("a", signal.SIGCONT)
             primary.durable(3)
             self.assertEqual(self.commit(primary, "4", durable=True), 4)
-            self.assertEqual((self.texts(), self.keeping.place().generation), ([b"1", b"2", b"3", b"4"], place.generation))
-
+            self.assertEqual(
+                (self.texts(), self.keeping.place().generation),
+                ([b"1", b"2", b"3", b"4"], place.generation),
+            )
 
     def test_a_writer_that_is_fenced_as_it_begins_fences_nobody(self) -> None:
         with self.keeping.primary() as one, self.keeping.primary(id=5) as other:
@@ -93,7 +112,9 @@ class Statements(Kept):
                     other._move()
                 return begin(primary)
 
-            with patch.object(Primary, "begin", begin_late), self.assertRaises((OlderEpoch, OtherPrimary)):
+            with patch.object(Primary, "begin", begin_late), self.assertRaises(
+                (OlderEpoch, OtherPrimary)
+            ):
                 self.commit(one, "3")
             self.assertEqual(self.commit(other, "2", durable=True), 2)
             self.assertEqual(self.texts(), [b"1", b"2"])
@@ -101,12 +122,21 @@ class Statements(Kept):
 
 class Standbys(Kept):
     def beat(self, name: str) -> int:
-        return next(keeper.beat for keeper in self.keeping.referee.everything().keepers if keeper.name == name)
+        return next(
+            keeper.beat
+            for keeper in self.keeping.referee.everything().keepers
+            if keeper.name == name
+        )
 
     def test_a_standby_that_could_not_be_noted_is_noted_later(self) -> None:
         eventually(lambda: len(self.keeping.standbys()) == 1, "a standby")
         [name] = self.keeping.standbys()
-        trigger = Trigger(self.keeping.url, "pagelog_standby", "INSERT ON pagelog_standby FOR EACH ROW", "RAISE EXCEPTION 'no room'")
+        trigger = Trigger(
+            self.keeping.url,
+            "pagelog_standby",
+            "INSERT ON pagelog_standby FOR EACH ROW",
+            "RAISE EXCEPTION 'no room'",
+        )
         self.addCleanup(trigger.close)
         [note] = self.keeping.folder.glob(f"{name}/shop.*.json")
         os.kill(int(note.read_text().partition('"pid": ')[2].partition(",")[0]), signal.SIGKILL)
@@ -120,13 +150,19 @@ class Standbys(Kept):
             eventually(lambda: len(self.keeping.standbys()) == 1, "a standby")
             gate = Gate(self.keeping.url, "NEW.archived > OLD.archived")
             pid, before = self.keeping.pid(), self.keeping.place()
-            holder = next(name for name, port in self.keeping.ports.items() if before.lines.endswith(f":{port}"))
+            holder = next(
+                name
+                for name, port in self.keeping.ports.items()
+                if before.lines.endswith(f":{port}")
+            )
             self.commit(primary, "2")
             gate.somebody_waits()
             self.commit(primary, "3")  # it is pulled once the batch at the gate is kept
             self.keeping.processes[holder].send_signal(signal.SIGTERM)
             eventually(lambda: "the keeper ends" in self.keeping.said(), "the end of the keeper")
-            with Reader(Connection(before.address), keeper_of(b"s" * 16, "shop", before.run)) as reader:
+            with Reader(
+                Connection(before.address), keeper_of(b"s" * 16, "shop", before.run)
+            ) as reader:
                 eventually(lambda: reader.status().primary == KEEPER, "the closed table")
             looks = self.beat(holder)
             eventually(lambda: self.beat(holder) > looks + 1, "the wait for the rest")
@@ -136,14 +172,19 @@ class Standbys(Kept):
             self.assertEqual(self.commit(primary, "4", durable=True), 4)
             self.assertEqual(self.texts(), [b"1", b"2", b"3", b"4"])
 
-
-    def test_writers_go_on_where_a_switchover_is_taken_back_once_its_release_was_refused(self) -> None:
+    def test_writers_go_on_where_a_switchover_is_taken_back_once_its_release_was_refused(
+        self,
+    ) -> None:
         with self.keeping.primary() as primary:
             self.commit(primary, "1", durable=True)
             eventually(lambda: len(self.keeping.standbys()) == 1, "a standby")
             before = self.keeping.place()
-            trigger = Trigger(self.keeping.url, "pagelog_log", "UPDATE ON pagelog_log FOR EACH ROW WHEN (NEW.run IS NULL AND OLD.run IS NOT NULL)",
-                              "RAISE EXCEPTION 'no room'")  # fmt: skip
+            trigger = Trigger(
+                self.keeping.url,
+                "pagelog_log",
+                "UPDATE ON pagelog_log FOR EACH ROW WHEN (NEW.run IS NULL AND OLD.run IS NOT NULL)",
+                "RAISE EXCEPTION 'no room'",
+            )
             self.addCleanup(trigger.close)
             self.keeping.word("switchover", "shop")
             eventually(lambda: "close: PostgreSQL: no room" in self.keeping.said(), "the refusal")
@@ -156,14 +197,20 @@ class Standbys(Kept):
             self.commit(primary, "1", durable=True)
             eventually(lambda: len(self.keeping.standbys()) == 1, "a standby")
             place = self.keeping.place()
-            holder = next(name for name, port in self.keeping.ports.items() if place.lines.endswith(f":{port}"))
+            holder = next(
+                name
+                for name, port in self.keeping.ports.items()
+                if place.lines.endswith(f":{port}")
+            )
             self.keeping.kill(holder)
             self.assertEqual(self.commit(primary, "orphan"), 2)
             self.keeping.place(least=place.generation + 1)
             self.assertEqual(self.commit(other, "2", durable=True), 2)
             with self.keeping.reader(durable_only=True) as reader:
                 eventually(lambda: reader.end() == 2, "the end")
-                opened, stale = reader._opened, Reader(Connection(place.address), reader._account.of(place))
+                opened, stale = reader._opened, Reader(
+                    Connection(place.address), reader._account.of(place)
+                )
                 self.addCleanup(stale.close)
                 cuts = iter((True,))
 
@@ -173,7 +220,10 @@ class Standbys(Kept):
                 def reopened() -> Reader:
                     if not next(cuts, False):
                         return opened()
-                    reader._reader, reader.place = stale, place  # a keeper that is cut off names the old place
+                    reader._reader, reader.place = (
+                        stale,
+                        place,
+                    )  # a keeper that is cut off names the old place
                     return stale
 
                 reader._reader.pages, reader._opened = cut, reopened  # type: ignore
@@ -181,20 +231,31 @@ class Standbys(Kept):
 
 
 class BadProgram(unittest.TestCase):
-    def test_a_keeper_whose_program_is_broken_takes_once_in_a_ttl_and_leaves_room_for_another(self) -> None:
+    def test_a_keeper_whose_program_is_broken_takes_once_in_a_ttl_and_leaves_room_for_another(
+        self,
+    ) -> None:
         with Keeping(ttl=1.0, standby=False, url=new_url()) as keeping:
             keeping.referee.create("shop", keeping.table.read_text(), b"s" * 16)
             began = time.monotonic()
             keeping.start("a", program="/bin/false")
 
             def beat() -> int:
-                return next(keeper.beat for keeper in keeping.referee.everything().keepers if keeper.name == "a")
+                return next(
+                    keeper.beat
+                    for keeper in keeping.referee.everything().keepers
+                    if keeper.name == "a"
+                )
 
             first = beat()
             eventually(lambda: beat() > first + 12, "looks of three ttl")
-            self.assertLessEqual(keeping.row().generation, 1 + (time.monotonic() - began) / keeping.ttl)
+            self.assertLessEqual(
+                keeping.row().generation, 1 + (time.monotonic() - began) / keeping.ttl
+            )
             keeping.start("b")
-            eventually(lambda: keeping.row().holder == "b" and keeping.row().address is not None, "the keeper that can")
+            eventually(
+                lambda: keeping.row().holder == "b" and keeping.row().address is not None,
+                "the keeper that can",
+            )
 
 
 class Interrupted(unittest.TestCase):
@@ -218,13 +279,27 @@ class Interrupted(unittest.TestCase):
                     if words[2:3] == ["1"]:
                         self.late.wait(PATIENCE)
                     answers = {"1": "over shop 1 5", "2": "durable shop 2 7"}
-                    told = "hello 2" if words[0] == "hello" else answers.get(words[2] if len(words) > 2 else "", "nowhere shop")
+                    told = (
+                        "hello 2"
+                        if words[0] == "hello"
+                        else answers.get(words[2] if len(words) > 2 else "", "nowhere shop")
+                    )
                     line.sendall(" ".join((told, *words[4:], "\n")).encode())
             except OSError:
                 pass
 
     def place(self, generation: int) -> Place:
-        return Place(generation, "r", "127.0.0.1:1", 0, self.keepers._addresses[0], 0, 0, 0, "11111111-2222-4333-8444-555555555555")
+        return Place(
+            generation,
+            "r",
+            "127.0.0.1:1",
+            0,
+            self.keepers._addresses[0],
+            0,
+            0,
+            0,
+            "11111111-2222-4333-8444-555555555555",
+        )
 
     def test_an_answer_to_a_question_that_was_interrupted_is_not_taken_for_another(self) -> None:
         def interrupt(*_: object) -> None:
@@ -250,7 +325,9 @@ class Interrupted(unittest.TestCase):
         if child == 0:
             try:
                 self.keepers.where()
-                os._exit(0 if self.keepers._lines and line not in self.keepers._lines.values() else 1)
+                os._exit(
+                    0 if self.keepers._lines and line not in self.keepers._lines.values() else 1
+                )
             finally:
                 os._exit(2)
         self.assertEqual(os.waitstatus_to_exitcode(os.waitpid(child, 0)[1]), 0)
@@ -273,7 +350,9 @@ class ManyFiles(unittest.TestCase):
 
 
 class Committers(Referees):
-    def test_two_batches_of_one_database_are_in_one_statement_neither_with_each_other_nor_with_one_that_was_given_up(self) -> None:
+    def test_two_batches_of_one_database_are_in_one_statement_neither_with_each_other_nor_with_one_that_was_given_up(
+        self,
+    ) -> None:
         kept, ship = self.taken(), new_database(self.referee, "ship")
         taken = self.referee.take(ship, "r")
         assert taken is not None
@@ -282,14 +361,20 @@ class Committers(Referees):
 
         async def keep() -> list[int]:
             committer = Committer(Session(self.referee, PATIENCE), PATIENCE)
-            waits = [asyncio.create_task(committer.keep(batch)) for batch in (given_up, good, late, batch_of(ship, taken, "r"))]
+            waits = [
+                asyncio.create_task(committer.keep(batch))
+                for batch in (given_up, good, late, batch_of(ship, taken, "r"))
+            ]
             await asyncio.sleep(0)  # all of them are due
             waits[0].cancel()
             running = asyncio.create_task(committer.run())
             try:
                 with self.assertRaises(Fenced):
                     await asyncio.wait_for(waits[2], PATIENCE)
-                return [(await asyncio.wait_for(wait, PATIENCE)).archived for wait in (waits[1], waits[3])]
+                return [
+                    (await asyncio.wait_for(wait, PATIENCE)).archived
+                    for wait in (waits[1], waits[3])
+                ]
             finally:
                 running.cancel()
 
@@ -298,7 +383,11 @@ class Committers(Referees):
 
     def test_a_batch_that_nobody_waits_for_any_more_does_no_harm_to_the_next(self) -> None:
         kept = self.taken()
-        found = asyncio.run(self.both(replace(batch_of(self.row, kept, "r1"), run="over"), batch_of(self.row, kept, "r1")))
+        found = asyncio.run(
+            self.both(
+                replace(batch_of(self.row, kept, "r1"), run="over"), batch_of(self.row, kept, "r1")
+            )
+        )
         self.assertEqual((found.archived, found.generation), (3, kept.generation))
 
     async def both(self, over: Batch, good: Batch) -> KeptBatch:
@@ -319,7 +408,9 @@ class Committers(Referees):
         finally:
             running.cancel()
 
-    def test_a_connection_that_was_made_beforehand_waits_for_a_batch_and_is_closed_where_none_comes(self) -> None:
+    def test_a_connection_that_was_made_beforehand_waits_for_a_batch_and_is_closed_where_none_comes(
+        self,
+    ) -> None:
         batch, referee = batch_of(self.row, self.taken(), "r1"), self.new("two")
         referee.close()
 
@@ -348,7 +439,9 @@ class Committers(Referees):
         """It goes over the connection of the looks. One whose statement is long waits: the beat would wait for it."""
         line = Line(0, stalls=True)
         self.addCleanup(line.close)
-        own, beside = Session(Referee(line.url(self.url), "two"), PATIENCE), Session(self.new("two"), PATIENCE)
+        own, beside = Session(Referee(line.url(self.url), "two"), PATIENCE), Session(
+            self.new("two"), PATIENCE
+        )
         first = batch_of(self.row, self.taken(), "r1")
         large = (b"x" * (SMALL + 1),)
         second = replace(first, old=first.new, blocks=large, chain=digest(first.chain, large))
@@ -372,8 +465,12 @@ class Committers(Referees):
     def test_what_a_take_lacks_is_read_without_another_thread(self) -> None:
         batch = batch_of(self.row, self.taken(), "r1")
         self.referee.keep([batch])
-        shared, served = Shared(Mock(), "", Session(self.referee, PATIENCE), Mock(), print, print), Mock(reached=1, loaded=1)
-        with patch("pagelog.keeper.referee.threading.Timer", side_effect=AssertionError("a thread")):
+        shared, served = Shared(
+            Mock(), "", Session(self.referee, PATIENCE), Mock(), print, print
+        ), Mock(reached=1, loaded=1)
+        with patch(
+            "pagelog.keeper.referee.threading.Timer", side_effect=AssertionError("a thread")
+        ):
             asyncio.run(shared.fill(served, self.row.id, 3, batch.chain))
         served.fill.assert_called_once_with([list(blocks(2, 2))], 3, batch.chain)
 
@@ -403,7 +500,11 @@ class Away(unittest.TestCase):
         bases = Bases(referee, row.id)
         referee_module.LONGEST = 0.2
         self.addCleanup(setattr, referee_module, "LONGEST", longest)
-        for read in (lambda: list(referee.blocks(row.id, 1, 3)), lambda: bases.newest(3), lambda: list(bases.images(Base(3, b"", b"", 1)))):
+        for read in (
+            lambda: list(referee.blocks(row.id, 1, 3)),
+            lambda: bases.newest(3),
+            lambda: list(bases.images(Base(3, b"", b"", 1))),
+        ):
             line.count_from_now()
             referee.everything()
             line.count_from_now(to=0)
@@ -422,24 +523,40 @@ class Away(unittest.TestCase):
             line.count_from_now(to=0)
             return made
 
-        for word in (("kept",), ("where", "shop"), ("pause", "shop"), ("switchover", "shop"), ("succeed", "shop")):
+        for word in (
+            ("kept",),
+            ("where", "shop"),
+            ("pause", "shop"),
+            ("switchover", "shop"),
+            ("succeed", "shop"),
+        ):
             line.count_from_now()
-            with patch.object(Referee, "_connected", stands_still), patch("pagelog.desk.keeper_words.LONGEST", 1.0):
+            with patch.object(Referee, "_connected", stands_still), patch(
+                "pagelog.desk.keeper_words.LONGEST", 1.0
+            ):
                 done = CliRunner().invoke(pagelogctl, [*word, "--credentials", str(file)])
-            self.assertEqual((word, done.exit_code, done.output.partition(":")[2][:18]), (word, 3, " Doubt: PostgreSQL"), done.exception)
+            self.assertEqual(
+                (word, done.exit_code, done.output.partition(":")[2][:18]),
+                (word, 3, " Doubt: PostgreSQL"),
+                done.exception,
+            )
 
     def test_a_row_that_is_locked_holds_up_no_other_database(self) -> None:
         url = new_url()
         referee = Referee(url, "one", "life")
         self.addCleanup(referee.close)
         rows = [new_database(referee, name) for name in ("shop", "ship")]
-        shop, ship = [batch_of(row, kept, "r") for row in rows if (kept := referee.take(row, "r")) is not None]
+        shop, ship = [
+            batch_of(row, kept, "r") for row in rows if (kept := referee.take(row, "r")) is not None
+        ]
 
         async def keep() -> int:
             committer = Committer(Session(referee, PATIENCE), PATIENCE)
             running = asyncio.create_task(committer.run())
             locked = asyncio.create_task(committer.keep(shop))
-            while (kept := await asyncio.wait_for(committer.keep(ship), PATIENCE)).archived == ship.old:
+            while (
+                kept := await asyncio.wait_for(committer.keep(ship), PATIENCE)
+            ).archived == ship.old:
                 pass  # as an archiver does
             self.assertFalse(locked.done())
             session.rollback()
@@ -459,7 +576,9 @@ class Away(unittest.TestCase):
             loop.set_default_executor(ThreadPoolExecutor(1))
             looking = loop.run_in_executor(None, hangs.wait)
             try:
-                return await asyncio.wait_for(Session(referee, PATIENCE).ask(lambda: 1), PATIENCE / 2)
+                return await asyncio.wait_for(
+                    Session(referee, PATIENCE).ask(lambda: 1), PATIENCE / 2
+                )
             finally:
                 hangs.set()
                 await looking
@@ -471,12 +590,32 @@ class Away(unittest.TestCase):
             file, log = Path(folder) / "keeper.toml", Path(folder) / "log"
             file.touch(mode=0o600)
             file.write_text('[archive]\nurl = "postgresql://127.0.0.1:1/none"\n')
-            words = [sys.executable, "-m", "pagelog", "keep", "--name", "a", "--lines", "127.0.0.1:0", "--serve", "127.0.0.1",
-                     "--folder", folder + "/a", "--program", PROGRAM, "--credentials", str(file)]  # fmt: skip
+            words = [
+                sys.executable,
+                "-m",
+                "pagelog",
+                "keep",
+                "--name",
+                "a",
+                "--lines",
+                "127.0.0.1:0",
+                "--serve",
+                "127.0.0.1",
+                "--folder",
+                folder + "/a",
+                "--program",
+                PROGRAM,
+                "--credentials",
+                str(file),
+            ]
             with log.open("w") as errors:
-                process = subprocess.Popen(words, stdout=subprocess.DEVNULL, stderr=errors, env={**os.environ, "PYTHONPATH": str(SOURCE)})
+                process = subprocess.Popen(
+                    words,
+                    stdout=subprocess.DEVNULL,
+                    stderr=errors,
+                    env={**os.environ, "PYTHONPATH": str(SOURCE)},
+                )
             self.addCleanup(process.kill)
             eventually(lambda: "PostgreSQL" in log.read_text(), "a try")
             process.send_signal(signal.SIGTERM)
             self.assertEqual(process.wait(PATIENCE), 0)
-

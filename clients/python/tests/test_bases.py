@@ -24,7 +24,15 @@ from pagelog.errors import ConnectionLost
 from pagelog.keeper.history import begin_again
 from pagelog.keeper.images import MARK
 from pagelog.keeper.loading import Loader
-from pagelog.keeper.referee import BrokenArchive, Doubt, KeeperError, Pruned, Referee, Refused, digest
+from pagelog.keeper.referee import (
+    BrokenArchive,
+    Doubt,
+    KeeperError,
+    Pruned,
+    Referee,
+    Refused,
+    digest,
+)
 from pagelog.keeper.rows import Batch, Kept
 from pagelog.keeper.run import Program
 from pagelog.keeper.schema import VERSION, script
@@ -46,18 +54,37 @@ class Made(Referees):
         self.chance = random.Random(1)
 
     def keep(self, made: list[bytes]) -> None:
-        batch = Batch(self.row.id, "r1", self.kept.generation, self.kept.archived, digest(self.kept.chain, made), tuple(made))
+        batch = Batch(
+            self.row.id,
+            "r1",
+            self.kept.generation,
+            self.kept.archived,
+            digest(self.kept.chain, made),
+            tuple(made),
+        )
         self.assertEqual(self.referee.keep([batch]), {self.row.id})
         self.kept = Kept(batch.new, batch.chain, self.kept.generation)
         self.blocks += made
 
     def write(self, count: int, pages: int = 300) -> None:
         """Archives blocks that change pages here and there."""
-        self.keep([Block.of(self.kept.archived + 1 + at, [Put(self.chance.randrange(pages), self.chance.randrange(8000), b"%d" % at)]).data
-                   for at in range(count)])  # fmt: skip
+        self.keep(
+            [
+                Block.of(
+                    self.kept.archived + 1 + at,
+                    [Put(self.chance.randrange(pages), self.chance.randrange(8000), b"%d" % at)],
+                ).data
+                for at in range(count)
+            ]
+        )
 
     def base(self, chain: bytes | None = None) -> Base:
-        return make_base(self.referee, self.row.id, self.kept.archived, self.kept.chain if chain is None else chain)
+        return make_base(
+            self.referee,
+            self.row.id,
+            self.kept.archived,
+            self.kept.chain if chain is None else chain,
+        )
 
     def pages_of(self, base: Base) -> dict[int, bytes]:
         return {number: page for image in self.bases.images(base) for number, page in image.pages()}
@@ -65,7 +92,9 @@ class Made(Referees):
     def rows(self, table: str = "image") -> list[tuple[int, ...]]:
         column = {"image": "range, base", "block": "lsn", "base": "base", "table": "log"}[table]
         with psycopg.connect(self.url) as connection:
-            return connection.execute(f"SELECT {column} FROM pagelog_{table} ORDER BY {column}").fetchall()
+            return connection.execute(
+                f"SELECT {column} FROM pagelog_{table} ORDER BY {column}"
+            ).fetchall()
 
 
 class Making(Made):
@@ -73,12 +102,19 @@ class Making(Made):
         self.assertEqual((self.base(), self.bases.newest(9)), (NOTHING, NOTHING))
         self.write(500)
         first = self.base()
-        self.assertEqual((first.position, first.chain, self.bases.newest(500), self.bases.newest(499)), (500, self.kept.chain, first, NOTHING))
-        self.assertEqual((self.pages_of(first), first.pages), (pages(self.blocks), len(pages(self.blocks))))
+        self.assertEqual(
+            (first.position, first.chain, self.bases.newest(500), self.bases.newest(499)),
+            (500, self.kept.chain, first, NOTHING),
+        )
+        self.assertEqual(
+            (self.pages_of(first), first.pages), (pages(self.blocks), len(pages(self.blocks)))
+        )
         self.write(20, pages=64)
         self.keep([Block.of(521, [Zero(5), Put(70_000, 0, b"far")]).data])
         second = self.base()
-        self.assertEqual(self.rows(), [(0, 500), (0, 521), (1, 500), (2, 500), (3, 500), (4, 500), (1093, 521)])
+        self.assertEqual(
+            self.rows(), [(0, 500), (0, 521), (1, 500), (2, 500), (3, 500), (4, 500), (1093, 521)]
+        )
         self.assertEqual(self.pages_of(second), pages(self.blocks))
         self.assertEqual(self.pages_of(first), pages(self.blocks[:500]))
         self.assertEqual((self.base(), self.rows("base")), (second, [(500,), (521,)]))
@@ -95,7 +131,10 @@ class Making(Made):
         self.write(50, pages=10)
         base = self.base()
         self.assertEqual(self.pages_of(base), pages(self.blocks))
-        self.assertEqual({number: page for image in replay_of.images(first) for number, page in image.pages()}, pages(self.blocks[:100]))
+        self.assertEqual(
+            {number: page for image in replay_of.images(first) for number, page in image.pages()},
+            pages(self.blocks[:100]),
+        )
 
     def test_no_base_is_made_of_blocks_that_were_not_archived(self) -> None:
         self.write(30)
@@ -107,7 +146,9 @@ class Making(Made):
         self.write(300)
         base = self.base()
         with psycopg.connect(self.url, autocommit=True) as connection:
-            connection.execute("UPDATE pagelog_image SET data = set_byte(data, 9, 255) WHERE range = 2")
+            connection.execute(
+                "UPDATE pagelog_image SET data = set_byte(data, 9, 255) WHERE range = 2"
+            )
             with self.assertRaisesRegex(BrokenArchive, "range 2 at position 300 is damaged"):
                 self.pages_of(base)
             connection.execute("DELETE FROM pagelog_image WHERE range = 2")
@@ -116,7 +157,10 @@ class Making(Made):
 
     def test_a_base_is_laid_where_no_transaction_of_the_vfs_is_under_way(self) -> None:
         def mark(position: int) -> bytes:
-            return Block.of(position, [Put(7, 0, b"p"), Put(0, 0, MARK[-8:] + position.to_bytes(8, "big") + bytes(24))]).data
+            return Block.of(
+                position,
+                [Put(7, 0, b"p"), Put(0, 0, MARK[-8:] + position.to_bytes(8, "big") + bytes(24))],
+            ).data
 
         self.keep([mark(1), *blocks(2, 1), mark(3), *blocks(4, 3)])
         base = self.base()
@@ -124,7 +168,9 @@ class Making(Made):
         self.assertEqual(base.chain, digest(b"", self.blocks[:3]))
         self.keep(list(blocks(7, 5)))
         self.assertEqual(self.base(), base)  # no later transaction has ended
-        self.keep([Block.of(12, [Put(0, 0, MARK[-8:] + (11).to_bytes(8, "big") + bytes(24))]).data])  # another's mark, carried along
+        self.keep(
+            [Block.of(12, [Put(0, 0, MARK[-8:] + (11).to_bytes(8, "big") + bytes(24))]).data]
+        )  # another's mark, carried along
         self.assertEqual(self.base(), base)
         self.keep([mark(13)])
         self.assertEqual(self.base().position, 13)
@@ -137,10 +183,17 @@ class Pruning(Made):
             self.base()
             self.write(10, pages=10)
         last = self.base()
-        self.assertEqual((last.position, [self.bases.oldest_to_keep(keep) for keep in (1, 2, 3, 4, 5)]), (330, [330, 320, 210, 100, 0]))
-        self.assertEqual([self.bases.oldest_to_keep(keep) for keep in ("1 hours", "0 seconds")], [0, 330])
+        self.assertEqual(
+            (last.position, [self.bases.oldest_to_keep(keep) for keep in (1, 2, 3, 4, 5)]),
+            (330, [330, 320, 210, 100, 0]),
+        )
+        self.assertEqual(
+            [self.bases.oldest_to_keep(keep) for keep in ("1 hours", "0 seconds")], [0, 330]
+        )
         self.assertEqual(self.bases.prune(210), 210)
-        self.assertEqual((self.rows("block")[0], self.rows("base")), ((211,), [(210,), (320,), (330,)]))
+        self.assertEqual(
+            (self.rows("block")[0], self.rows("base")), ((211,), [(210,), (320,), (330,)])
+        )
         for base in (210, 320, 330):
             self.assertEqual(self.pages_of(self.bases.newest(base)), pages(self.blocks[:base]))
         self.assertEqual((self.bases.prune(330), len(self.rows())), (120, 5))
@@ -150,7 +203,9 @@ class Pruning(Made):
 
     def test_an_image_that_a_kept_base_needs_is_not_pruned_for_a_later_one(self) -> None:
         for page in (70_000, 5, 70_000):
-            self.keep([Block.of(self.kept.archived + 1, [Put(page, self.kept.archived, b"x")]).data])
+            self.keep(
+                [Block.of(self.kept.archived + 1, [Put(page, self.kept.archived, b"x")]).data]
+            )
             self.base()
         self.bases.prune(2)
         self.assertEqual(self.rows(), [(0, 2), (1093, 1), (1093, 3)])
@@ -185,7 +240,9 @@ class Again(Made):
             self.referee._ask = ask  # type: ignore[method-assign]
 
     def check_none_is_begun(self, position: int, before: str) -> None:
-        with self.assertRaisesRegex(KeeperError, f"position {position} of shop was pruned meanwhile"):
+        with self.assertRaisesRegex(
+            KeeperError, f"position {position} of shop was pruned meanwhile"
+        ):
             self.begin(position, "again", before)
         self.assertTrue(self.is_pruned)
         self.assertIsNone(self.referee.everything().row("again"))
@@ -245,11 +302,18 @@ class Dropped(Made):
             self.referee.table(self.row.id)
 
     def test_one_that_was_broken_off_is_gone_on_with(self) -> None:
-        for word in ("DELETE FROM pagelog_table", "DELETE FROM pagelog_base", "DELETE FROM pagelog_image", "DELETE FROM pagelog_block"):
+        for word in (
+            "DELETE FROM pagelog_table",
+            "DELETE FROM pagelog_base",
+            "DELETE FROM pagelog_image",
+            "DELETE FROM pagelog_block",
+        ):
             self.cut(word)
             self.assertRaises(Doubt, _drop_named, self.referee, "shop", True)
             self.assertGreater(self.left()[-1], 0)
-            self.assertEqual((self.lists("shop"), self.lists(f"shop!{self.row.id}")), (0, 1))  # by the first statement
+            self.assertEqual(
+                (self.lists("shop"), self.lists(f"shop!{self.row.id}")), (0, 1)
+            )  # by the first statement
         _drop_named(self.referee, "shop", True)
         self.assertEqual(self.left(), [0, 0, 0])
         self.assertRaises(SystemExit, _drop_named, self.referee, "shop", True)
@@ -268,37 +332,67 @@ class Dropped(Made):
 class Switches(Made):
     def switch(self, **other: object) -> Switch:
         rest = blocks(self.kept.archived + 1, 2)
-        made = Switch(self.row.id, "r1", self.kept.generation, self.kept.archived, rest, digest(self.kept.chain, rest), 2, "r2", "x:1", -3, 5)
+        made = Switch(
+            self.row.id,
+            "r1",
+            self.kept.generation,
+            self.kept.archived,
+            rest,
+            digest(self.kept.chain, rest),
+            2,
+            "r2",
+            "x:1",
+            -3,
+            5,
+        )
         return replace(made, **other)  # type: ignore[arg-type]
 
     def test_a_switch_is_under_the_fence_of_its_run_and_archives_the_rest(self) -> None:
         self.write(5)
-        self.assertFalse(succeed(self.referee, self.switch()))  # a server that went back has not given its number
+        self.assertFalse(
+            succeed(self.referee, self.switch())
+        )  # a server that went back has not given its number
         self.assertIsNone(number(self.referee, self.row.id, "r9", 1))
         self.assertEqual([number(self.referee, self.row.id, "r1", 1) for _ in range(2)], [2, 3])
-        for wrong in (self.switch(run="r9"), self.switch(generation=9), self.switch(old=4), self.switch(log=99), self.switch(next=4)):
+        for wrong in (
+            self.switch(run="r9"),
+            self.switch(generation=9),
+            self.switch(old=4),
+            self.switch(log=99),
+            self.switch(next=4),
+        ):
             self.assertFalse(succeed(self.referee, wrong))
-        self.assertEqual((self.seen().run, self.seen().archived, len(self.rows("block"))), ("r1", 5, 5))
+        self.assertEqual(
+            (self.seen().run, self.seen().archived, len(self.rows("block"))), ("r1", 5, 5)
+        )
         self.assertTrue(succeed(self.referee, self.switch()))
         seen = self.seen()
-        self.assertEqual((seen.run, seen.generation, seen.address, seen.shift, seen.images), ("r2", 2, "x:1", -3, 5))
-        self.assertEqual((seen.archived, seen.base, seen.chain), (7, 7, digest(self.kept.chain, blocks(6, 2))))
+        self.assertEqual(
+            (seen.run, seen.generation, seen.address, seen.shift, seen.images),
+            ("r2", 2, "x:1", -3, 5),
+        )
+        self.assertEqual(
+            (seen.archived, seen.base, seen.chain), (7, 7, digest(self.kept.chain, blocks(6, 2)))
+        )
         self.assertEqual((self.referee.fate("shop", 1), len(self.rows("block"))), (7, 7))
         self.assertFalse(succeed(self.referee, self.switch()))
         # The old run archives nothing any more, and a take of what was seen before it fails.
         late = Batch(self.row.id, "r1", 1, 7, b"", blocks(8, 1))
         self.assertEqual(self.referee.keep([late]), frozenset())
 
-
     def test_a_release_archives_the_rest_under_the_fence_of_its_run(self) -> None:
         self.write(5)
         rest = tuple(blocks(6, 2))
-        last = Batch(self.row.id, "r1", self.kept.generation, 5, digest(self.kept.chain, rest), rest)
+        last = Batch(
+            self.row.id, "r1", self.kept.generation, 5, digest(self.kept.chain, rest), rest
+        )
         for wrong in (replace(last, run="r9"), replace(last, generation=9), replace(last, old=4)):
             self.assertIsNone(release(self.referee, wrong))
         self.assertEqual(release(self.referee, last), 7)
         seen = self.seen()
-        self.assertEqual((seen.run, seen.archived, seen.chain, len(self.rows("block"))), (None, 7, last.chain, 7))
+        self.assertEqual(
+            (seen.run, seen.archived, seen.chain, len(self.rows("block"))), (None, 7, last.chain, 7)
+        )
 
 
 class Fills(Made):
@@ -307,7 +401,14 @@ class Fills(Made):
     def setUp(self) -> None:
         super().setUp()
         self.served = Served("shop", "r1", WIDE_TABLE, b"s" * 16, timeout=PATIENCE)
-        self.served.start(Program(PROGRAM, "127.0.0.1", Path(self.enterContext(tempfile.TemporaryDirectory())), 100_000))
+        self.served.start(
+            Program(
+                PROGRAM,
+                "127.0.0.1",
+                Path(self.enterContext(tempfile.TemporaryDirectory())),
+                100_000,
+            )
+        )
         self.addCleanup(self.served.end)
         self.pieces: list[tuple[int, int]] = []
         read = Referee._piece
@@ -324,12 +425,20 @@ class Fills(Made):
 
     def test_blocks_that_are_small_or_large_come_in_pieces_of_many_or_few(self) -> None:
         self.keep([Block.of(lsn, [Put(0, 0, b"x" * 80)]).data for lsn in range(1, 41)])
-        self.keep([Block.of(lsn, [Put(page, 0, b"x" * 8000) for page in range(4)]).data for lsn in range(41, 61)])
+        self.keep(
+            [
+                Block.of(lsn, [Put(page, 0, b"x" * 8000) for page in range(4)]).data
+                for lsn in range(41, 61)
+            ]
+        )
         size = sum(map(len, self.blocks[16:56])) + 1
         with patch("pagelog.keeper.ahead._MOST", (40, size)):
             self.follow()
         self.assertEqual(self.pieces, [(1, 16), (17, 56), (57, 60)])
-        self.assertEqual((self.served.reached, self.served.pulled(0), self.served.end_of_log()), (60, self.blocks, 60))
+        self.assertEqual(
+            (self.served.reached, self.served.pulled(0), self.served.end_of_log()),
+            (60, self.blocks, 60),
+        )
 
     def test_no_fill_holds_a_snapshot(self) -> None:
         """A vacuum beside it takes what is deleted meanwhile."""
@@ -341,7 +450,11 @@ class Fills(Made):
 
         def watched(*values: Any) -> int:
             with psycopg.connect(self.url) as connection:
-                seen.extend(connection.execute("SELECT state FROM pg_stat_activity WHERE state LIKE 'idle in%' AND datname = current_database()"))
+                seen.extend(
+                    connection.execute(
+                        "SELECT state FROM pg_stat_activity WHERE state LIKE 'idle in%' AND datname = current_database()"
+                    )
+                )
             return load(*values)
 
         with patch.object(Loader, "load", watched):
@@ -357,27 +470,52 @@ class Fills(Made):
             if self.kept.archived == 60:
                 self.write(40)
                 with closing(Referee(self.url)) as other:
-                    Bases(other, self.row.id).prune(make_base(other, self.row.id, 100, self.kept.chain).position)
+                    Bases(other, self.row.id).prune(
+                        make_base(other, self.row.id, 100, self.kept.chain).position
+                    )
             return load(*values)
 
         kept = self.kept
         with patch.object(Loader, "load", pruned):
-            self.assertRaisesRegex(Pruned, "base at position 60 was pruned", self.served.follow, self.referee, self.row.id, kept.archived, kept.chain)
+            self.assertRaisesRegex(
+                Pruned,
+                "base at position 60 was pruned",
+                self.served.follow,
+                self.referee,
+                self.row.id,
+                kept.archived,
+                kept.chain,
+            )
         self.assertRaises(BrokenArchive, self.follow)  # this one has a part of it
-        self.assertRaisesRegex(Pruned, "blocks 61 to 70 were pruned meanwhile", list, self.referee.blocks(self.row.id, 61, 70))
+        self.assertRaisesRegex(
+            Pruned,
+            "blocks 61 to 70 were pruned meanwhile",
+            list,
+            self.referee.blocks(self.row.id, 61, 70),
+        )
 
     def test_a_block_that_is_missing_or_damaged_leaves_what_was_read_before_it(self) -> None:
         self.write(60)
-        with psycopg.connect(self.url, autocommit=True) as connection, patch("pagelog.keeper.ahead._MOST", (16, 1 << 20)):
-            for harm, mend, error in (("SET lsn = 1000", "SET lsn = 40", "1 of the archived blocks 33 to 48 are missing"),
-                                      ("SET crc = crc + 1", "SET crc = crc - 1", "block 40 is not the one that was kept")):  # fmt: skip
+        with psycopg.connect(self.url, autocommit=True) as connection, patch(
+            "pagelog.keeper.ahead._MOST", (16, 1 << 20)
+        ):
+            for harm, mend, error in (
+                ("SET lsn = 1000", "SET lsn = 40", "1 of the archived blocks 33 to 48 are missing"),
+                ("SET crc = crc + 1", "SET crc = crc - 1", "block 40 is not the one that was kept"),
+            ):
                 connection.execute(f"UPDATE pagelog_block {harm} WHERE lsn = 40")
                 self.assertRaisesRegex(BrokenArchive, error, self.follow)
-                self.assertEqual((self.served.reached, self.served.loaded, self.served.end_of_log()), (0, 32, 32))
+                self.assertEqual(
+                    (self.served.reached, self.served.loaded, self.served.end_of_log()), (0, 32, 32)
+                )
                 connection.execute(f"UPDATE pagelog_block {mend} WHERE lsn IN (40, 1000)")
             right, self.kept = self.kept, replace(self.kept, chain=b"other")
-            self.assertRaisesRegex(BrokenArchive, "the blocks up to 60 are not those that were archived", self.follow)
-            self.assertEqual((self.served.reached, self.served.loaded, self.served.end_of_log()), (0, 60, 60))
+            self.assertRaisesRegex(
+                BrokenArchive, "the blocks up to 60 are not those that were archived", self.follow
+            )
+            self.assertEqual(
+                (self.served.reached, self.served.loaded, self.served.end_of_log()), (0, 60, 60)
+            )
         self.assertNotIn("ahead_0", [thread.name for thread in threading.enumerate()])
 
     def test_a_service_that_ends_amid_leaves_no_read_under_way(self) -> None:
@@ -400,7 +538,9 @@ class Fills(Made):
             self.assertTrue(began.wait(PATIENCE))
             raise ConnectionLost("the service ended the connection")
 
-        with patch.object(Referee, "_piece", slow), patch.object(Loader, "_move", killed), patch("pagelog.keeper.referee.LONGEST", PATIENCE):
+        with patch.object(Referee, "_piece", slow), patch.object(Loader, "_move", killed), patch(
+            "pagelog.keeper.referee.LONGEST", PATIENCE
+        ):
             self.assertRaisesRegex(ConnectionLost, "the service ended", self.follow)
         self.assertTrue(ended.is_set())
         self.follow()  # over another connection
@@ -411,22 +551,41 @@ class Migration(Referees):
     def test_the_tables_of_before_are_taken_on(self) -> None:
         url, old = new_url(), "pagelog_base, pagelog_image"
         with psycopg.connect(url, autocommit=True) as connection:
-            connection.execute(f"DROP TABLE {old}; ALTER TABLE pagelog_standby DROP COLUMN shift, DROP COLUMN images")
-            connection.execute("DROP TABLE pagelog_schema; ALTER TABLE pagelog_log DROP COLUMN identity, DROP COLUMN doubted")
-            connection.execute("ALTER TABLE pagelog_log DROP COLUMN images, DROP COLUMN succeed, DROP COLUMN read_only")
-            connection.execute("ALTER TABLE pagelog_block DROP COLUMN came; ALTER TABLE pagelog_keeper DROP COLUMN began")
-            connection.execute("INSERT INTO pagelog_log (name, format, archived, epoch, chain) VALUES ('shop', 2, 2, 1, 'x')")
-            connection.execute("INSERT INTO pagelog_block (log, lsn, crc, data) VALUES (1, 1, 0, 'x')")
+            connection.execute(
+                f"DROP TABLE {old}; ALTER TABLE pagelog_standby DROP COLUMN shift, DROP COLUMN images"
+            )
+            connection.execute(
+                "DROP TABLE pagelog_schema; ALTER TABLE pagelog_log DROP COLUMN identity, DROP COLUMN doubted"
+            )
+            connection.execute(
+                "ALTER TABLE pagelog_log DROP COLUMN images, DROP COLUMN succeed, DROP COLUMN read_only"
+            )
+            connection.execute(
+                "ALTER TABLE pagelog_block DROP COLUMN came; ALTER TABLE pagelog_keeper DROP COLUMN began"
+            )
+            connection.execute(
+                "INSERT INTO pagelog_log (name, format, archived, epoch, chain) VALUES ('shop', 2, 2, 1, 'x')"
+            )
+            connection.execute(
+                "INSERT INTO pagelog_block (log, lsn, crc, data) VALUES (1, 1, 0, 'x')"
+            )
         referee = Referee(url)
         self.addCleanup(referee.close)
         referee.prepare()
         referee.prepare()
         row = referee.everything().row("shop")
         assert row is not None
-        self.assertEqual((row.archived, row.shift, row.images, row.succeed, row.read_only), (2, 0, 0, False, False))
+        self.assertEqual(
+            (row.archived, row.shift, row.images, row.succeed, row.read_only),
+            (2, 0, 0, False, False),
+        )
         with psycopg.connect(url, autocommit=True) as connection:
-            connection.execute("INSERT INTO pagelog_block (log, lsn, crc, data) VALUES (1, 2, 0, 'x')")
-            came = connection.execute("SELECT lsn, came IS NULL FROM pagelog_block ORDER BY lsn").fetchall()
+            connection.execute(
+                "INSERT INTO pagelog_block (log, lsn, crc, data) VALUES (1, 2, 0, 'x')"
+            )
+            came = connection.execute(
+                "SELECT lsn, came IS NULL FROM pagelog_block ORDER BY lsn"
+            ).fetchall()
             connection.execute(script(0))  # each statement may be repeated
         self.assertEqual(came, [(1, True), (2, False)])
         self.assertRegex(row.identity, "^[0-9a-f-]{36}$")
@@ -435,14 +594,22 @@ class Migration(Referees):
         """It says what to run. Once that is done the role needs no right to make anything; tables of a later version are no hindrance."""
         url = new_url()
         with psycopg.connect(url, autocommit=True) as connection:
-            connection.execute("DROP TABLE pagelog_schema; ALTER TABLE pagelog_log DROP COLUMN identity, DROP COLUMN doubted")
+            connection.execute(
+                "DROP TABLE pagelog_schema; ALTER TABLE pagelog_log DROP COLUMN identity, DROP COLUMN doubted"
+            )
             connection.execute("DROP ROLE IF EXISTS pagelog_limited")
-            connection.execute("CREATE ROLE pagelog_limited LOGIN; GRANT SELECT, INSERT, UPDATE, DELETE ON ALL TABLES IN SCHEMA public TO pagelog_limited")
+            connection.execute(
+                "CREATE ROLE pagelog_limited LOGIN; GRANT SELECT, INSERT, UPDATE, DELETE ON ALL TABLES IN SCHEMA public TO pagelog_limited"
+            )
         limited, owner = Referee(url.replace("pagelog@", "pagelog_limited@")), Referee(url)
         self.addCleanup(limited.close)
         self.addCleanup(owner.close)
         for call in (limited.prepare, limited.everything):
-            self.assertRaisesRegex(Refused, f"tables of version 1, and {VERSION} is needed: run `pagelogctl create` or `keep`", call)
+            self.assertRaisesRegex(
+                Refused,
+                f"tables of version 1, and {VERSION} is needed: run `pagelogctl create` or `keep`",
+                call,
+            )
         owner.prepare()
         with psycopg.connect(url, autocommit=True) as connection:
             connection.execute("INSERT INTO pagelog_schema (version) VALUES (99)")
@@ -468,22 +635,40 @@ class Histories(KeptService):
                         [[time]] = connection.execute("SELECT clock_timestamp()").fetchall()
             row = self.keeping.row()
             make_base(self.keeping.referee, row.id, 7, digest(b"", self.keeping.archive()[:7]))
-            self.assertEqual(self.keeping.word("restore", "shop", "--at", 8, "--as", "eight"), "eight is shop at position 8, for readers\n")
+            self.assertEqual(
+                self.keeping.word("restore", "shop", "--at", 8, "--as", "eight"),
+                "eight is shop at position 8, for readers\n",
+            )
             self.assertIn("shop-5", self.keeping.word("restore", "shop", "--at", time.isoformat()))
             for name, position, base in (("eight", 8, 7), ("shop-5", 5, 0)):
                 eventually(lambda: self.is_told(name), "its place")  # noqa: B023
                 with self.keeping.reader(name) as reader:
-                    self.assertEqual((reader.end(), reader.page(0).data[:4].strip(b"\0")), (position, b"<%d>" % position))
-                    self.assertEqual([block.lsn for block in reader.blocks(base + 1, follow=False)], list(range(base + 1, position + 1)))
+                    self.assertEqual(
+                        (reader.end(), reader.page(0).data[:4].strip(b"\0")),
+                        (position, b"<%d>" % position),
+                    )
+                    self.assertEqual(
+                        [block.lsn for block in reader.blocks(base + 1, follow=False)],
+                        list(range(base + 1, position + 1)),
+                    )
                 with self.assertRaises(Exception), self.keeping.primary(name) as writer:
                     writer.keepers.patience = 1.0
                     self.commit(writer, "none")
-            self.assertIn("pruned 7 blocks: positions from 7 on are kept\n", self.keeping.word("prune", "shop", "--keep", 1, "--yes"))
+            self.assertIn(
+                "pruned 7 blocks: positions from 7 on are kept\n",
+                self.keeping.word("prune", "shop", "--keep", 1, "--yes"),
+            )
             for at in ("6", time.isoformat(), "11", "then"):
                 with self.assertRaisesRegex(AssertionError, "kept|neither a position nor a time"):
                     self.keeping.word("restore", "shop", "--at", at)
             with self.assertRaisesRegex(AssertionError, "there is a database eight"):
                 self.keeping.word("restore", "shop", "--at", 9, "--as", "eight")
             kept = [json.loads(line) for line in self.keeping.word("kept", "--json").splitlines()]
-            facts = {each["name"]: (each["oldest"], each["base"], each["archived"], each["read_only"]) for each in kept}
-            self.assertEqual(facts, {"shop": (7, 7, 10, False), "eight": (7, 7, 8, True), "shop-5": (0, 0, 5, True)})
+            facts = {
+                each["name"]: (each["oldest"], each["base"], each["archived"], each["read_only"])
+                for each in kept
+            }
+            self.assertEqual(
+                facts,
+                {"shop": (7, 7, 10, False), "eight": (7, 7, 8, True), "shop-5": (0, 0, 5, True)},
+            )

@@ -32,7 +32,9 @@ from test_meanwhile import RELEASED, ROW, Meanwhile, service
 class Fills(Meanwhile):
     async def test_what_a_look_shows_while_it_is_opened_is_not_undone(self) -> None:
         """It was taken with its place told, so that no statement finds out who has it by now."""
-        loop, seen = asyncio.get_running_loop(), replace(ROW, run="other", holder="b", generation=4, address="b:1")
+        loop, seen = asyncio.get_running_loop(), replace(
+            ROW, run="other", holder="b", generation=4, address="b:1"
+        )
         self.database.served = served = service(is_open=False)
 
         def opened() -> None:
@@ -42,7 +44,9 @@ class Fills(Meanwhile):
             served.is_open = True
 
         served.open = opened
-        self.session.ask = AsyncMock(side_effect=lambda call, *_: True if call is self.session.referee.knows else None)
+        self.session.ask = AsyncMock(
+            side_effect=lambda call, *_: True if call is self.session.referee.knows else None
+        )
         with patch.object(Ending, "end", new=AsyncMock(return_value=False)) as end:
             self.see()
             await self.done(lambda: end.await_count)
@@ -51,7 +55,11 @@ class Fills(Meanwhile):
     async def test_one_that_failed_tries_again_after_a_ttl_whatever_another_does(self) -> None:
         takes, now = self.failing(), [0.0]
         with patch("pagelog.keeper.database.seconds", lambda: now[0]):
-            for now[0], generation, taken in ((1.0, 0, [0]), (2.0, 2, [0]), (3.0 + PATIENCE, 4, [0, 4])):
+            for now[0], generation, taken in (
+                (1.0, 0, [0]),
+                (2.0, 2, [0]),
+                (3.0 + PATIENCE, 4, [0, 4]),
+            ):
                 self.see(replace(RELEASED, generation=generation))
                 await self.done(lambda: self.database._acting.done())  # type: ignore[union-attr]
                 self.assertEqual(takes, taken)
@@ -91,24 +99,33 @@ class Fills(Meanwhile):
         self.enterContext(patch.object(Database, "new_served", new=AsyncMock(side_effect=made)))
         return takes
 
-
     async def test_one_that_is_filled_while_postgresql_is_away_goes_on_with_it(self) -> None:
         self.database.served = served = service(reached=0, is_open=False)
         with patch.object(Shared, "fill", new=AsyncMock(side_effect=(Away("gone"), None))) as fill:
             for count in (1, 2):
                 self.see(replace(ROW, address=None))
                 await self.done(lambda: self.database._acting.done())  # type: ignore[union-attr]
-                self.assertEqual((fill.await_count, self.database.served, served.is_broken), (count, served, False))
+                self.assertEqual(
+                    (fill.await_count, self.database.served, served.is_broken),
+                    (count, served, False),
+                )
         self.assertTrue(served.open.called)
 
-    async def test_one_that_is_refused_what_fills_it_while_the_looks_go_through_is_released_after_a_ttl(self) -> None:
+    async def test_one_that_is_refused_what_fills_it_while_the_looks_go_through_is_released_after_a_ttl(
+        self,
+    ) -> None:
         """Its keeper beats, so that nobody else would take the database over."""
-        for looks, last in ((range(9), 5), ((*range(4), *range(90, 99)), 94)):  # by quarters of a ttl; in between it was away
+        for looks, last in (
+            (range(9), 5),
+            ((*range(4), *range(90, 99)), 94),
+        ):  # by quarters of a ttl; in between it was away
             self.setUp()
             self.database.served = served = service(reached=0, loaded=0, is_open=False)
             type(served).is_alive = property(lambda of: not of.is_broken)
             refused, now = Away("too many connections for role"), 0.0
-            with patch("pagelog.keeper.database.seconds", lambda: now), patch.object(Shared, "fill", new=AsyncMock(side_effect=refused)):
+            with patch("pagelog.keeper.database.seconds", lambda: now), patch.object(
+                Shared, "fill", new=AsyncMock(side_effect=refused)
+            ):
                 for look in looks:
                     now = look * PATIENCE / 4
                     self.see(replace(ROW, address=None))
@@ -152,7 +169,9 @@ class ReadsAhead(unittest.TestCase):
 
     def test_what_fails_comes_behind_what_was_read_before(self) -> None:
         found, cut = [], Mock()
-        with self.assertRaisesRegex(Doubt, "cut"), ahead(self.pieces(3, Doubt("cut")), cut) as pieces:
+        with self.assertRaisesRegex(Doubt, "cut"), ahead(
+            self.pieces(3, Doubt("cut")), cut
+        ) as pieces:
             for piece in pieces:
                 found += piece
         self.assertEqual((found, cut.called), ([0, 1, 2], False))
@@ -166,7 +185,9 @@ class ReadsAhead(unittest.TestCase):
             if was_cut.wait(PATIENCE):
                 raise Doubt("what the cut one says is no news")
 
-        with self.assertRaisesRegex(PagelogError, "the service ended"), ahead(read(), was_cut.set) as pieces:
+        with self.assertRaisesRegex(PagelogError, "the service ended"), ahead(
+            read(), was_cut.set
+        ) as pieces:
             self.assertEqual(next(pieces), [0])
             self.assertTrue(hangs.wait(PATIENCE))
             raise PagelogError("the service ended")
@@ -180,7 +201,9 @@ class Adopts(Meanwhile):
     def setUp(self) -> None:
         super().setUp()
         folder = Path(self.enterContext(tempfile.TemporaryDirectory()))
-        self.shared.settings = Settings.of("a", "", "", folder, "", "", {"standby": False, "ttl": PATIENCE})
+        self.shared.settings = Settings.of(
+            "a", "", "", folder, "", "", {"standby": False, "ttl": PATIENCE}
+        )
         self.process = subprocess.Popen(["sleep", "600"])
         self.addCleanup(self.process.wait)
         self.addCleanup(self.process.kill)
@@ -188,7 +211,10 @@ class Adopts(Meanwhile):
         (folder / facts.file_name).write_text(json.dumps(vars(facts)))
 
     async def test_what_postgresql_does_not_answer_leaves_no_descriptor_open(self) -> None:
-        answers = {self.session.referee.table: TableOf("", b"", 1), self.session.referee.kept: Kept(5, b"c" * 16, 3)}
+        answers = {
+            self.session.referee.table: TableOf("", b"", 1),
+            self.session.referee.kept: Kept(5, b"c" * 16, 3),
+        }
 
         async def ask(call: object, *_: object) -> object:
             if call is away:
@@ -203,13 +229,23 @@ class Adopts(Meanwhile):
                 open_before = os.listdir("/proc/self/fd")
                 self.see(row)
                 await self.done(lambda: self.database._acting.done())  # type: ignore[union-attr]
-                self.assertEqual((self.said[-1], os.listdir("/proc/self/fd")), ("adopt: gone", open_before))
+                self.assertEqual(
+                    (self.said[-1], os.listdir("/proc/self/fd")), ("adopt: gone", open_before)
+                )
 
     async def test_one_that_was_taken_over_meanwhile_is_ended_once_a_look_shows_it(self) -> None:
-        for left in (replace(ROW, run="other", generation=4, holder="b", address="b:1"), replace(ROW, run=None, holder=None, address=None)):
+        for left in (
+            replace(ROW, run="other", generation=4, holder="b", address="b:1"),
+            replace(ROW, run=None, holder=None, address=None),
+        ):
             self.setUp()
-            answers = {self.session.referee.table: TableOf("", b"", 1), self.session.referee.knows: True}
-            self.session.ask = AsyncMock(side_effect=lambda call, *_, answers=answers: answers.get(call))
+            answers = {
+                self.session.referee.table: TableOf("", b"", 1),
+                self.session.referee.knows: True,
+            }
+            self.session.ask = AsyncMock(
+                side_effect=lambda call, *_, answers=answers: answers.get(call)
+            )
             self.see()
             await self.done(lambda: self.database._acting.done())  # type: ignore[union-attr]
             self.assertIsNone(self.process.poll())
@@ -217,7 +253,11 @@ class Adopts(Meanwhile):
             await self.done(lambda: self.process.poll() is not None)
 
     async def test_one_that_postgresql_knows_no_more_is_not_ended(self) -> None:
-        self.session.ask = AsyncMock(side_effect=lambda call, *_: TableOf("", b"", 1) if call is self.session.referee.table else None)
+        self.session.ask = AsyncMock(
+            side_effect=lambda call, *_: TableOf("", b"", 1)
+            if call is self.session.referee.table
+            else None
+        )
         self.see()
         await self.done(lambda: self.database._acting.done())  # type: ignore[union-attr]
         self.see(replace(ROW, run="other", generation=2, archived=4, holder="b", address="b:1"))
@@ -226,17 +266,27 @@ class Adopts(Meanwhile):
 
 
 class Continues(Meanwhile):
-    async def test_one_with_an_older_table_has_the_newest_before_it_holds_the_database_again(self) -> None:
+    async def test_one_with_an_older_table_has_the_newest_before_it_holds_the_database_again(
+        self,
+    ) -> None:
         for number, renewed in ((1, True), (2, False)):
             self.setUp()
             newest, order = TableOf("two", b"s", 2), list[object]()
             self.database.served = served = service(table_number=number)
             served.renew.side_effect = order.append
             served.continues.return_value = ROW.archived, ROW.chain
-            self.session.ask = AsyncMock(side_effect=lambda call, *_, newest=newest, order=order: newest if call is self.session.referee.table
-                                         else order.append(call))  # fmt: skip
+            self.session.ask = AsyncMock(
+                side_effect=lambda call, *_, newest=newest, order=order: newest
+                if call is self.session.referee.table
+                else order.append(call)
+            )
             self.assertFalse(await self.database.beginning.continue_run())
-            self.assertEqual(order, [newest, self.session.referee.continue_run] if renewed else [self.session.referee.continue_run])
+            self.assertEqual(
+                order,
+                [newest, self.session.referee.continue_run]
+                if renewed
+                else [self.session.referee.continue_run],
+            )
 
 
 class StandsBy(Meanwhile):
@@ -245,7 +295,9 @@ class StandsBy(Meanwhile):
     TRIES = ((0.0, 1), (0.24, 1), (0.25, 2), (0.7, 2), (0.75, 3), (1.7, 3), (1.75, 4))
     """At these parts of a ttl it was tried so often: with the next look, and not before, and then more and more seldom."""
 
-    async def test_one_that_could_not_be_started_is_tried_again_with_the_next_look_and_more_and_more_seldom(self) -> None:
+    async def test_one_that_could_not_be_started_is_tried_again_with_the_next_look_and_more_and_more_seldom(
+        self,
+    ) -> None:
         for error in (NotStarted("no"), RuntimeError("can't start new thread")):
             self.setUp()
             made = service(run="new", kind=Kind.HOLDER, process=None, reached=0)
@@ -260,34 +312,64 @@ class StandsBy(Meanwhile):
                 await self.done(lambda: self.database._acting.done())  # type: ignore[union-attr]
             self.assertEqual((new.await_count, self.database.served), (count, None))
 
-    async def test_one_that_cannot_be_filled_is_tried_again_with_the_next_look_and_more_and_more_seldom(self) -> None:
-        with patch.object(Database, "new_served", new=AsyncMock(side_effect=lambda _: service(run="new", reached=0))) as new:
+    async def test_one_that_cannot_be_filled_is_tried_again_with_the_next_look_and_more_and_more_seldom(
+        self,
+    ) -> None:
+        with patch.object(
+            Database,
+            "new_served",
+            new=AsyncMock(side_effect=lambda _: service(run="new", reached=0)),
+        ) as new:
             with patch.object(Shared, "fill", new=AsyncMock(side_effect=PagelogError("broken"))):
                 await self.is_tried(new)
 
     async def test_one_that_lacks_blocks_while_postgresql_is_away_goes_on_with_them(self) -> None:
-        for fresh in (service(run="new", reached=0), service(run="new", kind=Kind.STANDBY, reached=2, is_noted=True)):
+        for fresh in (
+            service(run="new", reached=0),
+            service(run="new", kind=Kind.STANDBY, reached=2, is_noted=True),
+        ):
             for away in (Away("gone"), Doubt("cut")):
                 self.setUp()
                 self.database.served = fresh if fresh.is_noted else None
                 with patch.object(Database, "new_served", new=AsyncMock(return_value=fresh)) as new:
-                    with patch.object(Shared, "fill", new=AsyncMock(side_effect=(away, None))) as fill:
+                    with patch.object(
+                        Shared, "fill", new=AsyncMock(side_effect=(away, None))
+                    ) as fill:
                         for count in (1, 2):
                             self.see(self.OTHER, is_noted=fresh.is_noted)
                             await self.done(lambda: self.database._acting.done())  # type: ignore[union-attr]
-                            self.assertEqual((fill.await_count, self.database.served), (count, fresh))
+                            self.assertEqual(
+                                (fill.await_count, self.database.served), (count, fresh)
+                            )
                 self.assertLessEqual(new.await_count, 1)
                 fresh.process.end.assert_not_called()
 
-    async def test_one_that_lacks_blocks_that_postgresql_has_lost_since_the_look_is_kept(self) -> None:
+    async def test_one_that_lacks_blocks_that_postgresql_has_lost_since_the_look_is_kept(
+        self,
+    ) -> None:
         for has_gone_back in (True, False):
             self.setUp()
-            self.database.served = served = service(run="new", kind=Kind.STANDBY, reached=2, is_noted=True)
-            self.session.ask = AsyncMock(side_effect=lambda call, *_, gone=has_gone_back: gone if call is self.session.referee.lacks else None)
-            with patch.object(Shared, "fill", new=AsyncMock(side_effect=PagelogError("2 of the archived blocks 1 to 2 are missing"))):
+            self.database.served = served = service(
+                run="new", kind=Kind.STANDBY, reached=2, is_noted=True
+            )
+            self.session.ask = AsyncMock(
+                side_effect=lambda call, *_, gone=has_gone_back: gone
+                if call is self.session.referee.lacks
+                else None
+            )
+            with patch.object(
+                Shared,
+                "fill",
+                new=AsyncMock(
+                    side_effect=PagelogError("2 of the archived blocks 1 to 2 are missing")
+                ),
+            ):
                 self.see(self.OTHER, is_noted=True)
                 await self.done(lambda: self.database._acting.done())  # type: ignore[union-attr]
-            self.assertEqual((self.database.served, served.is_broken), (served, False) if has_gone_back else (None, True))
+            self.assertEqual(
+                (self.database.served, served.is_broken),
+                (served, False) if has_gone_back else (None, True),
+            )
 
     async def test_one_whose_note_is_gone_is_noted_again(self) -> None:
         self.database.served = service(run="new", kind=Kind.STANDBY, is_noted=True)

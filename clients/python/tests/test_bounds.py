@@ -15,10 +15,20 @@ from unittest.mock import Mock, patch
 import pagelog
 from pagelog import Block, Connection, Put
 from pagelog.archive import Archive
-from pagelog.archiving import Archiver
+from pagelog.archive.archiving import Archiver
 from pagelog.dialing import dial
 from pagelog.reply import Blocks, Denied, Done, Entries, Entry, Page, Reply, State, encode_reply
-from pagelog.request import Audit, Head, Operation, Pull, Request, Role, Status, Write, decode_request
+from pagelog.request import (
+    Audit,
+    Head,
+    Operation,
+    Pull,
+    Request,
+    Role,
+    Status,
+    Write,
+    decode_request,
+)
 from service import PATIENCE, Service, accept_each, put, token
 
 Answer = Callable[[Request], "Reply | bytes | None"]
@@ -49,7 +59,9 @@ class Peer:
                     if found is None:
                         continue
                     body = found if isinstance(found, bytes) else encode_reply(found)
-                    client.sendall(body if isinstance(found, bytes) else len(body).to_bytes(4, "big") + body)
+                    client.sendall(
+                        body if isinstance(found, bytes) else len(body).to_bytes(4, "big") + body
+                    )
             except OSError:
                 pass
 
@@ -70,7 +82,12 @@ class Hostile(unittest.TestCase):
         peer = self.peer(rising())
         operator = self.enterContext(pagelog.Operator.at(peer.address, 1, token(1)))
         reader = self.enterContext(peer.reader())
-        for asks in (operator.status, lambda: operator.failover(2, epoch=None), lambda: reader.span(1), reader.status):
+        for asks in (
+            operator.status,
+            lambda: operator.failover(2, epoch=None),
+            lambda: reader.span(1),
+            reader.status,
+        ):
             before = peer.asked
             with self.assertRaises(pagelog.UnexpectedReply):
                 asks()
@@ -115,7 +132,9 @@ class Hostile(unittest.TestCase):
             for side in (socket.SO_RCVBUF, socket.SO_SNDBUF):
                 listener.setsockopt(socket.SOL_SOCKET, side, 1 << 16)
             accept_each(listener, serve)
-            with Connection(f"127.0.0.1:{listener.getsockname()[1]}", timeout=PATIENCE, reply_timeout=PATIENCE) as connection:
+            with Connection(
+                f"127.0.0.1:{listener.getsockname()[1]}", timeout=PATIENCE, reply_timeout=PATIENCE
+            ) as connection:
                 self.assertEqual(sum(1 for _ in connection.exchange(asked, in_flight=count)), count)
 
     def test_a_peer_that_is_silent_for_less_than_the_time_out(self) -> None:
@@ -125,7 +144,11 @@ class Hostile(unittest.TestCase):
                 reader.status()
 
     def test_a_status_of_a_log_of_two_to_the_forty(self) -> None:
-        peer = self.peer(lambda request: State(1, 2, 1 << 40, 0, 0) if isinstance(request.act, Status) else Done())
+        peer = self.peer(
+            lambda request: State(1, 2, 1 << 40, 0, 0)
+            if isinstance(request.act, Status)
+            else Done()
+        )
         with pagelog.PageServer.at(peer.address, 4, token(4)) as server:
             tracemalloc.start()
             self.assertEqual(server.step(), 1 << 20)
@@ -135,9 +158,15 @@ class Hostile(unittest.TestCase):
             self.assertEqual((peer.asked, server.applied), (1 + 1024, 1 << 20))
 
     def test_a_pull_of_millions_of_blocks_without_records(self) -> None:
-        peer = self.peer(lambda request: Blocks((1 << 26) + 1, ()) if isinstance(request.act, Pull) else State(1, 2, 1 << 26, 0, 0))
+        peer = self.peer(
+            lambda request: Blocks((1 << 26) + 1, ())
+            if isinstance(request.act, Pull)
+            else State(1, 2, 1 << 26, 0, 0)
+        )
         folder = Path(self.enterContext(tempfile.TemporaryDirectory()))
-        with peer.reader() as reader, Archive(f"sqlite:///{folder}/archive.db", create=True) as archive:
+        with peer.reader() as reader, Archive(
+            f"sqlite:///{folder}/archive.db", create=True
+        ) as archive:
             archiver = Archiver(reader, archive)
             tracemalloc.start()
             self.assertEqual(len(archiver.step()), 4096)
@@ -161,7 +190,7 @@ class Hostile(unittest.TestCase):
             (Entries((entry,)), lambda reader: reader.answers([Audit(8)])),
             (Entries((entry, entry)), lambda reader: reader.answers([Audit(9)])),
             (Entries((entry,) * 2), lambda reader: reader.answers([Audit(9, 1)])),
-        ]  # fmt: skip
+        ]
         for reply, asks in cases:
             with self.subTest(reply), self.peer(lambda _, reply=reply: reply).reader() as reader:
                 with self.assertRaises(pagelog.UnexpectedReply):
@@ -171,16 +200,22 @@ class Hostile(unittest.TestCase):
                     asks(reader)
                 self.assertEqual(reader.connection.connects, 2)
         good: Iterable[tuple[Reply, Callable[[pagelog.Reader], object]]] = (
-            (Page(5, page), lambda reader: reader.page(0, 5)), (Page(9, page), lambda reader: reader.page(0, 5, exact=False)),
-            (Blocks(6, (block,)), lambda reader: reader.pull(5)), (State(1, 2, 3, 0, 0), lambda reader: reader.status()),
-        )  # fmt: skip
+            (Page(5, page), lambda reader: reader.page(0, 5)),
+            (Page(9, page), lambda reader: reader.page(0, 5, exact=False)),
+            (Blocks(6, (block,)), lambda reader: reader.pull(5)),
+            (State(1, 2, 3, 0, 0), lambda reader: reader.status()),
+        )
         for reply, asks in good:
             with self.subTest(reply), self.peer(lambda _, reply=reply: reply).reader() as reader:
                 asks(reader)
                 self.assertTrue(reader.connection.is_open)
 
     def test_a_fault_of_a_table_that_there_is_not(self) -> None:
-        for value, fault in ((99, None), (12, pagelog.TableFault.NOBODY_MAY_SET_THE_TABLE), (0, None)):
+        for value, fault in (
+            (99, None),
+            (12, pagelog.TableFault.NOBODY_MAY_SET_THE_TABLE),
+            (0, None),
+        ):
             self.assertIs(pagelog.NoTable(pagelog.Section.C, 7, value).fault, fault)
 
 
@@ -225,10 +260,14 @@ class OtherThreadsAndProcesses(unittest.TestCase):
                 return made(*arguments)
 
             made = dial
-            with patch("pagelog.connection.dial", late), self.assertRaisesRegex(pagelog.ConnectionLost, "another thread"):
+            with patch("pagelog.connection.dial", late), self.assertRaisesRegex(
+                pagelog.ConnectionLost, "another thread"
+            ):
                 reader.status()
             refused = Mock(side_effect=ConnectionRefusedError)
-            with patch("pagelog.connection.dial", refused), patch("pagelog.connection.time.sleep", close):
+            with patch("pagelog.connection.dial", refused), patch(
+                "pagelog.connection.time.sleep", close
+            ):
                 self.assertRaisesRegex(pagelog.ConnectionLost, "another thread", reader.status)
             self.assertEqual((refused.call_count, peer.asked), (1, 0))
             self.assertEqual(reader.status().hard, 3)
@@ -264,7 +303,9 @@ class OtherThreadsAndProcesses(unittest.TestCase):
             service.restart()
             with self.assertLogs("pagelog", "INFO") as logs:
                 reader.status()
-            self.assertRegex("\n".join(logs.output), "connecting again in .*\n.*connected again, for the 2. time")
+            self.assertRegex(
+                "\n".join(logs.output), "connecting again in .*\n.*connected again, for the 2. time"
+            )
 
 
 if __name__ == "__main__":

@@ -38,8 +38,18 @@ class ByRows(Old):
         """Takes it, and archives blocks behind what it has."""
         kept = self.referee.take(row, f"run of {row.name}")
         assert kept is not None
-        made = [Block.of(kept.archived + 1 + at, [Put(at, 0, b"of the branch %d" % at)]).data for at in range(count)]
-        batch = Batch(row.id, f"run of {row.name}", kept.generation, kept.archived, digest(kept.chain, made), tuple(made))
+        made = [
+            Block.of(kept.archived + 1 + at, [Put(at, 0, b"of the branch %d" % at)]).data
+            for at in range(count)
+        ]
+        batch = Batch(
+            row.id,
+            f"run of {row.name}",
+            kept.generation,
+            kept.archived,
+            digest(kept.chain, made),
+            tuple(made),
+        )
         self.assertEqual(self.referee.keep([batch]), {row.id})
         return made
 
@@ -55,10 +65,15 @@ class ByRows(Old):
             self.assertTrue(branch(self.reader, self.row_now(), position, f"b{position}"))
             self.assertFalse(branch(self.reader, self.row_now(), position, f"b{position}"))
             row = self.row_of(f"b{position}")
-            self.assertEqual((row.archived, row.chain, row.read_only, row.ancestor), (position, digest(b"", self.made[:position]), False, "shop"))
+            self.assertEqual(
+                (row.archived, row.chain, row.read_only, row.ancestor),
+                (position, digest(b"", self.made[:position]), False, "shop"),
+            )
             branches[row.name] = self.made[:position]
         self.assertEqual(sorted(self.folder.rglob("*")), files)  # no byte is copied
-        self.assertEqual(len({self.row_of(name).identity for name in branches} | {self.row.identity}), 6)
+        self.assertEqual(
+            len({self.row_of(name).identity for name in branches} | {self.row.identity}), 6
+        )
         for name, known in branches.items():
             known += self.write_to(self.row_of(name), 250)
         self.write(200)
@@ -96,10 +111,15 @@ class ByRows(Old):
         second = make_base(self.reader, trial.id, trial.archived, trial.chain)
         self.move_of(trial)
         self.assertEqual(pages_of(Bases(self.reading(), trial.id), second), pages(made))
-        stored = self.reader._ask("SELECT base, is_stored FROM pagelog_base WHERE log = %s ORDER BY base", (trial.id,))
+        stored = self.reader._ask(
+            "SELECT base, is_stored FROM pagelog_base WHERE log = %s ORDER BY base", (trial.id,)
+        )
         self.assertEqual(stored, [(625, True), (680, True)])
-        numbers = self.reader._ask("SELECT number, count(*) FROM pagelog_pack WHERE log = %s GROUP BY number ORDER BY number", (trial.id,))
-        self.assertEqual(numbers, [(1, 1), (2, 1)])
+        numbers = self.reader._ask(
+            "SELECT number, count(*) FROM pagelog_pack WHERE log = %s GROUP BY number ORDER BY number",
+            (trial.id,),
+        )
+        self.assertEqual(numbers, [(1, 1), (3, 1)])  # a manifest has one, too
         self.assertTrue(self.reader.drop("shop"))
         sweep(self.reader, self.store, 0.0)
         self.assertEqual(pages_of(Bases(self.reading(), trial.id), second), pages(made))
@@ -131,13 +151,18 @@ class ByRows(Old):
     def check_all(self, branches: dict[str, list[bytes]]) -> None:
         for name, wanted in branches.items():
             row = self.row_of(name)
-            self.assertEqual((self.read(row.id, row.archived), row.chain), (wanted, digest(b"", wanted)), name)
+            self.assertEqual(
+                (self.read(row.id, row.archived), row.chain), (wanted, digest(b"", wanted)), name
+            )
 
     def test_a_branch_reads_little_whatever_is_below_it(self) -> None:
         """One object at most, or what PostgreSQL has behind the last one."""
         asked: list[str] = []
         get = self.store.get
-        with patch("pagelog.store.place.Folder.get", lambda _, key, *part: (asked.append(key), get(key, *part))[1]):
+        with patch(
+            "pagelog.store.place.Folder.get",
+            lambda _, key, *part: (asked.append(key), get(key, *part))[1],
+        ):
             for position, most in ((625, 0), (600, 2), (self.border, 1), (self.border + 5, 1 + 2)):
                 asked.clear()
                 reader = self.reading()
@@ -150,20 +175,34 @@ class ByRows(Old):
         """SQLite writes the own name of a branch some time after it began: a branch or a copy of that one has either."""
 
         def named(position: int, name: bytes) -> bytes:
-            return Block.of(position, [Put(0, 40, bytes((len(name),)) + name), Put(0, 0, b"mark")]).data
+            return Block.of(
+                position, [Put(0, 40, bytes((len(name),)) + name), Put(0, 0, b"mark")]
+            ).data
 
         self.keep([named(626, b"shop"), Block.of(627, [Put(3, 0, b"x")]).data])
         self.assertTrue(branch(self.reader, self.row_now(), 627, "one"))
         one = self.row_of("one")
         kept = self.referee.take(one, "r")
         assert kept is not None
-        made = [Block.of(628, [Put(4, 0, b"y")]).data, named(629, b"one"), Block.of(630, [Put(4, 0, b"z")]).data]
-        self.assertEqual(self.referee.keep([Batch(one.id, "r", kept.generation, 627, digest(kept.chain, made), tuple(made))]), {one.id})
+        made = [
+            Block.of(628, [Put(4, 0, b"y")]).data,
+            named(629, b"one"),
+            Block.of(630, [Put(4, 0, b"z")]).data,
+        ]
+        self.assertEqual(
+            self.referee.keep(
+                [Batch(one.id, "r", kept.generation, 627, digest(kept.chain, made), tuple(made))]
+            ),
+            {one.id},
+        )
         one = self.row_of("one")
         for position, name in ((628, "shop"), (629, "one"), (630, "one")):
             self.assertTrue(branch(self.reader, one, position, f"two-{position}"))
             self.assertTrue(begin_again(self.reader, one, position, f"copy-{position}"))
-            self.assertEqual([self.row_of(f"{kind}-{position}").ancestor for kind in ("two", "copy")], [name, name])
+            self.assertEqual(
+                [self.row_of(f"{kind}-{position}").ancestor for kind in ("two", "copy")],
+                [name, name],
+            )
 
 
 class Opened(KeptService):
@@ -182,14 +221,22 @@ class Opened(KeptService):
         self.keeping.word("branch", "shop", "trial", "--at", position)
         other = self.keeping.folder / "other.toml"
         other.write_text(WIDE_TABLE.replace(token(2), "77" * 16))
-        self.assertIn("may be written", self.keeping.word("branch", "shop", "denied", "--table", other))
+        self.assertIn(
+            "may be written", self.keeping.word("branch", "shop", "denied", "--table", other)
+        )
         for name in ("trial", "denied"):
-            eventually(lambda: self.keeping.row(name).address is not None, "its place")  # noqa: B023
+            eventually(
+                lambda: self.keeping.row(name).address is not None, "its place"
+            )  # noqa: B023
         with closing(connected(self.keeping.addresses, name="trial", file="trial")) as branch_of:
-            self.assertEqual(branch_of.execute("select n from t").fetchone(), (7,))  # a table that was dropped is there again
+            self.assertEqual(
+                branch_of.execute("select n from t").fetchone(), (7,)
+            )  # a table that was dropped is there again
             for number in range(300):  # until it has written its own name
                 branch_of.execute("insert or replace into t values(?)", (number % 9,))
-        with closing(connected(self.keeping.addresses, id=3, name="trial", file="trial", mode="ro")) as reader:
+        with closing(
+            connected(self.keeping.addresses, id=3, name="trial", file="trial", mode="ro")
+        ) as reader:
             self.assertEqual(reader.execute("select count(*) from t").fetchone(), (9,))
             self.assertEqual(reader.execute("pragma integrity_check").fetchone(), ("ok",))
         with closing(connected(self.keeping.addresses, id=3, mode="ro")) as reader:
@@ -197,5 +244,7 @@ class Opened(KeptService):
         with self.keeping.primary("denied") as primary:
             primary.append(Put(0, 0, b"x"))
             self.assertRaises(WrongToken, primary.commit)
-        result = CliRunner().invoke(pagelogctl, ["branch", "shop", "trial", "--credentials", str(self.keeping.file)])
+        result = CliRunner().invoke(
+            pagelogctl, ["branch", "shop", "trial", "--credentials", str(self.keeping.file)]
+        )
         self.assertIn("there is a database trial", result.output)

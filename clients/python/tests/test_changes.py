@@ -38,7 +38,15 @@ from pagelog.keeper.switch import Switch, has_begun, number, succeed
 from pagelog.keeper.table import TableError, token_of
 from pagelog.place import WrongToken
 from pagelog.rules import UnknownPrincipal
-from pagelog.table_editing import changed_tokens, unused_id, with_beside, with_token, with_tokens_of, without_principal, without_tokens
+from pagelog.table_editing import (
+    changed_tokens,
+    unused_id,
+    with_beside,
+    with_token,
+    with_tokens_of,
+    without_principal,
+    without_tokens,
+)
 from service import PATIENCE, WIDE_TABLE, Service, token
 from sqlite_named import connected, error_of
 from test_referee import Referees
@@ -54,10 +62,16 @@ class Statements(Referees):
 
     def test_a_table_is_changed_by_who_knows_the_newest_one(self) -> None:
         row = self.seen()
-        self.assertEqual((row.table_number, row.run_table, self.referee.table(row.id).number), (1, 1, 1))
+        self.assertEqual(
+            (row.table_number, row.run_table, self.referee.table(row.id).number), (1, 1, 1)
+        )
         self.assertEqual(self.change("two"), 2)
         self.assertIsNone(self.change("three"))
-        self.assertIsNone(self.referee.set_table(replace(row, identity="00000000-0000-0000-0000-000000000000"), "three", 2))
+        self.assertIsNone(
+            self.referee.set_table(
+                replace(row, identity="00000000-0000-0000-0000-000000000000"), "three", 2
+            )
+        )
         self.assertIsNone(self.referee.set_table(replace(row, id=99), "three", 2))
         newest = self.referee.table(row.id)
         self.assertEqual((newest.text, newest.secret, newest.number), ("two", b"s" * 16, 2))
@@ -65,7 +79,9 @@ class Statements(Referees):
         self.assertEqual(self.seen().table_number, 3)
         # A keeper that knows a newer one than a PostgreSQL that went back puts it there again, if that is the same database.
         five = TableOf("five", b"s" * 16, 5)
-        self.assertFalse(self.referee.put_table_back(row.id, "00000000-0000-0000-0000-000000000000", five))
+        self.assertFalse(
+            self.referee.put_table_back(row.id, "00000000-0000-0000-0000-000000000000", five)
+        )
         self.assertTrue(self.referee.put_table_back(row.id, row.identity, five))
         self.assertFalse(self.referee.put_table_back(row.id, row.identity, TableOf("none", b"", 5)))
         newest = self.referee.table(row.id)
@@ -99,7 +115,9 @@ class Statements(Referees):
         self.assertIsNone(has_begun(self.referee, switch))
         self.change()
         self.assertFalse(succeed(self.referee, switch))
-        self.assertIs(has_begun(self.referee, switch), False)  # else it would be tried for ever, while nobody writes
+        self.assertIs(
+            has_begun(self.referee, switch), False
+        )  # else it would be tried for ever, while nobody writes
         newest = replace(switch, table_number=2)
         self.assertIsNone(has_begun(self.referee, newest))
         self.assertTrue(succeed(self.referee, newest))
@@ -110,17 +128,28 @@ class Statements(Referees):
         self.taken()
         with closing(psycopg.connect(self.url, application_name="pagelog keeper one")) as still:
             still.execute("UPDATE pagelog_log SET archived = archived WHERE name = 'shop'")
-            self.assertEqual(self.new("two").set_table(replace(self.row, holder="one"), "two", 1), 2)
+            self.assertEqual(
+                self.new("two").set_table(replace(self.row, holder="one"), "two", 1), 2
+            )
         with closing(psycopg.connect(self.url, application_name="pagelog keeper one")) as still:
             still.execute("UPDATE pagelog_log SET archived = archived WHERE name = 'shop'")
-            self.assertEqual(self.new("three").end_run(replace(self.row, holder="one", run="r1")), 0)
+            self.assertEqual(
+                self.new("three").end_run(replace(self.row, holder="one", run="r1")), 0
+            )
 
     def test_a_generation_of_an_older_keeper_has_the_first_table(self) -> None:
         self.change()
         self.assertIsNotNone(self.referee.take(self.seen(), "r1", table_number=2))
-        with psycopg.connect(self.url, autocommit=True) as session:  # as the statement of 0.1.0 leaves it
-            session.execute("UPDATE pagelog_log SET generation = 2, next_generation = 3, run = 'r2' WHERE name = 'shop'")
-            session.execute("INSERT INTO pagelog_generation (log, generation, run, holder, base, shift) VALUES (%s, 2, 'r2', 'old', 0, 0)", (self.row.id,))
+        with psycopg.connect(
+            self.url, autocommit=True
+        ) as session:  # as the statement of 0.1.0 leaves it
+            session.execute(
+                "UPDATE pagelog_log SET generation = 2, next_generation = 3, run = 'r2' WHERE name = 'shop'"
+            )
+            session.execute(
+                "INSERT INTO pagelog_generation (log, generation, run, holder, base, shift) VALUES (%s, 2, 'r2', 'old', 0, 0)",
+                (self.row.id,),
+            )
         self.assertEqual((self.seen().run_table, self.seen().table_number), (1, 2))
 
 
@@ -161,9 +190,14 @@ role = "primary"
         for comment in ("# who", "# the operator", "# as the first has it", "# all", "# and this"):
             self.assertIn(comment, made)
         found = tomllib.loads(made)
-        self.assertEqual([(one["id"], one["token"][:2]) for one in found["principal"]], [(1, "11"), (2, "11"), (3, "ab")])
-        self.assertEqual([(row.get("who"), row["verdict"]) for row in found["row"]],
-                         [(2, "deny"), (3, "deny"), (None, "allow"), (2, "allow"), (3, "allow")])  # fmt: skip
+        self.assertEqual(
+            [(one["id"], one["token"][:2]) for one in found["principal"]],
+            [(1, "11"), (2, "11"), (3, "ab")],
+        )
+        self.assertEqual(
+            [(row.get("who"), row["verdict"]) for row in found["row"]],
+            [(2, "deny"), (3, "deny"), (None, "allow"), (2, "allow"), (3, "allow")],
+        )
         self.assertEqual(tomllib.loads(without_principal(made, 3)), tomllib.loads(self.TEXT))
         gone = without_principal(made, 2)
         self.assertEqual([one["id"] for one in tomllib.loads(gone)["principal"]], [1, 3])
@@ -172,14 +206,22 @@ role = "primary"
     def test_a_text_of_another_form_is_written_anew(self) -> None:
         text = f'principal = [{{id = 1, token = "{token(1)}"}}, {{id = 2, token = "{token(1)}"}}]\nrow = [{{verdict = "allow", who = 2}}]\n'
         self.assertEqual(tomllib.loads(with_token(text, 2, NEW))["principal"][1]["token"], NEW)
-        self.assertEqual([row["who"] for row in tomllib.loads(with_beside(text, 2, 7, NEW))["row"]], [2, 7])
-        self.assertEqual(tomllib.loads(without_principal(text, 2)), {"principal": [{"id": 1, "token": token(1)}]})
+        self.assertEqual(
+            [row["who"] for row in tomllib.loads(with_beside(text, 2, 7, NEW))["row"]], [2, 7]
+        )
+        self.assertEqual(
+            tomllib.loads(without_principal(text, 2)), {"principal": [{"id": 1, "token": token(1)}]}
+        )
 
     def test_what_is_shown_has_no_token(self) -> None:
         shown = without_tokens(self.TEXT)
-        self.assertEqual((shown.count('"same"') + shown.count("'same'"), "1111" in shown), (2, False))
+        self.assertEqual(
+            (shown.count('"same"') + shown.count("'same'"), "1111" in shown), (2, False)
+        )
         self.assertEqual(with_tokens_of(shown, self.TEXT), self.TEXT)
-        self.assertEqual(changed_tokens(with_tokens_of(shown, with_token(self.TEXT, 1, NEW)), self.TEXT), [1])
+        self.assertEqual(
+            changed_tokens(with_tokens_of(shown, with_token(self.TEXT, 1, NEW)), self.TEXT), [1]
+        )
         self.assertRaises(TableError, with_tokens_of, shown.replace("id = 2", "id = 5"), self.TEXT)
 
 
@@ -193,16 +235,24 @@ class AtAService(unittest.TestCase):
         self.service = self.enterContext(Service(table=WIDE_TABLE, dbs=2))
         self.credentials = self.folder / "c.toml"
         self.credentials.touch(mode=0o600)
-        self.credentials.write_text(f'[operator]\nto = "{self.service.address}"\nid = 1\ntoken = "{token(1)}"\n')
+        self.credentials.write_text(
+            f'[operator]\nto = "{self.service.address}"\nid = 1\ntoken = "{token(1)}"\n'
+        )
 
     def ran(self, *words: object, typed: str = "") -> tuple[int, str, str]:
-        done = CliRunner(mix_stderr=False).invoke(pagelogctl, [*map(str, words), "--credentials", str(self.credentials)], input=typed)
+        done = CliRunner(mix_stderr=False).invoke(
+            pagelogctl, [*map(str, words), "--credentials", str(self.credentials)], input=typed
+        )
         if done.exception is not None and not isinstance(done.exception, SystemExit):
             raise done.exception
         return done.exit_code, done.stdout, done.stderr
 
     def knows(self, used: str, id: int = 2, db: int = 0) -> bool:
-        with Reader(Connection(self.service.address, timeout=PATIENCE, attempts=1), Credentials.of(id, used), db) as reader:
+        with Reader(
+            Connection(self.service.address, timeout=PATIENCE, attempts=1),
+            Credentials.of(id, used),
+            db,
+        ) as reader:
             try:
                 reader.status()
             except UnknownPrincipal:
@@ -214,13 +264,17 @@ class AtAService(unittest.TestCase):
         self.assertEqual((status, out), (0, "set the table of database 0\n"))
         self.assertEqual(self.file.read_text(), with_token(WIDE_TABLE, 2, NEW))
         self.assertEqual(self.file.stat().st_mode & 0o777, 0o600)
-        self.assertEqual((self.knows(NEW), self.knows(token(2)), self.knows(token(2), db=1)), (True, False, True))
+        self.assertEqual(
+            (self.knows(NEW), self.knows(token(2)), self.knows(token(2), db=1)), (True, False, True)
+        )
         self.assertEqual(self.ran("table", "--table", self.file, "--db", 1)[0], 0)
         self.assertEqual((self.knows(NEW, db=1), self.knows(token(2), db=1)), (True, False))
 
     def test_two_beside_each_other_and_one_revoked(self) -> None:
         out = self.folder / "new.toml"
-        self.assertEqual(self.ran("token", 2, "--new", "--beside", "--out", out, "--table", self.file)[0], 0)
+        self.assertEqual(
+            self.ran("token", 2, "--new", "--beside", "--out", out, "--table", self.file)[0], 0
+        )
         made = tomllib.loads(out.read_text())
         self.assertEqual((made["id"], out.stat().st_mode & 0o777), (6, 0o600))
         self.assertTrue(self.knows(token(2)) and self.knows(made["token"], 6))
@@ -233,7 +287,11 @@ class AtAService(unittest.TestCase):
         self.assertEqual(status, 3)
         self.assertIn(f"`table --table {self.file}` sets it", error)
         self.service.start()
-        self.credentials.write_text(self.credentials.read_text().replace(self.credentials.read_text().split('"')[1], self.service.address))
+        self.credentials.write_text(
+            self.credentials.read_text().replace(
+                self.credentials.read_text().split('"')[1], self.service.address
+            )
+        )
         self.assertEqual(self.ran("table", "--table", self.file)[0], 0)
         self.assertTrue(self.knows(NEW))
 
@@ -250,7 +308,9 @@ class Changing(Kept):
 
     def ran(self, *words: object, typed: str = "") -> tuple[int, str, str]:
         """Status, output and errors of a subcommand."""
-        done = CliRunner(mix_stderr=False).invoke(pagelogctl, [*map(str, words), "--credentials", str(self.keeping.file)], input=typed)
+        done = CliRunner(mix_stderr=False).invoke(
+            pagelogctl, [*map(str, words), "--credentials", str(self.keeping.file)], input=typed
+        )
         if done.exception is not None and not isinstance(done.exception, SystemExit):
             raise done.exception
         return done.exit_code, done.stdout, done.stderr
@@ -284,15 +344,21 @@ class Changing(Kept):
     def only_new_is_known(self, old: str = token(2), new: str = NEW) -> None:
         """At each service that there is."""
         for run, address in self.where_all_are():
-            self.assertEqual((self.told(run, address, old), self.told(run, address, new)), ("unknown", "known"))
+            self.assertEqual(
+                (self.told(run, address, old), self.told(run, address, new)), ("unknown", "known")
+            )
 
 
 class InForce(Changing):
     def test_when_it_returns_no_service_knows_the_old_token(self) -> None:
-        eventually(lambda: "b" in self.keeping.standbys() or "a" in self.keeping.standbys(), "a standby")
+        eventually(
+            lambda: "b" in self.keeping.standbys() or "a" in self.keeping.standbys(), "a standby"
+        )
         with self.keeping.primary() as primary:
             position = self.commit(primary, "before")
-            self.assertEqual(self.renewed(), (0, "table 2 of shop is in force\n", "table 2 of shop is set\n"))
+            self.assertEqual(
+                self.renewed(), (0, "table 2 of shop is in force\n", "table 2 of shop is set\n")
+            )
             self.only_new_is_known()
             row = self.keeping.row()
             self.assertEqual((row.table_number, row.run_table), (2, 2))
@@ -312,11 +378,21 @@ class InForce(Changing):
             self.assertEqual(self.commit(primary, "taken over", durable=True), position + 2)
 
     def writer(self, used: str, id: int = 2) -> NamedPrimary:
-        return Primary.named("shop", keepers=self.keeping.addresses, principal=id, token=used, operator=(1, token(1)), patience=PATIENCE,
-                             timeout=PATIENCE)  # fmt: skip
+        return Primary.named(
+            "shop",
+            keepers=self.keeping.addresses,
+            principal=id,
+            token=used,
+            operator=(1, token(1)),
+            patience=PATIENCE,
+            timeout=PATIENCE,
+        )
 
     def test_the_same_table_is_not_set_again_and_a_faulty_one_never(self) -> None:
-        self.assertEqual(self.ran("table", "shop", "--table", self.keeping.table), (0, "table 1 of shop is in force\n", ""))
+        self.assertEqual(
+            self.ran("table", "shop", "--table", self.keeping.table),
+            (0, "table 1 of shop is in force\n", ""),
+        )
         self.keeping.table.write_text(WIDE_TABLE.replace('role = "primary"', 'role = "writer"'))
         status, out, error = self.ran("table", "shop", "--table", self.keeping.table)
         self.assertEqual((status, out), (1, ""))
@@ -331,10 +407,16 @@ class InForce(Changing):
         self.assertEqual(self.ran("table", "shop", "--show", "--tokens")[1], WIDE_TABLE)
         self.keeping.table.write_text(out)
         self.assertEqual(self.ran("table", "shop", "--diff", self.keeping.table), (0, "", ""))
-        self.assertEqual(self.ran("table", "shop", "--table", self.keeping.table), (0, "table 1 of shop is in force\n", ""))
+        self.assertEqual(
+            self.ran("table", "shop", "--table", self.keeping.table),
+            (0, "table 1 of shop is in force\n", ""),
+        )
         self.keeping.table.write_text(out.replace('token = "same"', f'token = "{NEW}"', 1))
         status, out, error = self.ran("table", "shop", "--diff", self.keeping.table)
-        self.assertEqual((status, out, error), (1, "principal 1\n  shop.toml: a token\n  table.toml: another token\n", ""))
+        self.assertEqual(
+            (status, out, error),
+            (1, "principal 1\n  shop.toml: a token\n  table.toml: another token\n", ""),
+        )
 
     def test_two_hold_beside_each_other_until_the_first_is_revoked(self) -> None:
         status, out, _ = self.ran("token", "shop", 2, "--new", "--beside")
@@ -348,7 +430,9 @@ class InForce(Changing):
             self.commit(primary, "by the second", durable=True)
             self.assertEqual(self.ran("token", "shop", 2, "--revoke")[0], 0)
             self.commit(primary, "by the second", durable=True)
-        with self.keeping.primary() as primary, self.assertRaisesRegex(WrongToken, "does not list principal 2 "):
+        with self.keeping.primary() as primary, self.assertRaisesRegex(
+            WrongToken, "does not list principal 2 "
+        ):
             self.commit(primary, "by the first", durable=True)
         self.assertEqual(self.texts(), [b"by the first", b"by the second", b"by the second"])
 
@@ -362,7 +446,9 @@ class InForce(Changing):
                 writer.execute("insert into t values(2)")
             self.assertLess(time.monotonic() - began, 15)
             self.assertEqual(caught.exception.sqlite_errorname, "SQLITE_PERM")
-            self.assertEqual(error_of(writer), "denied: the table does not list principal 2 with this token")
+            self.assertEqual(
+                error_of(writer), "denied: the table does not list principal 2 with this token"
+            )
 
 
 class Deaths(Changing):
@@ -370,7 +456,10 @@ class Deaths(Changing):
 
     def holder(self) -> str:
         """The keeper that has it, once the other one follows."""
-        eventually(lambda: self.keeping.row().address is not None and self.keeping.standbys() != {}, "a holder, and a standby")
+        eventually(
+            lambda: self.keeping.row().address is not None and self.keeping.standbys() != {},
+            "a holder, and a standby",
+        )
         return str(self.keeping.row().holder)
 
     def is_in_force(self) -> bool:
@@ -378,9 +467,23 @@ class Deaths(Changing):
 
     def asked(self, *words: object, typed: str = "") -> subprocess.Popen[str]:
         """A subcommand, in a process of its own, to which this is typed."""
-        command = [sys.executable, "-B", "-m", "pagelog", *map(str, words), "--credentials", str(self.keeping.file)]
-        process = subprocess.Popen(command, env=self.keeping.environment, stdin=subprocess.PIPE, stdout=subprocess.PIPE, stderr=subprocess.PIPE,
-                                   text=True)  # fmt: skip
+        command = [
+            sys.executable,
+            "-B",
+            "-m",
+            "pagelog",
+            *map(str, words),
+            "--credentials",
+            str(self.keeping.file),
+        ]
+        process = subprocess.Popen(
+            command,
+            env=self.keeping.environment,
+            stdin=subprocess.PIPE,
+            stdout=subprocess.PIPE,
+            stderr=subprocess.PIPE,
+            text=True,
+        )
         self.addCleanup(lambda: (process.kill(), process.communicate()))
         assert process.stdin is not None
         process.stdin.write(typed)
@@ -401,7 +504,9 @@ class Deaths(Changing):
         self.assertEqual(self.renewed()[0], 0)
         self.only_new_is_known()
         row = self.keeping.row()
-        self.assertEqual((row.holder, row.paused, row.table_number, row.run_table), (holder, True, 2, 2))
+        self.assertEqual(
+            (row.holder, row.paused, row.table_number, row.run_table), (holder, True, 2, 2)
+        )
 
     def test_a_holder_that_stands_still_is_fenced_and_ends_its_service_as_it_goes_on(self) -> None:
         holder = self.holder()
@@ -411,7 +516,10 @@ class Deaths(Changing):
             status, out, _ = self.renewed()
             self.is_fenced(run)
             self.assertEqual(status, 3)
-            self.assertRegex(out, f"table 2 of shop is in force, but at 1 of its services:\nrun {run} of keeper {holder}, generation [0-9]+: nothing of it becomes")
+            self.assertRegex(
+                out,
+                f"table 2 of shop is in force, but at 1 of its services:\nrun {run} of keeper {holder}, generation [0-9]+: nothing of it becomes",
+            )
             self.assertEqual(self.told(str(run), place.address, token(2)), "known")
         finally:
             self.keeping.kill(holder, signal.SIGCONT)
@@ -488,12 +596,17 @@ class Deaths(Changing):
             else:
                 eventually(lambda: self.keeping.row().table_number == number, "the number")
                 word.kill()
-            eventually(lambda: (row := self.keeping.row()).table_number == row.run_table == number, "the generation with this table")
+            eventually(
+                lambda: (row := self.keeping.row()).table_number == row.run_table == number,
+                "the generation with this table",
+            )
             self.assertTrue(self.is_in_force())
             self.only_new_is_known(new=f"{number:032x}")
 
     def test_a_keeper_that_is_killed_at_each_statement(self) -> None:
-        for number, when in enumerate(("NEW.next_generation > OLD.next_generation", "NEW.run IS DISTINCT FROM OLD.run"), 2):
+        for number, when in enumerate(
+            ("NEW.next_generation > OLD.next_generation", "NEW.run IS DISTINCT FROM OLD.run"), 2
+        ):
             holder = self.holder()
             gate = Gate(self.keeping.url, when)
             word = self.asked("token", "shop", 2, "--to", "-", typed=f"{number:032x}")
@@ -511,7 +624,9 @@ class Deaths(Changing):
     def test_postgresql_is_away(self) -> None:
         self.holder()
         text = self.keeping.file.read_text()
-        self.keeping.file.write_text(text.replace(self.keeping.url, "postgresql:///ref?host=/nowhere"))
+        self.keeping.file.write_text(
+            text.replace(self.keeping.url, "postgresql:///ref?host=/nowhere")
+        )
         status, _, error = self.renewed()
         self.keeping.file.write_text(text)
         self.assertEqual((status, self.keeping.row().table_number), (3, 1))
@@ -521,19 +636,27 @@ class Deaths(Changing):
         self.holder()
         row, referee = self.keeping.row(), self.keeping.referee
         self.assertEqual(referee.set_table(row, with_token(WIDE_TABLE, 2, "12" * 16), 1), 2)
-        eventually(lambda: self.keeping.row().next_generation > row.next_generation, "a number of a generation")
+        eventually(
+            lambda: self.keeping.row().next_generation > row.next_generation,
+            "a number of a generation",
+        )
         self.assertEqual(self.renewed()[:2], (0, "table 3 of shop is in force\n"))
         self.only_new_is_known("12" * 16)
 
     def test_what_nobody_makes_in_time_is_ended(self) -> None:
         self.holder()
         run = self.keeping.row().run
-        gate = Gate(self.keeping.url, "NEW.next_generation > OLD.next_generation AND NEW.run = OLD.run")
+        gate = Gate(
+            self.keeping.url, "NEW.next_generation > OLD.next_generation AND NEW.run = OLD.run"
+        )
         try:
             status, _, error = self.renewed("--within", 1)
             self.assertIn(status, (0, 3))
             self.is_fenced(run)
-            self.assertRegex(error, r"generation [0-9]+ of keeper [ab], which has an older table, was ended at position 0\n")
+            self.assertRegex(
+                error,
+                r"generation [0-9]+ of keeper [ab], which has an older table, was ended at position 0\n",
+            )
         finally:
             gate.open()
         eventually(self.is_in_force, "the newest table alone")
@@ -544,16 +667,22 @@ class Deaths(Changing):
         self.assertEqual(self.renewed()[0], 0)
         row = self.keeping.row()
         with psycopg.connect(self.keeping.url, autocommit=True) as session:
-            session.execute("WITH log AS (UPDATE pagelog_log SET table_number = 1 WHERE id = %s) UPDATE pagelog_table SET text = %s WHERE log = %s",
-                            (row.id, WIDE_TABLE, row.id))  # fmt: skip
+            session.execute(
+                "WITH log AS (UPDATE pagelog_log SET table_number = 1 WHERE id = %s) UPDATE pagelog_table SET text = %s WHERE log = %s",
+                (row.id, WIDE_TABLE, row.id),
+            )
         eventually(lambda: self.keeping.row().table_number == 2, "the number of the newest")
         self.assertEqual(self.keeping.referee.table(row.id).text, with_token(WIDE_TABLE, 2, NEW))
 
     def test_what_is_set_aside_is_named(self) -> None:
         self.holder()
         with psycopg.connect(self.keeping.url, autocommit=True) as session:
-            session.execute("INSERT INTO pagelog_keeper (name, run, lines, report) VALUES ('z', 'z', 'z:1', %s)",
-                            ('{"set aside": [{"name": "shop", "run": "r0", "address": "z:2", "pid": 1, "kept": true}]}',))
+            session.execute(
+                "INSERT INTO pagelog_keeper (name, run, lines, report) VALUES ('z', 'z', 'z:1', %s)",
+                (
+                    '{"set aside": [{"name": "shop", "run": "r0", "address": "z:2", "pid": 1, "kept": true}]}',
+                ),
+            )
         status, out, _ = self.renewed()
         self.assertEqual(status, 3)
         self.assertIn("run r0 of keeper z, a service that is set aside", out)
@@ -577,7 +706,10 @@ class Deaths(Changing):
         returned, archived = time.monotonic(), self.keeping.row().archived
         thread.join()
         self.assertLessEqual(max(at for at, _ in told), returned)
-        self.assertEqual((self.keeping.row().archived, max(position for _, position in told)), (archived, archived))
+        self.assertEqual(
+            (self.keeping.row().archived, max(position for _, position in told)),
+            (archived, archived),
+        )
 
 
 class OneKeeper(Changing):
@@ -595,7 +727,9 @@ class OneKeeper(Changing):
     def test_a_run_whose_keeper_took_it_just_now_and_reports_nothing_is_named(self) -> None:
         status, out, _ = self.renewed()
         self.assertEqual((status, self.keeping.row().run), (3, None))
-        self.assertRegex(out, "run r0 of keeper z, generation [0-9]+: nothing of it becomes durable")
+        self.assertRegex(
+            out, "run r0 of keeper z, generation [0-9]+: nothing of it becomes durable"
+        )
 
     def test_it_is_waited_for_until_its_keeper_reports_that_it_has_ended(self) -> None:
         """The keeper is alive, switches, and is a while about to end the service of before."""
@@ -604,15 +738,40 @@ class OneKeeper(Changing):
         def keep() -> None:
             row = self.keeping.row()
             report = json.dumps({NUMBERS: {}, "shop": {"run": "r0", "table": 1}})
-            while (found := self.referee.look({}, report).row("shop")) is not None and found.table_number == 1:
+            while (
+                found := self.referee.look({}, report).row("shop")
+            ) is not None and found.table_number == 1:
                 time.sleep(0.01)
             given = number(self.referee, row.id, "r0", row.generation)
             assert given is not None
-            self.assertTrue(succeed(self.referee, Switch(row.id, "r0", row.generation, 0, (), b"", given, "r1", "z:2", 0, 0, table_number=2)))
+            self.assertTrue(
+                succeed(
+                    self.referee,
+                    Switch(
+                        row.id,
+                        "r0",
+                        row.generation,
+                        0,
+                        (),
+                        b"",
+                        given,
+                        "r1",
+                        "z:2",
+                        0,
+                        0,
+                        table_number=2,
+                    ),
+                )
+            )
             for leaving in (["r0"],) * 30 + ([],):
                 time.sleep(0.05)
                 after.append(not leaving)
-                self.referee.look({}, json.dumps({NUMBERS: {}, "shop": {"run": "r1", "table": 2, "leaving": leaving}}))
+                self.referee.look(
+                    {},
+                    json.dumps(
+                        {NUMBERS: {}, "shop": {"run": "r1", "table": 2, "leaving": leaving}}
+                    ),
+                )
             while not is_done.is_set():
                 time.sleep(0.05)
                 self.referee.look()
@@ -639,9 +798,14 @@ class OneKeeper(Changing):
     def test_a_postgresql_that_is_away_meanwhile_is_asked_again_until_it_is_late(self) -> None:
         row = replace(self.keeping.row(), table_number=2, run=None)
         for error in (Away("away"), Doubt("doubt")):
-            referee = Mock(everything=Mock(side_effect=[error, Look((row,))]), newest_table=Mock(return_value=(2, None)))
+            referee = Mock(
+                everything=Mock(side_effect=[error, Look((row,))]),
+                newest_table=Mock(return_value=(2, None)),
+            )
             self.assertEqual(Change(referee, row, 1.5, PATIENCE).carry_out(), [])
-            self.assertRaises(type(error), Change(Mock(everything=Mock(side_effect=error)), row, 1.5, 0).carry_out)
+            self.assertRaises(
+                type(error), Change(Mock(everything=Mock(side_effect=error)), row, 1.5, 0).carry_out
+            )
 
     def test_nothing_is_changed_while_an_older_keeper_lives(self) -> None:
         def live() -> None:
@@ -657,15 +821,31 @@ class OneKeeper(Changing):
             is_done.set()
             thread.join()
         self.assertEqual((status, self.keeping.row().table_number), (1, 1))
-        self.assertIn("nothing was changed: keeper z is of a version that knows no numbers of tables", error)
+        self.assertIn(
+            "nothing was changed: keeper z is of a version that knows no numbers of tables", error
+        )
 
     def test_a_keeper_reports_what_it_is_about_to_end(self) -> None:
         row = self.keeping.row()
-        keeper = Keeper(Settings.of("z", "", "", self.keeping.folder, "", self.keeping.url, {"standby": False}))
+        keeper = Keeper(
+            Settings.of("z", "", "", self.keeping.folder, "", self.keeping.url, {"standby": False})
+        )
         served = Served("shop", "r1", WIDE_TABLE, b"s" * 16, timeout=1.0, table_number=7)
         served.process = Mock(memory=0)
-        for one, leaving, wanted in ((None, {"r0"}, ["r0"]), (None, set(), None), (served, {"r0"}, ["r0"]), (served, set(), None)):
-            keeper.databases[row.id] = Mock(row=replace(row, holder="b"), served=one, leaving=leaving, state=State.AWAY, decision=None, back=None)
+        for one, leaving, wanted in (
+            (None, {"r0"}, ["r0"]),
+            (None, set(), None),
+            (served, {"r0"}, ["r0"]),
+            (served, set(), None),
+        ):
+            keeper.databases[row.id] = Mock(
+                row=replace(row, holder="b"),
+                served=one,
+                leaving=leaving,
+                state=State.AWAY,
+                decision=None,
+                back=None,
+            )
             report = json.loads(keeper._report())
             self.assertEqual(report[NUMBERS], {})
             self.assertEqual(report.get("shop", {}).get("leaving"), wanted)
@@ -681,21 +861,34 @@ class Runbook(Changing):
         super().setUp()
         programs = self.keeping.folder / "programs"
         programs.mkdir()
-        (programs / "pagelogctl").write_text(f'#!/bin/sh\nexec {sys.executable} -B -m pagelog "$@"\n')
+        (programs / "pagelogctl").write_text(
+            f'#!/bin/sh\nexec {sys.executable} -B -m pagelog "$@"\n'
+        )
         (programs / "pagelogctl").chmod(0o755)
         (self.keeping.folder / "keeper.toml").symlink_to(self.keeping.file)
         self.environment = {**self.keeping.environment, "PATH": f"{programs}:{os.environ['PATH']}"}
 
     def run_block(self, block: str) -> str:
-        done = subprocess.run(["sh", "-ec", block], cwd=self.keeping.folder, env=self.environment, capture_output=True, text=True)
+        done = subprocess.run(
+            ["sh", "-ec", block],
+            cwd=self.keeping.folder,
+            env=self.environment,
+            capture_output=True,
+            text=True,
+        )
         self.assertEqual(done.returncode, 0, f"{block}{done.stdout}{done.stderr}")
         return done.stdout
 
     def begin_again(self) -> None:
         run = self.keeping.row().run
         self.keeping.referee.drop("shop")
-        self.assertTrue(self.keeping.referee.create("shop", self.keeping.table.read_text(), b"s" * 16))
-        eventually(lambda: (row := self.keeping.row()).address is not None and row.run != run, "another database")
+        self.assertTrue(
+            self.keeping.referee.create("shop", self.keeping.table.read_text(), b"s" * 16)
+        )
+        eventually(
+            lambda: (row := self.keeping.row()).address is not None and row.run != run,
+            "another database",
+        )
         with self.keeping.primary() as primary:
             self.commit(primary, "before", durable=True)
 
@@ -710,11 +903,14 @@ class Runbook(Changing):
     def test_its_blocks(self) -> None:
         page = (Path(__file__).resolve().parents[3] / "docs" / "RUNBOOK.md").read_text()
         [section] = re.findall(r"(?ms)^### Tokens$(.*?)^### ", page)
-        beside, another, revoked, compromised = re.findall(r"(?ms)^```sh\n(.*?)^```$", section)
+        blocks = re.findall(r"(?ms)^```sh\n(.*?)^```$", section)
+        beside, taken_out, another, revoked, compromised = blocks
         self.begin_again()
         self.run_block(beside)
         id, used = self.made("new.toml")
-        self.assertEqual((id, self.knows(id, used), self.knows(2, token(2))), (6, True, False))
+        self.assertEqual((id, self.knows(id, used), self.knows(2, token(2))), (6, True, True))
+        self.run_block(taken_out)
+        self.assertEqual((self.knows(id, used), self.knows(2, token(2))), (True, False))
         self.begin_again()
         self.run_block(another)
         id, used = self.made("new.toml")

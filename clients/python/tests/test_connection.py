@@ -28,7 +28,11 @@ def hardened(connection: Connection, count: int) -> None:
     asked = []
     for lsn in range(1, count + 1):
         block = Block.of(lsn, [Put(0, 0, lsn.to_bytes(8, "big"))])
-        asked += [Request(PRIMARY, Write(0, block)), Request(PRIMARY, Write(1, block)), Request(PRIMARY, Report(lsn))]
+        asked += [
+            Request(PRIMARY, Write(0, block)),
+            Request(PRIMARY, Write(1, block)),
+            Request(PRIMARY, Report(lsn)),
+        ]
     assert set(connection.exchange(asked)) == {Done()}
 
 
@@ -43,7 +47,10 @@ class InOrder(unittest.TestCase):
     def test_replies_come_in_the_order_of_the_requests(self) -> None:
         hardened(self.connection, 100)
         pages = list(self.connection.exchange(self.gets(100)))
-        self.assertEqual([int.from_bytes(page.data[:8], "big") for page in pages if isinstance(page, Page)], list(range(1, 101)))
+        self.assertEqual(
+            [int.from_bytes(page.data[:8], "big") for page in pages if isinstance(page, Page)],
+            list(range(1, 101)),
+        )
 
     def test_no_more_than_asked_for_are_in_flight(self) -> None:
         hardened(self.connection, 30)
@@ -87,10 +94,22 @@ class Cuts(unittest.TestCase):
     def test_what_may_be_repeated_survives_cuts_at_any_byte(self) -> None:
         """A witness pulls small blocks; without one whole pages have to come through."""
         for least, most, has_witness, count in ((30, 1500, True, 200), (9000, 30000, False, 400)):
-            with Service() as service, CuttingProxy(service.address, least=least, most=most) as proxy, proxy.connection() as connection:
-                witness = self.enterContext(pagelog.Reader(proxy.connection(), pagelog.Credentials.of(3, token(3)))) if has_witness else None
-                primary = pagelog.Primary(connection, pagelog.Credentials.of(2, token(2)), alone=True, witness=witness)
-                lsns = list(primary.stream([put(0, lsn.to_bytes(8, "big"))] for lsn in range(1, count + 1)))
+            with Service() as service, CuttingProxy(
+                service.address, least=least, most=most
+            ) as proxy, proxy.connection() as connection:
+                witness = (
+                    self.enterContext(
+                        pagelog.Reader(proxy.connection(), pagelog.Credentials.of(3, token(3)))
+                    )
+                    if has_witness
+                    else None
+                )
+                primary = pagelog.Primary(
+                    connection, pagelog.Credentials.of(2, token(2)), alone=True, witness=witness
+                )
+                lsns = list(
+                    primary.stream([put(0, lsn.to_bytes(8, "big"))] for lsn in range(1, count + 1))
+                )
                 self.assertEqual(lsns, list(range(1, count + 1)))
                 self.assertGreater(proxy.cuts, 4)
                 with service.reader() as reader:
@@ -100,37 +119,62 @@ class Cuts(unittest.TestCase):
     def test_reads_survive_cuts_and_stay_in_order(self) -> None:
         with Service() as service, service.connection() as direct:
             hardened(direct, 60)
-            with CuttingProxy(service.address, least=9000, most=60000, seed=3) as proxy, proxy.connection() as connection:
-                pages = connection.exchange(Request(SECONDARY, Get(0, 1 + at % 60)) for at in range(120))
-                self.assertEqual([int.from_bytes(page.data[:8], "big") for page in pages],  # type: ignore[union-attr]
-                                 [1 + at % 60 for at in range(120)])  # fmt: skip
+            with CuttingProxy(
+                service.address, least=9000, most=60000, seed=3
+            ) as proxy, proxy.connection() as connection:
+                pages = connection.exchange(
+                    Request(SECONDARY, Get(0, 1 + at % 60)) for at in range(120)
+                )
+                self.assertEqual(
+                    [int.from_bytes(page.data[:8], "big") for page in pages],  # type: ignore[union-attr]
+                    [1 + at % 60 for at in range(120)],
+                )
                 self.assertGreater(proxy.cuts, 5)
 
     def test_an_exchange_over_one_connection_ends_where_that_is_lost(self) -> None:
         with Service() as service, service.connection() as direct:
             hardened(direct, 60)
             asked = [Request(SECONDARY, Get(0, lsn)) for lsn in range(1, 61)]
-            with CuttingProxy(service.address, least=100_000, most=100_001) as proxy, proxy.connection() as connection:
-                pages = [next(iter(connection.exchange(asked[:1]))), *connection.exchange(asked[1:], over=1)]
-                self.assertEqual([int.from_bytes(page.data[:8], "big") for page in pages],  # type: ignore[union-attr]
-                                 list(range(1, len(pages) + 1)))  # fmt: skip
+            with CuttingProxy(
+                service.address, least=100_000, most=100_001
+            ) as proxy, proxy.connection() as connection:
+                pages = [
+                    next(iter(connection.exchange(asked[:1]))),
+                    *connection.exchange(asked[1:], over=1),
+                ]
+                self.assertEqual(
+                    [int.from_bytes(page.data[:8], "big") for page in pages],  # type: ignore[union-attr]
+                    list(range(1, len(pages) + 1)),
+                )
                 self.assertIn(len(pages), (11, 12))
-                self.assertEqual((list(connection.exchange(asked, over=1)), connection.connects), ([], 1))
-                self.assertEqual((len(list(connection.exchange(asked[:2]))), connection.connects), (2, 2))
-                self.assertEqual((list(connection.exchange(asked, over=1)), connection.connects), ([], 2))
-                self.assertEqual((len(list(connection.exchange(asked[:2], over=2))), connection.connects), (2, 2))
+                self.assertEqual(
+                    (list(connection.exchange(asked, over=1)), connection.connects), ([], 1)
+                )
+                self.assertEqual(
+                    (len(list(connection.exchange(asked[:2]))), connection.connects), (2, 2)
+                )
+                self.assertEqual(
+                    (list(connection.exchange(asked, over=1)), connection.connects), ([], 2)
+                )
+                self.assertEqual(
+                    (len(list(connection.exchange(asked[:2], over=2))), connection.connects), (2, 2)
+                )
 
     def test_a_failover_whose_reply_is_lost_is_in_doubt_and_not_repeated(self) -> None:
         with Service() as service, service.operator() as direct:
             for size in (20, 40):  # cut in the request, and after it in the reply
                 before = direct.status().epoch
-                with CuttingProxy(service.address, least=size, most=size + 1) as proxy, proxy.connection() as connection:
+                with CuttingProxy(
+                    service.address, least=size, most=size + 1
+                ) as proxy, proxy.connection() as connection:
                     head = Head(1, OPERATOR.token, Role.OPERATOR, 0, before)
                     with self.assertRaises(pagelog.InDoubt):
                         connection.ask(Request(head, Failover(2)))
                     self.assertEqual(connection.connects, 1)
                 deadline = time.monotonic() + PATIENCE
-                while size == 40 and direct.status().epoch == before and time.monotonic() < deadline:
+                while (
+                    size == 40 and direct.status().epoch == before and time.monotonic() < deadline
+                ):
                     time.sleep(0.01)
                 self.assertEqual(direct.status().epoch, before + (size == 40))
 
@@ -151,7 +195,9 @@ class Cuts(unittest.TestCase):
 class Interrupted(unittest.TestCase):
     """An interrupt wherever one may come: no request gets the reply to another, and the connection is of use."""
 
-    def interrupt_anywhere(self, calls: Callable[[Connection, Callable[[], Request]], object]) -> None:
+    def interrupt_anywhere(
+        self, calls: Callable[[Connection, Callable[[], Request]], object]
+    ) -> None:
         with Service() as service, service.connection() as connection:
             hardened(connection, 20)
             lsns = itertools.cycle(range(1, 21))
@@ -197,8 +243,12 @@ class Refused(unittest.TestCase):
             else:
                 sleep(seconds)  # of a thread that a test before this one has left
 
-        with mock.patch("pagelog.connection.time.sleep", noted), self.assertRaises(pagelog.Unreachable):
-            Connection(Address("127.0.0.1", port.number), attempts=3, pause=0.05).ask(Request(PRIMARY, Status()))
+        with mock.patch("pagelog.connection.time.sleep", noted), self.assertRaises(
+            pagelog.Unreachable
+        ):
+            Connection(Address("127.0.0.1", port.number), attempts=3, pause=0.05).ask(
+                Request(PRIMARY, Status())
+            )
         self.assertEqual(slept, [0.05, 0.1])
 
     def test_a_service_that_is_silent(self) -> None:
@@ -217,23 +267,32 @@ class Refused(unittest.TestCase):
                 self.assertIsInstance(second.ask(Request(PRIMARY, Status())), State)
                 self.assertIsInstance(first.ask(Request(PRIMARY, Status())), State)
 
-    def test_an_address_of_a_host_that_is_silent_leaves_the_others_their_share_of_the_time(self) -> None:
+    def test_an_address_of_a_host_that_is_silent_leaves_the_others_their_share_of_the_time(
+        self,
+    ) -> None:
         listener = self.enterContext(socket.create_server(("127.0.0.1", 0)))
         live, now, shares = listener.getsockname(), [0.0], list[float]()
         made = dialing._connected
 
-        def connected(family: int, kind: int, protocol: int, address: object, timeout: float) -> socket.socket:
+        def connected(
+            family: int, kind: int, protocol: int, address: object, timeout: float
+        ) -> socket.socket:
             shares.append(timeout)
             if address == live:
                 return made(family, kind, protocol, address, PATIENCE)
             now[0] += timeout if address == "silent" else 0.1
             raise TimeoutError if address == "silent" else ConnectionRefusedError
 
-        for addresses, wanted in ((("silent", live), [3.0, 3.0]), (("refused", "silent", live), [2.0, 2.95, 2.95]), (("silent", "refused"), [3.0, 3.0])):
+        for addresses, wanted in (
+            (("silent", live), [3.0, 3.0]),
+            (("refused", "silent", live), [2.0, 2.95, 2.95]),
+            (("silent", "refused"), [3.0, 3.0]),
+        ):
             found = [(socket.AF_INET, socket.SOCK_STREAM, 0, "", address) for address in addresses]
             shares.clear()
-            with mock.patch("socket.getaddrinfo", return_value=found), mock.patch("pagelog.dialing._connected", connected), mock.patch(
-                    "pagelog.dialing.time.monotonic", lambda: now[0]):  # fmt: skip
+            with mock.patch("socket.getaddrinfo", return_value=found), mock.patch(
+                "pagelog.dialing._connected", connected
+            ), mock.patch("pagelog.dialing.time.monotonic", lambda: now[0]):
                 if live in addresses:
                     dialing.dial("host", 1, 6.0).close()
                 else:
@@ -242,11 +301,15 @@ class Refused(unittest.TestCase):
 
     def test_a_host_that_is_no_name(self) -> None:
         for host in ("a" * 64, "a..b"):
-            with Connection(Address(host, 7400), attempts=1) as connection, self.assertRaises(pagelog.Unreachable):
+            with Connection(Address(host, 7400), attempts=1) as connection, self.assertRaises(
+                pagelog.Unreachable
+            ):
                 connection.ask(Request(PRIMARY, Status()))
 
     def test_a_service_that_ends_its_connections(self) -> None:
-        with Service(connections=1) as service, Connection(service.address, attempts=2, pause=0.01) as connection:
+        with Service(connections=1) as service, Connection(
+            service.address, attempts=2, pause=0.01
+        ) as connection:
             connection.ask(Request(PRIMARY, Status()))
             connection.close()
             service.process.wait(PATIENCE)
@@ -254,19 +317,30 @@ class Refused(unittest.TestCase):
                 connection.ask(Request(PRIMARY, Status()))
 
     def test_an_answer_that_is_no_reply(self) -> None:
-        for words, kind in ((b"SSH-2.0-OpenSSH_9.2\r\n", pagelog.FrameFault), (b"\0\0\0\x01\x0b", pagelog.ReplyFault)):
+        for words, kind in (
+            (b"SSH-2.0-OpenSSH_9.2\r\n", pagelog.FrameFault),
+            (b"\0\0\0\x01\x0b", pagelog.ReplyFault),
+        ):
             with socket.create_server(("127.0.0.1", 0)) as listener:
                 threading.Thread(target=answer_once, args=(listener, words), daemon=True).start()
-                with Connection(Address("127.0.0.1", listener.getsockname()[1]), attempts=1) as connection:
+                with Connection(
+                    Address("127.0.0.1", listener.getsockname()[1]), attempts=1
+                ) as connection:
                     with self.assertRaises(kind):
                         connection.ask(Request(PRIMARY, Status()))
 
-    def test_a_denial_for_an_epoch_that_is_the_current_one_is_not_asked_again_for_ever(self) -> None:
+    def test_a_denial_for_an_epoch_that_is_the_current_one_is_not_asked_again_for_ever(
+        self,
+    ) -> None:
         for row in (2, 3):
             with socket.create_server(("127.0.0.1", 0)) as listener:
                 words = bytes.fromhex(f"0000000c 05 01 {row:04x} 0000000000000001")
-                threading.Thread(target=answer_once, args=(listener, words * 2), daemon=True).start()
-                with pagelog.Reader.at(f"127.0.0.1:{listener.getsockname()[1]}", 3, token(3)) as reader:
+                threading.Thread(
+                    target=answer_once, args=(listener, words * 2), daemon=True
+                ).start()
+                with pagelog.Reader.at(
+                    f"127.0.0.1:{listener.getsockname()[1]}", 3, token(3)
+                ) as reader:
                     with self.assertRaises(pagelog.UnexpectedReply):
                         reader.status()
 

@@ -19,7 +19,16 @@ from pagelog.console.board import Board, Limits
 from pagelog.console.door import Door
 from pagelog.console.events import Known, of_databases
 from pagelog.console.history import History, Sample
-from pagelog.console.outlook import Forecast, Scene, Spare, State, Use, forecast_of, sentence, state_of
+from pagelog.console.outlook import (
+    Forecast,
+    Scene,
+    Spare,
+    State,
+    Use,
+    forecast_of,
+    sentence,
+    state_of,
+)
 from pagelog.console.running import begin
 from pagelog.console.source import Look, NoLook, Seen, Source
 from pagelog.console.watcher import Watcher
@@ -33,10 +42,24 @@ FREE = Row(1, "shop", 3, archived=1000)
 
 
 class Watchers(unittest.TestCase):
-    def test_a_look_that_fails_in_a_way_that_was_not_foreseen_is_told_and_is_not_the_last(self) -> None:
+    def test_a_look_that_fails_in_a_way_that_was_not_foreseen_is_told_and_is_not_the_last(
+        self,
+    ) -> None:
         seen, told = threading.Event(), []
-        source = mock.Mock(Source, look=mock.Mock(side_effect=[TypeError("of another version"), NoLook("away"), Seen(Look()), SystemExit]))
-        with mock.patch("pagelog.console.watcher.IDLE", 0.0), mock.patch("pagelog.console.watcher.PACE", 0.0):
+        source = mock.Mock(
+            Source,
+            look=mock.Mock(
+                side_effect=[
+                    TypeError("of another version"),
+                    NoLook("away"),
+                    Seen(Look()),
+                    SystemExit,
+                ]
+            ),
+        )
+        with mock.patch("pagelog.console.watcher.IDLE", 0.0), mock.patch(
+            "pagelog.console.watcher.PACE", 0.0
+        ):
             Watcher(source, lambda *_: seen.set(), lambda why, _: told.append(why)).start()
             self.assertTrue(seen.wait(PATIENCE))
         self.assertEqual(told, ["TypeError: of another version", "away"])
@@ -58,7 +81,10 @@ class Beginnings(unittest.TestCase):
             source._connected()
             source.close()
             source._connected()
-            self.assertEqual(hosts, [("a,b,c", "1,2,3"), ("b,c,a", "2,3,1"), ("c,a,b", "3,1,2"), ("c,a,b", "3,1,2")])
+            self.assertEqual(
+                hosts,
+                [("a,b,c", "1,2,3"), ("b,c,a", "2,3,1"), ("c,a,b", "3,1,2"), ("c,a,b", "3,1,2")],
+            )
             source.close()
             source._options["host"] = "a,b"
             self.assertRaises(psycopg.OperationalError, source._ask, "")
@@ -81,53 +107,101 @@ class Sentences(unittest.TestCase):
 
     def test_the_state(self) -> None:
         for row, report, is_silent, state in (
-            (FREE, {}, True, State.NOBODY), (ROW, {"state": "closing"}, True, State.SILENT), (ROW, {"state": "closing"}, False, State.CLOSING),
-            (ROW, {}, False, State.SERVING), (Row(1, "shop", 3, "run", "a"), {"state": "serving"}, False, State.TAKING),
-        ):  # fmt: skip
+            (FREE, {}, True, State.NOBODY),
+            (ROW, {"state": "closing"}, True, State.SILENT),
+            (ROW, {"state": "closing"}, False, State.CLOSING),
+            (ROW, {}, False, State.SERVING),
+            (Row(1, "shop", 3, "run", "a"), {"state": "serving"}, False, State.TAKING),
+        ):
             self.assertEqual(state_of(row, report, is_silent), state)
 
     def test_what_comes_next_where_it_is_served(self) -> None:
-        for seconds, by, words in ((11_000.0, "list", "A succession in about 3.1 h, by the list."), (0.0, "memory", "A succession now, by the memory."),
-                                   (600.0, "list", "A succession in about 10 min, by the list."), (None, "", "No succession is foreseen.")):  # fmt: skip
+        for seconds, by, words in (
+            (11_000.0, "list", "A succession in about 3.1 h, by the list."),
+            (0.0, "memory", "A succession now, by the memory."),
+            (600.0, "list", "A succession in about 10 min, by the list."),
+            (None, "", "No succession is foreseen."),
+        ):
             self.assertEqual(self.said(ROW, forecast=Forecast(seconds, by)), words)
-        under_way = "A succession is under way: the service of the next generation is made beside this one."
+        under_way = (
+            "A succession is under way: the service of the next generation is made beside this one."
+        )
         self.assertEqual(sentence(Scene(ROW, State.SERVING, is_succeeding=True)), under_way)
         self.assertEqual(self.said(replace(ROW, succeed=True)), under_way)
-        self.assertEqual(self.said(ROW, forecast=Forecast(is_early=True)), "It is too early to foresee its next succession.")
+        self.assertEqual(
+            self.said(ROW, forecast=Forecast(is_early=True)),
+            "It is too early to foresee its next succession.",
+        )
         paused = Row(1, "shop", 3, "run", "a", "127.0.0.1:1", paused=True)
-        self.assertEqual(self.said(paused, forecast=Forecast(60.0, "list", 120.0)),
-                         "Nobody takes it over or rolls it until it is resumed. Its list is full in about 2 min.")  # fmt: skip
+        self.assertEqual(
+            self.said(paused, forecast=Forecast(60.0, "list", 120.0)),
+            "Nobody takes it over or rolls it until it is resumed. Its list is full in about 2 min.",
+        )
 
     def test_what_comes_next_of_a_switchover(self) -> None:
         wished = Row(1, "shop", 3, "run", "a", "127.0.0.1:1", archived=5100, wanted="b")
         self.assertEqual(self.said(wished), "A switchover to b waits for its standby.")
-        for reached, lives, words in ((5100, True, "A switchover to b begins."), (4076, True, "A switchover to b begins."),
-                                      (4075, True, "A switchover to b waits: its standby lacks 1,025 blocks."),
-                                      (5100, False, "A switchover to b waits for its standby.")):  # fmt: skip
-            self.assertEqual(self.said(wished, spares=(Spare("b", reached, lives), Spare("c", 5100, True))), words)
+        for reached, lives, words in (
+            (5100, True, "A switchover to b begins."),
+            (4076, True, "A switchover to b begins."),
+            (4075, True, "A switchover to b waits: its standby lacks 1,025 blocks."),
+            (5100, False, "A switchover to b waits for its standby."),
+        ):
+            self.assertEqual(
+                self.said(wished, spares=(Spare("b", reached, lives), Spare("c", 5100, True))),
+                words,
+            )
 
     def test_what_comes_next_where_nobody_serves_it(self) -> None:
         spare = (Spare("b", 1000, True),)
         for row, spares, living, words in (
-            (FREE, spare, "ab", "b takes it, from its standby."), (FREE, (), "ab", "A keeper takes it, and fills a fresh service."),
-            (FREE, (Spare("b", 1000, False),), "a", "A keeper takes it, and fills a fresh service."), (FREE, (), "", "It waits for a keeper: none lives."),
-            (Row(1, "shop", wanted="b"), (), "ab", "b takes it, as was asked."), (Row(1, "shop", paused=True), spare, "ab", "Nobody takes it until it is resumed."),
-        ):  # fmt: skip
+            (FREE, spare, "ab", "b takes it, from its standby."),
+            (FREE, (), "ab", "A keeper takes it, and fills a fresh service."),
+            (
+                FREE,
+                (Spare("b", 1000, False),),
+                "a",
+                "A keeper takes it, and fills a fresh service.",
+            ),
+            (FREE, (), "", "It waits for a keeper: none lives."),
+            (Row(1, "shop", wanted="b"), (), "ab", "b takes it, as was asked."),
+            (Row(1, "shop", paused=True), spare, "ab", "Nobody takes it until it is resumed."),
+        ):
             self.assertEqual(self.said(row, State.NOBODY, spares, living), words)
-        self.assertEqual(self.said(ROW, State.SILENT, spare, "b"), "The beat of a stands still: b takes it over.")
-        self.assertEqual(self.said(ROW, State.SILENT, (), "c"), "The beat of a stands still: another keeper takes it over.")
-        self.assertEqual(self.said(ROW, State.SILENT, spare, ""), "The beat of a stands still, and no other keeper lives.")
-        self.assertEqual(self.said(ROW, State.TAKING), "It serves once the service of a has all blocks up to 600.")
+        self.assertEqual(
+            self.said(ROW, State.SILENT, spare, "b"), "The beat of a stands still: b takes it over."
+        )
+        self.assertEqual(
+            self.said(ROW, State.SILENT, (), "c"),
+            "The beat of a stands still: another keeper takes it over.",
+        )
+        self.assertEqual(
+            self.said(ROW, State.SILENT, spare, ""),
+            "The beat of a stands still, and no other keeper lives.",
+        )
+        self.assertEqual(
+            self.said(ROW, State.TAKING),
+            "It serves once the service of a has all blocks up to 600.",
+        )
         self.assertEqual(self.said(ROW, State.CLOSING), "a archives what is left, and releases it.")
 
     def test_a_forecast(self) -> None:
         still = Use(None, 0, None)
-        self.assertEqual(forecast_of(Use(768, 1024, 2.0), still, 0.5), Forecast(128.0, "list", 384.0))
-        self.assertEqual(forecast_of(Use(768, 1024, 2.0), still, 0.75), Forecast(256.0, "list", 384.0))
-        self.assertEqual(forecast_of(Use(768, 1024, 2.0), Use(30, 100, 1.0), 0.5), Forecast(20.0, "memory", 384.0))
+        self.assertEqual(
+            forecast_of(Use(768, 1024, 2.0), still, 0.5), Forecast(128.0, "list", 384.0)
+        )
+        self.assertEqual(
+            forecast_of(Use(768, 1024, 2.0), still, 0.75), Forecast(256.0, "list", 384.0)
+        )
+        self.assertEqual(
+            forecast_of(Use(768, 1024, 2.0), Use(30, 100, 1.0), 0.5),
+            Forecast(20.0, "memory", 384.0),
+        )
         self.assertEqual(forecast_of(Use(150, 1024, 2.0), still, 0.5), Forecast(0.0, "list", 75.0))
         self.assertEqual(forecast_of(Use(500, 1024, 0.0), Use(60, 100, -1.0), 0.5), Forecast())
-        self.assertEqual(forecast_of(Use(500, 1024, None), Use(60, 0, 1.0), 0.5), Forecast(is_early=True))
+        self.assertEqual(
+            forecast_of(Use(500, 1024, None), Use(60, 0, 1.0), 0.5), Forecast(is_early=True)
+        )
 
 
 class Events(unittest.TestCase):
@@ -136,56 +210,112 @@ class Events(unittest.TestCase):
             {row.id: Known(row, State.SERVING, frozenset(names)) for row in rows}
             for rows, names in ((before, ""), (now, standbys))
         ]
-        return [f"{event.name or ''}: {event.text} ({event.level})" for event in of_databases(looks[0], looks[1], 1.0)]
+        return [
+            f"{event.name or ''}: {event.text} ({event.level})"
+            for event in of_databases(looks[0], looks[1], 1.0)
+        ]
 
     def test_of_one(self) -> None:
         taken = Row(1, "shop", 4, "other", "b", "127.0.0.1:2", archived=1000, base=1000)
         for before, now, told in (
-            (ROW, taken, "b took it from a, and serves it: generation 4 from position 1,000 (warning)"),
-            (FREE, replace(taken, address=None), "b took it: generation 4 from position 1,000 (warning)"),
+            (
+                ROW,
+                taken,
+                "b took it from a, and serves it: generation 4 from position 1,000 (warning)",
+            ),
+            (
+                FREE,
+                replace(taken, address=None),
+                "b took it: generation 4 from position 1,000 (warning)",
+            ),
             (replace(taken, address=None), taken, "b serves it at 127.0.0.1:2 (good)"),
-            (ROW, FREE, "a released it at position 1,000 (bad)"), (ROW, replace(ROW, paused=True), "was paused (warning)"),
+            (ROW, FREE, "a released it at position 1,000 (bad)"),
+            (ROW, replace(ROW, paused=True), "was paused (warning)"),
             (replace(ROW, paused=True), ROW, "was resumed (plain)"),
             (ROW, replace(ROW, read_only=True), "may only be read now (warning)"),
             (ROW, replace(ROW, succeed=True), "a succession was asked for (plain)"),
-            (ROW, replace(ROW, generation=4, base=1000, images=990), "a goes on with generation 4 from position 1,000 (plain)"),
-            (ROW, replace(ROW, wanted="*"), "a switchover to another keeper was asked for (plain)"), (replace(ROW, wanted="b"), ROW, None),
-        ):  # fmt: skip
+            (
+                ROW,
+                replace(ROW, generation=4, base=1000, images=990),
+                "a goes on with generation 4 from position 1,000 (plain)",
+            ),
+            (ROW, replace(ROW, wanted="*"), "a switchover to another keeper was asked for (plain)"),
+            (replace(ROW, wanted="b"), ROW, None),
+        ):
             self.assertEqual(self.told([before], [now]), [f"shop: {told}"] if told else [])
-        self.assertEqual(self.told([ROW], [ROW], "bc"), ["shop: b stands by (plain)", "shop: c stands by (plain)"])
         self.assertEqual(
-            (self.told([], [ROW]), self.told([ROW], [])), (["shop: was created (plain)"], ["shop: was dropped (warning)"])
+            self.told([ROW], [ROW], "bc"),
+            ["shop: b stands by (plain)", "shop: c stands by (plain)"],
+        )
+        self.assertEqual(
+            (self.told([], [ROW]), self.told([ROW], [])),
+            (["shop: was created (plain)"], ["shop: was dropped (warning)"]),
         )
 
     def test_what_is_so_of_many_is_told_once(self) -> None:
         before = [replace(ROW, id=number, name=f"db{number}") for number in range(300)]
-        now = [replace(row, holder="b", generation=4 + row.id, address=None) for row in before[:297]] + before[297:]
+        now = [
+            replace(row, holder="b", generation=4 + row.id, address=None) for row in before[:297]
+        ] + before[297:]
         self.assertEqual(self.told(before, now), [": b took 297 databases from a (warning)"])
-        self.assertEqual(self.told(before, before, "c"), [": c stands by for 300 databases (plain)"])
+        self.assertEqual(
+            self.told(before, before, "c"), [": c stands by for 300 databases (plain)"]
+        )
         self.assertEqual(len(self.told(before[:5], now[:5])), 5)
 
 
 class Asides(unittest.TestCase):
     def test_what_postgresql_has_lost_is_told_also_of_a_database_that_it_lacks(self) -> None:
-        board, shown = Board(Limits()), [{"name": name, "run": f"run of {name}", "address": "a:1", "pid": 7, "had": 3} for name in ("shop", "lost")]
+        board, shown = Board(Limits()), [
+            {"name": name, "run": f"run of {name}", "address": "a:1", "pid": 7, "had": 3}
+            for name in ("shop", "lost")
+        ]
 
         def look(*asides: dict[str, object]) -> list[str]:
             before = len(board.state()["events"])
             report = {ASIDE: asides} if asides else {}
-            board.take(Seen(Look((ROW,), (KeeperRow("a", "life", "a:2", board.number, report),))), 1000.0 + board.number)
-            return [f"{event['name']}: {event['text']} ({event['level']})" for event in board.state()["events"][before:] if event["level"] == "bad"
-                    or "again" in event["text"]]  # fmt: skip
+            board.take(
+                Seen(Look((ROW,), (KeeperRow("a", "life", "a:2", board.number, report),))),
+                1000.0 + board.number,
+            )
+            return [
+                f"{event['name']}: {event['text']} ({event['level']})"
+                for event in board.state()["events"][before:]
+                if event["level"] == "bad" or "again" in event["text"]
+            ]
 
         self.assertEqual(look(), [])
-        self.assertEqual(look({**shown[0], "kept": False}), ["shop: run run of shop of keeper a has what PostgreSQL lacks, which went back: "
-                                                             "`pagelogctl rescue shop` says what it has (bad)"])  # fmt: skip
-        self.assertEqual(look(*shown), [f"{name}: run run of {name} of keeper a is set aside: `pagelogctl rescue {name}` says what it has (bad)"
-                                        for name in ("shop", "lost")])  # fmt: skip
+        self.assertEqual(
+            look({**shown[0], "kept": False}),
+            [
+                "shop: run run of shop of keeper a has what PostgreSQL lacks, which went back: "
+                "`pagelogctl rescue shop` says what it has (bad)"
+            ],
+        )
+        self.assertEqual(
+            look(*shown),
+            [
+                f"{name}: run run of {name} of keeper a is set aside: `pagelogctl rescue {name}` says what it has (bad)"
+                for name in ("shop", "lost")
+            ],
+        )
         self.assertEqual(look(*shown), [])
-        self.assertEqual([(each["name"], each["kept"], each["had"]) for each in board.state()["set_aside"]], [("shop", True, 3), ("lost", True, 3)])
-        self.assertTrue(board.state()["databases"][0]["next"].startswith("PostgreSQL lacks something: `pagelogctl rescue shop` says what. "))
-        self.assertEqual(look(shown[0]), ["lost: PostgreSQL has all of run run of lost again, or it was ended (plain)"])
-        self.assertEqual(look(), ["shop: PostgreSQL has all of run run of shop again, or it was ended (plain)"])
+        self.assertEqual(
+            [(each["name"], each["kept"], each["had"]) for each in board.state()["set_aside"]],
+            [("shop", True, 3), ("lost", True, 3)],
+        )
+        self.assertTrue(
+            board.state()["databases"][0]["next"].startswith(
+                "PostgreSQL lacks something: `pagelogctl rescue shop` says what. "
+            )
+        )
+        self.assertEqual(
+            look(shown[0]),
+            ["lost: PostgreSQL has all of run run of lost again, or it was ended (plain)"],
+        )
+        self.assertEqual(
+            look(), ["shop: PostgreSQL has all of run run of shop again, or it was ended (plain)"]
+        )
         self.assertFalse(board.state()["databases"][0]["next"].startswith("PostgreSQL lacks"))
 
 
@@ -195,14 +325,27 @@ class Histories(unittest.TestCase):
         for second in range(41):
             history.add(
                 Sample(
-                    1000.0 + second, "run", 10 * second, 10 * second + (30 if second > 37 else 0), 5000 - 7 * second, 100 + second
+                    1000.0 + second,
+                    "run",
+                    10 * second,
+                    10 * second + (30 if second > 37 else 0),
+                    5000 - 7 * second,
+                    100 + second,
                 )
             )
-        self.assertEqual((history.commits, history.lag_seconds, history.fall(), history.growth()), (13.0, 2.0, 7.0, 1.0))
+        self.assertEqual(
+            (history.commits, history.lag_seconds, history.fall(), history.growth()),
+            (13.0, 2.0, 7.0, 1.0),
+        )
         points = history.points()
-        self.assertEqual(([point.at for point in points], points[-1].commits), ([1005.0 + 5 * at for at in range(8)], 16.0))
+        self.assertEqual(
+            ([point.at for point in points], points[-1].commits),
+            ([1005.0 + 5 * at for at in range(8)], 16.0),
+        )
         history.add(Sample(1041.0, "other", 400, None, 9000, 1))
-        self.assertEqual((history.fall(), history.growth(), history.lag_seconds), (None, None, None))  # it is another service
+        self.assertEqual(
+            (history.fall(), history.growth(), history.lag_seconds), (None, None, None)
+        )  # it is another service
 
     def test_memory_does_not_grow_with_time(self) -> None:
         history = History()
@@ -218,7 +361,9 @@ class Unread(unittest.IsolatedAsyncioTestCase):
         self.rows = self.enterContext(Rows(300))
         self.source, self.board, self.watched = Source(self.rows.url), Board(Limits()), []  # type: ignore[var-annotated]
         self.addCleanup(self.source.close)
-        runner = web.AppRunner(Pages(self.board, Door(None), self.watched.append).application(), access_log=None)
+        runner = web.AppRunner(
+            Pages(self.board, Door(None), self.watched.append).application(), access_log=None
+        )
         await runner.setup()
         self.addAsyncCleanup(runner.cleanup)
         await web.TCPSite(runner, "127.0.0.1", 0).start()
@@ -228,7 +373,9 @@ class Unread(unittest.IsolatedAsyncioTestCase):
     async def look(self) -> None:
         """A look at which each database is other than before."""
         self.at += 1
-        await asyncio.to_thread(self.rows.session.execute, "UPDATE pagelog_log SET archived = archived + 1")
+        await asyncio.to_thread(
+            self.rows.session.execute, "UPDATE pagelog_log SET archived = archived + 1"
+        )
         self.board.take(await asyncio.to_thread(self.source.look), self.at)
 
     async def follow(self) -> asyncio.StreamReader:

@@ -60,7 +60,13 @@ class Browsed(unittest.TestCase):
     @classmethod
     def setUpClass(cls) -> None:
         options = webdriver.ChromeOptions()
-        for word in ("--headless=new", "--no-sandbox", "--disable-dev-shm-usage", "--disable-gpu", "--window-size=1440,900"):
+        for word in (
+            "--headless=new",
+            "--no-sandbox",
+            "--disable-dev-shm-usage",
+            "--disable-gpu",
+            "--window-size=1440,900",
+        ):
             options.add_argument(word)
         options.set_capability("goog:loggingPrefs", {"browser": "ALL"})
         cls.browser = webdriver.Chrome(service=Driver(DRIVER), options=options)
@@ -84,8 +90,10 @@ class Browsed(unittest.TestCase):
         self.assertEqual(found, [])
 
     def resize(self, width: int, height: int, scheme: str = "light") -> None:
-        self.browser.execute_cdp_cmd("Emulation.setDeviceMetricsOverride", {"width": width, "height": height, "deviceScaleFactor": 1,
-                                                                            "mobile": width < 600})  # fmt: skip
+        self.browser.execute_cdp_cmd(
+            "Emulation.setDeviceMetricsOverride",
+            {"width": width, "height": height, "deviceScaleFactor": 1, "mobile": width < 600},
+        )
         self.browser.execute_cdp_cmd(
             "Emulation.setEmulatedMedia",
             {
@@ -104,21 +112,34 @@ class Browsed(unittest.TestCase):
         eventually(lambda: "live" in self.text("#live"), "a look")
 
     def text(self, selector: str) -> str:
-        return str(self.js("return document.querySelector(arguments[0])?.innerText ?? ''", selector))
+        return str(
+            self.js("return document.querySelector(arguments[0])?.innerText ?? ''", selector)
+        )
 
     def texts(self, selector: str) -> list[str]:
         return list(
-            self.js("return [...document.querySelectorAll(arguments[0])].map((each) => each.textContent.trim())", selector)
+            self.js(
+                "return [...document.querySelectorAll(arguments[0])].map((each) => each.textContent.trim())",
+                selector,
+            )
         )
 
     def rows(self) -> list[list[str]]:
         """The texts of the visible cells of the visible rows."""
-        return list(self.js("return [...document.querySelectorAll('#rows tr')].filter((row) => row.offsetParent)"
-                            ".map((row) => [...row.children].filter((cell) => cell.offsetParent).map((cell) => cell.innerText.trim()))"))  # fmt: skip
+        return list(
+            self.js(
+                "return [...document.querySelectorAll('#rows tr')].filter((row) => row.offsetParent)"
+                ".map((row) => [...row.children].filter((cell) => cell.offsetParent).map((cell) => cell.innerText.trim()))"
+            )
+        )
 
     def names(self) -> list[str]:
-        return list(self.js("return [...document.querySelectorAll('#rows tr')].filter((row) => row.offsetParent)"
-                            ".map((row) => row.querySelector('.c-name').textContent)"))  # fmt: skip
+        return list(
+            self.js(
+                "return [...document.querySelectorAll('#rows tr')].filter((row) => row.offsetParent)"
+                ".map((row) => row.querySelector('.c-name').textContent)"
+            )
+        )
 
     def press(self, *keys: str) -> None:
         self.browser.switch_to.active_element.send_keys(*keys)
@@ -126,7 +147,9 @@ class Browsed(unittest.TestCase):
     def tab(self) -> str:
         """Where the next Tab leads to."""
         self.press(Keys.TAB)
-        return str(self.js("return document.activeElement.textContent.trim() || document.activeElement.id"))
+        return str(
+            self.js("return document.activeElement.textContent.trim() || document.activeElement.id")
+        )
 
     def check_page(self) -> None:
         """What holds of each page: no scrolling sideways, and nothing that has no name or cannot be read for want of contrast."""
@@ -138,7 +161,10 @@ class Browsed(unittest.TestCase):
 class OnePage(Browsed):
     def test_no_database_yet(self) -> None:
         self.open(self.console(postgres().url("none_of_pages")))
-        self.assertEqual((self.text("#none"), self.names()), ("There is no named database yet: pagelogctl create makes one.", []))
+        self.assertEqual(
+            (self.text("#none"), self.names()),
+            ("There is no named database yet: pagelogctl create makes one.", []),
+        )
         self.check_page()
 
     def test_three_hundred_are_filtered_sorted_and_read_on_a_phone(self) -> None:
@@ -147,21 +173,37 @@ class OnePage(Browsed):
             rows.session.execute(
                 "UPDATE pagelog_log SET run = NULL, holder = NULL, address = NULL WHERE name IN ('db150', 'db151')"
             )
-            rows.session.execute("UPDATE pagelog_log SET paused = true WHERE name IN ('db151', 'db299')")
+            rows.session.execute(
+                "UPDATE pagelog_log SET paused = true WHERE name IN ('db151', 'db299')"
+            )
             self.open(console)
             names = self.names()
-            self.assertEqual((len(names), names[:3]), (300, ["db150", "db151", "db299"]))  # the most urgent first
+            self.assertEqual(
+                (len(names), names[:3]), (300, ["db150", "db151", "db299"])
+            )  # the most urgent first
             self.assertEqual(
                 self.texts("#states button"),
-                ["all 300", "nobody has it 2", "no beat 0", "taking 0", "closing 0", "serving 298", "paused 2"],
+                [
+                    "all 300",
+                    "nobody has it 2",
+                    "no beat 0",
+                    "taking 0",
+                    "closing 0",
+                    "serving 298",
+                    "paused 2",
+                ],
             )
             self.browser.find_element(By.CSS_SELECTOR, "#states button:nth-of-type(2)").click()
-            self.assertEqual([row[:2] for row in self.rows()], [["nobody has it", "db150"], ["nobody has it paused", "db151"]])
+            self.assertEqual(
+                [row[:2] for row in self.rows()],
+                [["nobody has it", "db150"], ["nobody has it paused", "db151"]],
+            )
             self.browser.find_element(By.CSS_SELECTOR, "#states button:first-of-type").click()
             self.browser.find_element(By.CSS_SELECTOR, ".c-name button").click()
             self.browser.find_element(By.CSS_SELECTOR, ".c-name button").click()
             self.assertEqual(
-                (self.names()[0], self.js("return document.querySelector('th.c-name').ariaSort")), ("db300", "descending")
+                (self.names()[0], self.js("return document.querySelector('th.c-name').ariaSort")),
+                ("db300", "descending"),
             )
             self.check_page()
             for width, scheme in ((360, "light"), (360, "dark"), (768, "dark"), (1440, "dark")):
@@ -172,7 +214,11 @@ class OnePage(Browsed):
             self.browser.find_element(By.ID, "words").send_keys("DB04")
             self.assertEqual(self.names(), [f"db{number:03}" for number in range(49, 39, -1)])
             self.browser.find_element(By.LINK_TEXT, "db042").click()
-            eventually(lambda: self.text("#detail-title") == "db042" and "Positions" in self.text("#detail"), "its page")
+            eventually(
+                lambda: self.text("#detail-title") == "db042"
+                and "Positions" in self.text("#detail"),
+                "its page",
+            )
             self.check_page()
 
     def test_it_is_dark_where_that_is_wanted(self) -> None:
@@ -182,7 +228,9 @@ class OnePage(Browsed):
             grounds = []
             for scheme in ("light", "dark"):
                 self.resize(1440, 900, scheme)
-                grounds.append(self.js("return getComputedStyle(document.documentElement).backgroundColor"))
+                grounds.append(
+                    self.js("return getComputedStyle(document.documentElement).backgroundColor")
+                )
             self.assertEqual(grounds, ["rgb(246, 247, 248)", "rgb(18, 22, 26)"])
 
     def test_the_keyboard_alone(self) -> None:
@@ -200,10 +248,15 @@ class OnePage(Browsed):
             self.assertEqual(self.js("return document.activeElement.textContent"), "db019")
             self.press(Keys.HOME)
             self.press(Keys.ENTER)
-            self.assertEqual((self.js("return location.hash"), self.text("#detail-title")), ("#/db010", "db010"))
+            self.assertEqual(
+                (self.js("return location.hash"), self.text("#detail-title")), ("#/db010", "db010")
+            )
             self.assertEqual(self.js("return document.activeElement.id"), "detail-title")
             self.press(Keys.ESCAPE)
-            eventually(lambda: self.js("return document.activeElement.textContent") == "db010", "the row that was left")
+            eventually(
+                lambda: self.js("return document.activeElement.textContent") == "db010",
+                "the row that was left",
+            )
             self.assertFalse(self.browser.find_element(By.ID, "detail").is_displayed())
             self.press("/")
             self.press(Keys.ESCAPE)
@@ -211,7 +264,16 @@ class OnePage(Browsed):
             reached = [self.tab() for _ in range(18)]
             self.assertEqual(
                 reached[:8],
-                ["all 30", "nobody has it 0", "no beat 0", "taking 0", "closing 0", "serving 30", "paused 0", "State"],
+                [
+                    "all 30",
+                    "nobody has it 0",
+                    "no beat 0",
+                    "taking 0",
+                    "closing 0",
+                    "serving 30",
+                    "paused 0",
+                    "State",
+                ],
             )
             self.assertEqual(reached[-1], "db010")  # one stop for all rows
             self.assertFalse([each for each in reached[:-1] if each.startswith("db")])
@@ -225,19 +287,28 @@ class OnePage(Browsed):
             self.open(console)
             self.assertEqual(self.names(), [HOSTILE, "db001"])
             self.js("document.querySelector('#rows a').click()")
-            eventually(lambda: self.text("#detail-title") == HOSTILE and HOSTILE in self.text(".part-generations"), "its page")
+            eventually(
+                lambda: self.text("#detail-title") == HOSTILE
+                and HOSTILE in self.text(".part-generations"),
+                "its page",
+            )
             self.assertIn(HOSTILE, self.text("#facts"))
             self.assertEqual(self.js("return document.querySelectorAll('img').length"), 1)
             self.check_page()
             self.js("location.hash = '#/%E0%A4%A'")  # a link that was cut
-            eventually(lambda: not self.browser.find_element(By.ID, "detail").is_displayed(), "the table alone")
+            eventually(
+                lambda: not self.browser.find_element(By.ID, "detail").is_displayed(),
+                "the table alone",
+            )
 
     def test_a_login(self) -> None:
         with Rows(1) as rows:
             console = self.console(rows.url, token="a-token-of-sixteen-letters")
             self.browser.get(console.url)
             self.check_page()
-            self.browser.find_element(By.ID, "token").send_keys("a-token-of-sixteen-letters", Keys.ENTER)
+            self.browser.find_element(By.ID, "token").send_keys(
+                "a-token-of-sixteen-letters", Keys.ENTER
+            )
             eventually(lambda: self.names() == ["db001"], "the page behind the login")
             self.assertEqual(self.js("return document.cookie"), "")  # no script has it
 
@@ -247,12 +318,21 @@ class OnePage(Browsed):
             self.open(console)
             postgres().crash()
             try:
-                eventually(lambda: self.text("#trouble").startswith("PostgreSQL is away. What is shown is of"), "what is wrong")
+                eventually(
+                    lambda: self.text("#trouble").startswith(
+                        "PostgreSQL is away. What is shown is of"
+                    ),
+                    "what is wrong",
+                )
                 self.assertEqual(len(self.names()), 2)
                 self.check_page()
             finally:
                 postgres().start()
-            eventually(lambda: self.text("#trouble") == "" and "PostgreSQL is back" in self.text("#events"), "its end")
+            eventually(
+                lambda: self.text("#trouble") == ""
+                and "PostgreSQL is back" in self.text("#events"),
+                "its end",
+            )
 
 
 class Takeover(Browsed, Kept):
@@ -264,19 +344,30 @@ class Takeover(Browsed, Kept):
             self.open(console, "#/shop")
             self.commit(primary, "1", durable=True)
             eventually(
-                lambda: self.text(".part-marks") == "serving" and "blocks behind" in self.text(".part-facts"), "that it serves"
+                lambda: self.text(".part-marks") == "serving"
+                and "blocks behind" in self.text(".part-facts"),
+                "that it serves",
             )
             row = self.keeping.row()
             os.kill(self.keeping.pid(), signal.SIGKILL)
             eventually(
-                lambda: self.keeping.row().generation > row.generation and self.keeping.row().address is not None, "a takeover"
+                lambda: self.keeping.row().generation > row.generation
+                and self.keeping.row().address is not None,
+                "a takeover",
             )
             holder = self.keeping.row().holder
             eventually(
-                lambda: f"{holder} took it" in self.text(".part-events") and self.text(".part-marks") == "serving", "the takeover"
+                lambda: f"{holder} took it" in self.text(".part-events")
+                and self.text(".part-marks") == "serving",
+                "the takeover",
             )
-            eventually(lambda: int(self.js("return document.querySelectorAll('.strip rect').length")) >= 2, "the strip")
-            self.assertIn(f"shop: {holder}", self.js("return document.getElementById('said').textContent"))
+            eventually(
+                lambda: int(self.js("return document.querySelectorAll('.strip rect').length")) >= 2,
+                "the strip",
+            )
+            self.assertIn(
+                f"shop: {holder}", self.js("return document.getElementById('said').textContent")
+            )
             self.check_page()
 
 
@@ -290,8 +381,13 @@ class OfAKeeper(Browsed, Kept):
             self.open(page_of(self.keeping), "#/shop")
             self.commit(primary, "1", durable=True)
             self.keeping.word("succeed", "shop")
-            eventually(lambda: "a goes on with generation" in self.text(".part-events"), "the succession")
-            eventually(lambda: int(self.js("return document.querySelectorAll('.strip rect').length")) >= 2, "the strip")
+            eventually(
+                lambda: "a goes on with generation" in self.text(".part-events"), "the succession"
+            )
+            eventually(
+                lambda: int(self.js("return document.querySelectorAll('.strip rect').length")) >= 2,
+                "the strip",
+            )
             self.assertEqual(self.commit(primary, "2", durable=True), 2)
             self.check_page()
 

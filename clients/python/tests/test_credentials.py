@@ -24,7 +24,9 @@ class Files(unittest.TestCase):
         return self.file
 
     def test_a_file(self) -> None:
-        accounts = load(self.write(GOOD + '[archive]\nurl = "sqlite://"\n[service]\naudit = 1000\n'), {})
+        accounts = load(
+            self.write(GOOD + '[archive]\nurl = "sqlite://"\n[service]\naudit = 1000\n'), {}
+        )
         account = accounts.account(Role.PRIMARY)
         self.assertEqual((account.to, account.credentials.id), (Address("127.0.0.1", 7400), 2))
         self.assertEqual(account.credentials.token, b"\x22" * 16)
@@ -36,9 +38,13 @@ class Files(unittest.TestCase):
     def test_keep_is_a_number_of_bases_also_in_quotes_or_a_time(self) -> None:
         for said, meant in (("3", 3), ('"3"', 3), ('"12h"', "12 hours"), ('"7 d"', "7 days")):
             with self.subTest(said):
-                self.assertEqual(load(self.write(f"[archive]\nkeep = {said}\n"), {}).archive_keep, meant)
+                self.assertEqual(
+                    load(self.write(f"[archive]\nkeep = {said}\n"), {}).archive_keep, meant
+                )
         for said in ("0", '"0"', '"-1"', '"1.5"', '""', "true", '"1234567"'):
-            with self.subTest(said), self.assertRaisesRegex(CredentialsError, "keep is a number of bases, or a time as 12h or 7d"):
+            with self.subTest(said), self.assertRaisesRegex(
+                CredentialsError, "keep is a number of bases, or a time as 12h or 7d"
+            ):
                 load(self.write(f"[archive]\nkeep = {said}\n"), {})
 
     def test_a_file_that_others_may_read_is_refused(self) -> None:
@@ -46,17 +52,29 @@ class Files(unittest.TestCase):
             with self.subTest(oct(mode)), self.assertRaisesRegex(CredentialsError, "chmod 600"):
                 load(self.write(GOOD, mode), {})
         for mode in (0o600, 0o400, 0o700):
-            self.assertEqual(load(self.write(GOOD, mode), {}).account(Role.PRIMARY).credentials.id, 2)
+            self.assertEqual(
+                load(self.write(GOOD, mode), {}).account(Role.PRIMARY).credentials.id, 2
+            )
 
     def test_what_is_wrong_with_a_file(self) -> None:
         cases = {
-            "no TOML": "[primary", "a section too many": GOOD + "[other]\n", "no token": "\n".join(GOOD.splitlines()[:-1]),
-            "a key too many": GOOD + "more = 1\n", "a short token": GOOD.replace("22", "2"), "an id that is a word": GOOD.replace("= 2", '= "2x"'),
-            "no address": GOOD.replace(":7400", ""), "a token of other digits": GOOD.replace("22", "2g", 1),
-            "no section": 'primary = "x"\n', "an audit list of nothing": GOOD + "[service]\naudit = 0\n",
-            "a quorum that is no whole number": GOOD + "[service]\nquorum = 2.0\n", "a quorum that is a list": GOOD + "[service]\nquorum = [2]\n",
-        }  # fmt: skip
-        cases |= {"a number of many digits": "id = " + "9" * 5000, "brackets within brackets": "id = " + "[" * 5000}
+            "no TOML": "[primary",
+            "a section too many": GOOD + "[other]\n",
+            "no token": "\n".join(GOOD.splitlines()[:-1]),
+            "a key too many": GOOD + "more = 1\n",
+            "a short token": GOOD.replace("22", "2"),
+            "an id that is a word": GOOD.replace("= 2", '= "2x"'),
+            "no address": GOOD.replace(":7400", ""),
+            "a token of other digits": GOOD.replace("22", "2g", 1),
+            "no section": 'primary = "x"\n',
+            "an audit list of nothing": GOOD + "[service]\naudit = 0\n",
+            "a quorum that is no whole number": GOOD + "[service]\nquorum = 2.0\n",
+            "a quorum that is a list": GOOD + "[service]\nquorum = [2]\n",
+        }
+        cases |= {
+            "a number of many digits": "id = " + "9" * 5000,
+            "brackets within brackets": "id = " + "[" * 5000,
+        }
         for name, text in cases.items():
             with self.subTest(name), self.assertRaises(CredentialsError):
                 load(self.write(text), {})
@@ -67,8 +85,13 @@ class Files(unittest.TestCase):
                 load(self.file.parent / file, {})
 
     def test_the_environment(self) -> None:
-        environment = {"PAGELOG_CREDENTIALS": str(self.write(GOOD)), "PAGELOG_PRIMARY_TOKEN": token(9),
-                       "PAGELOG_OPERATOR_TO": "h:1", "PAGELOG_OPERATOR_ID": "1", "PAGELOG_OPERATOR_TOKEN": token(1)}  # fmt: skip
+        environment = {
+            "PAGELOG_CREDENTIALS": str(self.write(GOOD)),
+            "PAGELOG_PRIMARY_TOKEN": token(9),
+            "PAGELOG_OPERATOR_TO": "h:1",
+            "PAGELOG_OPERATOR_ID": "1",
+            "PAGELOG_OPERATOR_TOKEN": token(1),
+        }
         accounts = load(None, environment)
         self.assertEqual(accounts.account(Role.PRIMARY).credentials, Credentials.of(2, token(9)))
         self.assertEqual(accounts.account(Role.OPERATOR).to, Address("h", 1))
@@ -78,7 +101,13 @@ class Files(unittest.TestCase):
         self.assertEqual(load(None, {}).of_role, {})
 
     def test_credentials(self) -> None:
-        for id, digits in ((-1, token(1)), (1 << 32, token(1)), (True, token(1)), (1, token(1)[:-2]), (1, " " + token(1)[1:])):
+        for id, digits in (
+            (-1, token(1)),
+            (1 << 32, token(1)),
+            (True, token(1)),
+            (1, token(1)[:-2]),
+            (1, " " + token(1)[1:]),
+        ):
             with self.assertRaises(CredentialsError):
                 Credentials.of(id, digits)
         with self.assertRaises(CredentialsError):

@@ -54,7 +54,10 @@ def wait_for(names: str) -> None:
     _pairs[0].leader.setting("synchronous_standby_names", names)
     count = "SELECT count(*) FROM pg_stat_replication WHERE sync_state IN ('sync', 'quorum')"
     with boss() as session:
-        eventually(lambda: (session.execute(count).fetchone() == (1,)) == bool(names), f"standbys {names!r}")
+        eventually(
+            lambda: (session.execute(count).fetchone() == (1,)) == bool(names),
+            f"standbys {names!r}",
+        )
 
 
 def end_standby(names: str) -> None:
@@ -108,8 +111,13 @@ class Referees(unittest.TestCase):
         asks = threading.Thread(target=ask, daemon=True)
         asks.start()
         waits = f"SELECT 1 FROM pg_stat_activity WHERE wait_event = 'SyncRep' AND application_name = 'pagelog keeper {referee.me}'"
-        with psycopg.connect(f"postgresql://pagelog@/kept?host={server.folder}", autocommit=True) as session:
-            eventually(lambda: bool(found) or session.execute(waits).fetchone() is not None, "a commit that waits")
+        with psycopg.connect(
+            f"postgresql://pagelog@/kept?host={server.folder}", autocommit=True
+        ) as session:
+            eventually(
+                lambda: bool(found) or session.execute(waits).fetchone() is not None,
+                "a commit that waits",
+            )
         referee.cut()
         asks.join(PATIENCE)
         return found[0]
@@ -124,10 +132,16 @@ class Referees(unittest.TestCase):
         more = batch_of(self.row, kept.__class__(batch.new, batch.chain, kept.generation), "r1")
         with self.assertRaises(OneDisk):
             self.careful.keep([more])
-        for call in (self.careful.look, lambda: self.careful.kept(self.row.id, "r1"), lambda: self.careful.fate(self.row.name, 1)):
+        for call in (
+            self.careful.look,
+            lambda: self.careful.kept(self.row.id, "r1"),
+            lambda: self.careful.fate(self.row.name, 1),
+        ):
             self.assertRaises(OneDisk, call)
-        self.assertEqual((self.plain.look().synchronous, self.plain.look().synchronous.meaning),
-                         (Synchronous("", 0), "durable means one disk: PostgreSQL has no synchronous standby"))  # fmt: skip
+        self.assertEqual(
+            (self.plain.look().synchronous, self.plain.look().synchronous.meaning),
+            (Synchronous("", 0), "durable means one disk: PostgreSQL has no synchronous standby"),
+        )
         wait_for("*")
         found = self.careful.kept(self.row.id, "r1")
         self.assertEqual((found and found.archived, found and found.chain), (more.new, more.chain))
@@ -153,7 +167,12 @@ class Referees(unittest.TestCase):
             self.pair.leader.setting("synchronous_standby_names", "")
             thread.join(PATIENCE)
             self.assertEqual([type(error) for error in raised], [OneDisk])
-            self.assertEqual(session.execute("SELECT count(*) FROM pagelog_block WHERE log = %s", (self.row.id,)).fetchone(), (3,))
+            self.assertEqual(
+                session.execute(
+                    "SELECT count(*) FROM pagelog_block WHERE log = %s", (self.row.id,)
+                ).fetchone(),
+                (3,),
+            )
 
     def test_a_line_that_is_cut_while_it_is_confirmed_is_in_doubt(self) -> None:
         through = self.new("through", requires_standby=True)
@@ -173,7 +192,11 @@ class Referees(unittest.TestCase):
             kept = taker.take(self.row, "r1")
             assert kept is not None
             for kind in (Referee, QuickReferee):
-                writer = kind(f"postgresql://pagelog@/kept?host={old.folder},{new.folder}", "writer", "life of writer")
+                writer = kind(
+                    f"postgresql://pagelog@/kept?host={old.folder},{new.folder}",
+                    "writer",
+                    "life of writer",
+                )
                 self.addCleanup(writer.close)
                 batch = batch_of(self.row, kept, "r1")
 
@@ -198,16 +221,29 @@ class Referees(unittest.TestCase):
 
         def beside() -> None:
             new = self.pair.leader
-            keepers = [Referee(f"postgresql://pagelog@/kept?host={new.folder},{old.folder}", name, "later") for name in ("again", "fresh")]
+            keepers = [
+                Referee(f"postgresql://pagelog@/kept?host={new.folder},{old.folder}", name, "later")
+                for name in ("again", "fresh")
+            ]
             for each in keepers:
                 self.addCleanup(each.close)
                 each.register(f"{each.me}:2")
-                beats = [keeper.beat for keeper in (each.look().keeper(each.me), look_at_old(each).keeper(each.me)) if keeper is not None]
-                self.assertEqual((beats[1] - beats[0], each._connected().info.host), (1, str(new.folder)))
+                beats = [
+                    keeper.beat
+                    for keeper in (each.look().keeper(each.me), look_at_old(each).keeper(each.me))
+                    if keeper is not None
+                ]
+                self.assertEqual(
+                    (beats[1] - beats[0], each._connected().info.host), (1, str(new.folder))
+                )
             again, fresh = keepers
-            with psycopg.connect(f"postgresql://pagelog@/kept?host={old.folder}", autocommit=True) as session:
+            with psycopg.connect(
+                f"postgresql://pagelog@/kept?host={old.folder}", autocommit=True
+            ) as session:
                 session.execute("SET synchronous_commit = local")  # as where its wait was cut off
-                session.execute("UPDATE pagelog_keeper SET run = 'latest', beat = beat + 100 WHERE name = 'again'")
+                session.execute(
+                    "UPDATE pagelog_keeper SET run = 'latest', beat = beat + 100 WHERE name = 'again'"
+                )
             self.assertIsInstance(self.cut_at(old, again, again.look), Doubt)
             self.assertIsNotNone(again.look())
             latest = Referee(f"postgresql://pagelog@/kept?host={new.folder}", "fresh", "latest")
@@ -220,18 +256,36 @@ class Referees(unittest.TestCase):
         for each in (earlier, self.plain):
             each.close()
 
-    def test_a_switch_of_which_an_old_leader_does_not_know_is_looked_up_at_the_new_one(self) -> None:
+    def test_a_switch_of_which_an_old_leader_does_not_know_is_looked_up_at_the_new_one(
+        self,
+    ) -> None:
         old = self.pair.leader
 
         def beside() -> None:
-            keeper = self.new("fifth", f"postgresql://pagelog@/kept?host={self.pair.leader.folder},{old.folder}")
+            keeper = self.new(
+                "fifth", f"postgresql://pagelog@/kept?host={self.pair.leader.folder},{old.folder}"
+            )
             kept = keeper.take(self.row, "r1")
             assert kept is not None
             given = number(keeper, self.row.id, "r1", kept.generation)
             assert given is not None
-            switch = Switch(self.row.id, "r1", kept.generation, kept.archived, (), kept.chain, given, "r2", "x:1", 0, 0)
+            switch = Switch(
+                self.row.id,
+                "r1",
+                kept.generation,
+                kept.archived,
+                (),
+                kept.chain,
+                given,
+                "r2",
+                "x:1",
+                0,
+                0,
+            )
             self.assertTrue(succeed(keeper, switch))
-            self.assertIsInstance(self.cut_at(old, keeper, lambda: has_begun(keeper, switch)), Doubt)
+            self.assertIsInstance(
+                self.cut_at(old, keeper, lambda: has_begun(keeper, switch)), Doubt
+            )
             self.assertIs(has_begun(keeper, switch), True)
 
         self.pair.fail_over_beside(beside)
@@ -242,15 +296,23 @@ class Referees(unittest.TestCase):
 
         def beside() -> None:
             new = self.pair.leader
-            keeper = self.new("fourth", f"postgresql://pagelog@/kept?host={new.folder},{old.folder}", requires_standby=True)
+            keeper = self.new(
+                "fourth",
+                f"postgresql://pagelog@/kept?host={new.folder},{old.folder}",
+                requires_standby=True,
+            )
             keeper.register("fourth:1")
             kept = keeper.take(self.row, "r1")
             assert kept is not None
             batch = batch_of(self.row, kept, "r1")
-            self.go_to(old, keeper)  # which changes nothing of what it is asked then, and has no standby
+            self.go_to(
+                old, keeper
+            )  # which changes nothing of what it is asked then, and has no standby
             self.assertIsNotNone(keeper.look())
             self.go_to(old, keeper)
-            self.assertEqual([keeper.keep([batch]), keeper.keep([batch])], [frozenset(), {self.row.id}])
+            self.assertEqual(
+                [keeper.keep([batch]), keeper.keep([batch])], [frozenset(), {self.row.id}]
+            )
 
         self.pair.fail_over_beside(beside)
         self.plain.close()
@@ -268,7 +330,9 @@ class Referees(unittest.TestCase):
             careful.register("both:1")
         with boss() as session:
             session.execute("GRANT pg_read_all_stats TO limited")
-        self.assertEqual((limited.look().synchronous.count, careful.look().synchronous.count), (1, 1))
+        self.assertEqual(
+            (limited.look().synchronous.count, careful.look().synchronous.count), (1, 1)
+        )
 
     def test_what_durable_means_is_said(self) -> None:
         self.assertIn("nothing becomes durable", Synchronous("*", 0).meaning)
@@ -280,7 +344,11 @@ class Durable(Kept):
     more, ttl = "", 1.5
 
     def setUp(self) -> None:
-        self.options = {"url": pair().url, "ttl": self.ttl, "more": f'metrics = "127.0.0.1:0"\n{self.more}'}
+        self.options = {
+            "url": pair().url,
+            "ttl": self.ttl,
+            "more": f'metrics = "127.0.0.1:0"\n{self.more}',
+        }
         super().setUp()
 
     def standbys(self) -> float:
@@ -295,14 +363,19 @@ class Durable(Kept):
 
     def beat(self) -> int:
         with boss() as session:
-            [beat] = session.execute("SELECT beat FROM pagelog_keeper WHERE name = 'a'").fetchone() or [0]
+            [beat] = session.execute(
+                "SELECT beat FROM pagelog_keeper WHERE name = 'a'"
+            ).fetchone() or [0]
         return int(beat)
 
     def waits(self, statement: str) -> None:
         """Waits for such a statement of the keeper that the leader has committed, and its standby has not."""
         waits = "SELECT 1 FROM pg_stat_activity WHERE wait_event = 'SyncRep' AND application_name = 'pagelog keeper a' AND query LIKE %s"
         with boss() as session:
-            eventually(lambda: session.execute(waits, (f"%{statement}%",)).fetchone() is not None, f"a wait of {statement}")
+            eventually(
+                lambda: session.execute(waits, (f"%{statement}%",)).fetchone() is not None,
+                f"a wait of {statement}",
+            )
 
 
 class OneDiskIsEnough(Durable):
@@ -317,12 +390,16 @@ class OneDiskIsEnough(Durable):
             self.addCleanup(start_standby)
             self.assertEqual(self.commit(primary, "2", durable=True), 2)
             eventually(lambda: self.standbys() == 0, "no standby in the metric")
-            self.assertEqual(json.loads(self.keeping.word("kept", "--json"))["synchronous_standbys"], 0)
+            self.assertEqual(
+                json.loads(self.keeping.word("kept", "--json"))["synchronous_standbys"], 0
+            )
             self.assertIn("durable means one disk", self.keeping.word("kept"))
             self.two_looks()
             start_standby()
             eventually(lambda: self.standbys() == 1, "the standby in the metric")
-            self.assertIn("another disk too: PostgreSQL has 1 synchronous standby", self.keeping.word("kept"))
+            self.assertIn(
+                "another disk too: PostgreSQL has 1 synchronous standby", self.keeping.word("kept")
+            )
         self.assertEqual(self.keeping.said().count("durable means one disk"), 1)
 
 
@@ -332,23 +409,36 @@ class AStandbyLeads(Durable):
     more, ttl = "require_standby = true\n", 20.0
 
     def setUp(self) -> None:
-        pair().leader.setting("synchronous_commit", "remote_apply")  # so that a standby can have what nobody is told of yet
+        pair().leader.setting(
+            "synchronous_commit", "remote_apply"
+        )  # so that a standby can have what nobody is told of yet
         self.addCleanup(lambda: _pairs[0].leader.setting("synchronous_commit", "on"))
-        with psycopg.connect(_pairs[0].url + "&target_session_attrs=read-write", autocommit=True) as session:
-            eventually(lambda: session.execute("SHOW synchronous_commit").fetchone() == ("remote_apply",), "the setting")
+        with psycopg.connect(
+            _pairs[0].url + "&target_session_attrs=read-write", autocommit=True
+        ) as session:
+            eventually(
+                lambda: session.execute("SHOW synchronous_commit").fetchone() == ("remote_apply",),
+                "the setting",
+            )
         super().setUp()
 
     def fail_over_amid(self, primary: NamedPrimary, position: int) -> None:
         """Makes a commit durable at this position; while it waits for the standby, that takes the leader's place."""
         told: list[int] = []
-        writer = threading.Thread(target=lambda: told.append(self.commit(primary, f"{position}", durable=True)), daemon=True)
+        writer = threading.Thread(
+            target=lambda: told.append(self.commit(primary, f"{position}", durable=True)),
+            daemon=True,
+        )
         writer.start()
         self.waits("INSERT INTO pagelog_block")
         is_there = (_pairs[0].standby.data / "postmaster.pid").exists()
         if is_there:
             with boss() as session:
                 has = "SELECT bool_and(flush_lsn >= pg_current_wal_flush_lsn()) FROM pg_stat_replication"
-                eventually(lambda: session.execute(has).fetchone() == (True,), "all on the disk of the standby")
+                eventually(
+                    lambda: session.execute(has).fetchone() == (True,),
+                    "all on the disk of the standby",
+                )
         said = self.keeping.said().count("nothing is archived")
         others = _pairs[0].leader.kill()
         eventually(lambda: self.keeping.said().count("nothing is archived") > said, "the doubt")
@@ -369,20 +459,34 @@ class AStandbyLeads(Durable):
             self.addCleanup(keepers.close)
 
             def fates() -> list[Fate]:
-                return [keepers.fate(place, position) for place, position in ((first, 1), (first, 2), (second, 2))]
+                return [
+                    keepers.fate(place, position)
+                    for place, position in ((first, 1), (first, 2), (second, 2))
+                ]
 
             told = fates()
             self.assertEqual([fate.is_over for fate in told], [True, True, False])
-            with psycopg.connect(f"postgresql://pagelog@/kept?host={_pairs[0].standby.folder}", autocommit=True) as session:
-                session.execute("SELECT pg_wal_replay_pause()")  # the standby takes what comes to its disk, and does no more with it
-                eventually(lambda: session.execute("SELECT pg_get_wal_replay_pause_state()").fetchone() == ("paused",), "the pause")
+            with psycopg.connect(
+                f"postgresql://pagelog@/kept?host={_pairs[0].standby.folder}", autocommit=True
+            ) as session:
+                session.execute(
+                    "SELECT pg_wal_replay_pause()"
+                )  # the standby takes what comes to its disk, and does no more with it
+                eventually(
+                    lambda: session.execute("SELECT pg_get_wal_replay_pause_state()").fetchone()
+                    == ("paused",),
+                    "the pause",
+                )
             self.fail_over_amid(primary, 3)
             self.assertEqual(fates()[:2], told[:2])
             _pairs[0].standby.crash()  # it leads later without what it missed
             self.fail_over_amid(primary, 4)
             self.assertEqual(self.commit(primary, "5", durable=True), 5)
             self.assertEqual([*fates()[:2], keepers.fate(second, 5)], [*told[:2], Fate(5, False)])
-            self.assertEqual((self.keeping.place().generation, self.texts()), (second.generation, [b"1", b"2", b"3", b"4", b"5"]))
+            self.assertEqual(
+                (self.keeping.place().generation, self.texts()),
+                (second.generation, [b"1", b"2", b"3", b"4", b"5"]),
+            )
 
 
 class AServerComesBack(Durable):
@@ -400,7 +504,12 @@ class AServerComesBack(Durable):
             _pairs[0].leader.crash()
             _pairs[0].leader.start()
             with boss() as session:  # everybody sees it, and it is on one disk
-                self.assertEqual(session.execute("SELECT archived FROM pagelog_log WHERE name = 'shop'").fetchone(), (2,))
+                self.assertEqual(
+                    session.execute(
+                        "SELECT archived FROM pagelog_log WHERE name = 'shop'"
+                    ).fetchone(),
+                    (2,),
+                )
             self.waits("UPDATE pagelog_log SET archived = archived")
             print("where shop", file=text, flush=True)
             self.assertEqual(text.readline().split()[:6:5], ["at", "1"])
@@ -408,7 +517,9 @@ class AServerComesBack(Durable):
             start_standby()
             self.assertEqual(text.readline().split(), ["durable", "shop", str(generation), "2"])
             primary.durable(2)
-            self.assertEqual((self.keeping.place().generation, self.texts()), (generation, [b"1", b"2"]))
+            self.assertEqual(
+                (self.keeping.place().generation, self.texts()), (generation, [b"1", b"2"])
+            )
 
 
 class AnOldLeaderGoesOn(Durable):
@@ -420,19 +531,28 @@ class AnOldLeaderGoesOn(Durable):
 
         def beside() -> None:
             url = f"postgresql://pagelog@/kept?host={_pairs[0].leader.folder}"
-            keeping.file.write_text(keeping.file.read_text().replace(keeping.url, f"{url},{old.folder}"))
+            keeping.file.write_text(
+                keeping.file.read_text().replace(keeping.url, f"{url},{old.folder}")
+            )
             keeping.start("a")
             with keeping.primary() as primary, psycopg.connect(url, autocommit=True) as session:
                 self.commit(primary, "1", durable=True)
                 place, pid, keeper = keeping.place(), keeping.pid(), keeping.processes["a"]
                 old.setting("log_statement", "all")
                 with psycopg.connect(url) as other:
-                    other.execute("SELECT 1 FROM pagelog_keeper FOR UPDATE")  # so that a look is under way as its session is ended
+                    other.execute(
+                        "SELECT 1 FROM pagelog_keeper FOR UPDATE"
+                    )  # so that a look is under way as its session is ended
                     looks = "wait_event_type = 'Lock' AND application_name = 'pagelog keeper a'"
                     waits = f"SELECT pg_notify('pagelog_keeper', ''), count(*) FROM pg_stat_activity WHERE {looks}"
                     eventually(lambda: session.execute(waits).fetchone()[1] == 1, "a look that waits")  # type: ignore[index]
-                    session.execute("SELECT pg_terminate_backend(pid) FROM pg_stat_activity WHERE application_name = 'pagelog keeper a'")
-                    eventually(lambda: "SET beat = beat + 1" in (old.folder / "log").read_text(), "a look at the old leader")
+                    session.execute(
+                        "SELECT pg_terminate_backend(pid) FROM pg_stat_activity WHERE application_name = 'pagelog keeper a'"
+                    )
+                    eventually(
+                        lambda: "SET beat = beat + 1" in (old.folder / "log").read_text(),
+                        "a look at the old leader",
+                    )
                 beat = "SELECT beat FROM pagelog_keeper WHERE name = 'a'"
                 before = session.execute(beat).fetchone()
 
@@ -468,13 +588,20 @@ class StandbyRequired(Durable):
                 print("where shop", file=text, flush=True)
                 self.assertEqual(text.readline().split()[:6:5], ["at", "1"])
                 self.assertEqual(primary.durable_end, 1)
-                self.assertEqual(json.loads(self.keeping.word("kept", "--json"))["synchronous_standbys"], 0)
+                self.assertEqual(
+                    json.loads(self.keeping.word("kept", "--json"))["synchronous_standbys"], 0
+                )
                 start_standby()
                 self.assertEqual(text.readline().split(), ["durable", "shop", str(generation), "2"])
             primary.durable(2)
             eventually(lambda: self.standbys() == 1, "the standby in the metric")
-            self.assertEqual((self.keeping.place().generation, self.texts()), (generation, [b"1", b"2"]))
-        self.assertEqual(self.keeping.said().count("a synchronous standby is required, and this role sees none"), 1)
+            self.assertEqual(
+                (self.keeping.place().generation, self.texts()), (generation, [b"1", b"2"])
+            )
+        self.assertEqual(
+            self.keeping.said().count("a synchronous standby is required, and this role sees none"),
+            1,
+        )
 
     def is_quick(self) -> bool:
         return self.keeping.metrics()["pagelog_keeper_quick", "shop"] == 1
@@ -482,18 +609,26 @@ class StandbyRequired(Durable):
     @unittest.skipUnless(IS_BUILT, "the quick way is not built")
     def test_the_quick_way_waits_for_it_too(self) -> None:
         with self.keeping.primary() as primary, boss() as session:
-            eventually(lambda: self.commit(primary, "x", durable=True) and self.is_quick(), "the quick way")
+            eventually(
+                lambda: self.commit(primary, "x", durable=True) and self.is_quick(), "the quick way"
+            )
             # What others write meanwhile a standby has not flushed yet where it is asked for.
             session.execute("CREATE TABLE IF NOT EXISTS others (text text)")
             for number in range(30):
-                session.execute("INSERT INTO others SELECT repeat('x', 10000) FROM generate_series(1, 20)")
+                session.execute(
+                    "INSERT INTO others SELECT repeat('x', 10000) FROM generate_series(1, 20)"
+                )
                 self.commit(primary, f"{number} beside", durable=True)
             self.assertTrue(self.is_quick())
             end_standby("")
             self.addCleanup(start_standby)
             position = self.commit(primary, "the last")
             with self.keeping.line() as text:
-                print(f"durable shop {self.keeping.place().generation} {position}", file=text, flush=True)
+                print(
+                    f"durable shop {self.keeping.place().generation} {position}",
+                    file=text,
+                    flush=True,
+                )
                 eventually(lambda: self.keeping.row().archived == position, "the batch on one disk")
                 self.two_looks()
                 self.assertEqual(primary.durable_end, position - 1)
@@ -552,7 +687,10 @@ class FullDisks(Kept):
             self.disks.free("tables")
             self.assertEqual(text.readline().split()[:3], ["durable", "shop", str(generation)])
             primary.durable(last + 1)
-            self.assertEqual((self.keeping.place().generation, len(self.keeping.archive())), (generation, last + 1))
+            self.assertEqual(
+                (self.keeping.place().generation, len(self.keeping.archive())),
+                (generation, last + 1),
+            )
 
     def test_a_disk_that_stays_full_costs_the_service_no_entries_and_the_log_one_line(self) -> None:
         with psycopg.connect(self.disks.kept) as session:
@@ -564,13 +702,17 @@ class FullDisks(Kept):
             last = self.commit_pages(primary, 20)
             for _ in range(20):  # who waits asks again, which makes no try of its own
                 print(f"durable shop {generation} {last}", file=text, flush=True)
-            eventually(lambda: self.disks.said().count("No space left on device") >= 8, "so many tries")
+            eventually(
+                lambda: self.disks.said().count("No space left on device") >= 8, "so many tries"
+            )
             lines = self.keeping.said().count("nothing is archived")
             grown = self.entries() - before
             self.disks.free("tables")
             self.assertEqual(text.readline().split()[:3], ["durable", "shop", str(generation)])
         self.assertEqual(lines, 1)
-        self.assertLess(grown, 30)  # 20 for the commit and its pull; where each of eight tries pulls there are 18 more
+        self.assertLess(
+            grown, 30
+        )  # 20 for the commit and its pull; where each of eight tries pulls there are 18 more
         self.assertEqual(len(self.keeping.archive()), last)
 
     def entries(self) -> int:
@@ -583,7 +725,10 @@ class FullDisks(Kept):
 
         eventually(is_later, "looks")
         found = self.keeping.metrics()
-        return round(found["pagelog_keeper_list_share", "shop"] * 1_000_000 - 2 * found["pagelog_keeper_looks_total", ""])
+        return round(
+            found["pagelog_keeper_list_share", "shop"] * 1_000_000
+            - 2 * found["pagelog_keeper_looks_total", ""]
+        )
 
     def test_a_server_that_had_to_end_for_want_of_room_comes_back_with_what_was_told(self) -> None:
         with self.keeping.primary() as primary, self.keeping.line() as text:
@@ -596,13 +741,18 @@ class FullDisks(Kept):
             self.assertRegex(self.disks.said(), "PANIC: .*No space left on device")
             print("where shop", file=text, flush=True)
             told = text.readline().split()
-            self.assertEqual((told[0], self.commit(primary, "2"), primary.durable_end), ("at", last + 1, 1))
+            self.assertEqual(
+                (told[0], self.commit(primary, "2"), primary.durable_end), ("at", last + 1, 1)
+            )
             self.disks.free("log-of-writes")
             self.disks.start()
             self.assertLessEqual(int(told[5]), self.keeping.row().archived)
             self.assertEqual(text.readline().split()[:3], ["durable", "shop", str(generation)])
             primary.durable(last + 1)
-            self.assertEqual((self.keeping.place().generation, len(self.keeping.archive())), (generation, last + 1))
+            self.assertEqual(
+                (self.keeping.place().generation, len(self.keeping.archive())),
+                (generation, last + 1),
+            )
 
 
 class TwoPrimaries(Kept):
@@ -621,7 +771,9 @@ class TwoPrimaries(Kept):
             for text in texts:
                 self.commit(primary, text, durable=True)
                 if text == "50":
-                    self.pair.standby.run("pg_ctl", "-D", self.pair.standby.data, "-w", "-t", PATIENCE, "promote")
+                    self.pair.standby.run(
+                        "pg_ctl", "-D", self.pair.standby.data, "-w", "-t", PATIENCE, "promote"
+                    )
         self.pair.leader.kill()
         self.keeping.referee.close()
         self.assertEqual(self.texts(), [text.encode() for text in texts])

@@ -17,7 +17,9 @@ class Doubts(unittest.TestCase):
     def setUp(self) -> None:
         self.service = self.enterContext(Service(table=WIDE_TABLE))
         self.operator = self.enterContext(self.service.operator())
-        self.proxy = self.enterContext(CuttingProxy(self.service.address, least=10**9, most=2 * 10**9))
+        self.proxy = self.enterContext(
+            CuttingProxy(self.service.address, least=10**9, most=2 * 10**9)
+        )
         self.credentials = pagelog.Credentials.of(2, token(2))
 
     def primary(self, **options: object) -> Primary:
@@ -92,7 +94,9 @@ class Doubts(unittest.TestCase):
             self.assertTrue(pagelog.in_flight.is_in_log(witness, Block.of(3, [Put(0, 0, b"b")])))
 
     def test_a_stream_over_a_connection_that_is_cut_loses_nothing(self) -> None:
-        with CuttingProxy(self.service.address, least=100, most=3000, seed=5) as proxy, self.service.reader() as witness:
+        with CuttingProxy(
+            self.service.address, least=100, most=3000, seed=5
+        ) as proxy, self.service.reader() as witness:
             primary = Primary(proxy.connection(), self.credentials, witness=witness)
             told = []
             try:

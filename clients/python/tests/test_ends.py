@@ -19,10 +19,12 @@ from unittest import mock
 import psycopg
 
 import pagelog
-from pagelog import Block, archive_postgres, archiving
+from pagelog import Block
+from pagelog.archive import archiving
+from pagelog.archive import postgres as archive_postgres
 from pagelog.archive import Archive
-from pagelog.archive_engine import engine_of
-from pagelog.archiving import Archiver
+from pagelog.archive.engine import engine_of
+from pagelog.archive.archiving import Archiver
 from pagelog.audit_list import AuditFollower, AuditRoom
 from pagelog.desk import archive_words
 from pagelog.desk.archive_words import Follower
@@ -37,7 +39,9 @@ from test_archive import Folder, words
 class Lists(Folder):
     """A writer goes on until it is denied, while an archiver follows."""
 
-    def write_until_denied(self, service: Service, told: list[object], archive: Archive | None = None) -> threading.Thread:
+    def write_until_denied(
+        self, service: Service, told: list[object], archive: Archive | None = None
+    ) -> threading.Thread:
         """With an archive it is never far ahead of that, however long the archiver has to wait for a processor."""
 
         def write() -> None:
@@ -59,8 +63,20 @@ class Lists(Folder):
         with Service(audit=3000) as small:
             told: list[object] = []
             file = small.credentials_file(audit=3000)
-            archiver = words("archive", "--follow", "--idle", "0.05", "--credentials", file, "--url", self.url, "--fence-at", "1200",
-                             "--table", small.table)  # fmt: skip
+            archiver = words(
+                "archive",
+                "--follow",
+                "--idle",
+                "0.05",
+                "--credentials",
+                file,
+                "--url",
+                self.url,
+                "--fence-at",
+                "1200",
+                "--table",
+                small.table,
+            )
             assert archiver.stdout is not None
             self.assertEqual(archiver.stdout.readline(), "archived 0 of 0\n")
             writer = self.write_until_denied(small, told, self.archive())
@@ -80,14 +96,31 @@ class Lists(Folder):
     def test_without_a_fence_the_status_says_which(self) -> None:
         with Service(audit=1500) as small:
             told: list[object] = []
-            archiver = words("archive", "--follow", "--idle", "0.05", "--credentials", small.credentials_file(audit=1500), "--url", self.url)
+            archiver = words(
+                "archive",
+                "--follow",
+                "--idle",
+                "0.05",
+                "--credentials",
+                small.credentials_file(audit=1500),
+                "--url",
+                self.url,
+            )
             writer = self.write_until_denied(small, told)
             out, error = archiver.communicate(timeout=PATIENCE)
             writer.join(PATIENCE)
         self.assertEqual((archiver.returncode, "AuditListFull" in error), (4, True), out + error)
 
     def test_what_a_fence_wants(self) -> None:
-        out = words("archive", "--credentials", self.service.credentials_file(), "--url", self.url, "--fence-at", "9").communicate()
+        out = words(
+            "archive",
+            "--credentials",
+            self.service.credentials_file(),
+            "--url",
+            self.url,
+            "--fence-at",
+            "9",
+        ).communicate()
         self.assertIn("--fence-at needs --follow, --table FILE, and [operator]", out[1])
 
     def test_the_backlog_counts_before_the_number_does(self) -> None:
@@ -99,7 +132,14 @@ class Lists(Folder):
             seconds, warned = [0.0], []
             entries = operator.count_of_entries()
             room = AuditRoom(operator, entries + 5000, clock=lambda: seconds[0])
-            guard = ListGuard(room, archiver, fence_at=1, table=TableText.read(TABLE), warn=warned.append, clock=lambda: seconds[0])
+            guard = ListGuard(
+                room,
+                archiver,
+                fence_at=1,
+                table=TableText.read(TABLE),
+                warn=warned.append,
+                clock=lambda: seconds[0],
+            )
             self.assertFalse(guard.check())
             room.limit = operator.count_of_entries() + 120
             seconds[0] = 100.0
@@ -114,7 +154,9 @@ class Lists(Folder):
             for copy in (0, 1):
                 self.primary._ask(Write(copy, Block.of(6, [put(1, b"written")])))
             archiver = Archiver(self.reader, self.archive())
-            guard = ListGuard(AuditRoom(operator, 1000), archiver, fence_at=999, table=TableText.read(TABLE))
+            guard = ListGuard(
+                AuditRoom(operator, 1000), archiver, fence_at=999, table=TableText.read(TABLE)
+            )
             self.assertTrue(guard.check())
             with self.assertRaises(pagelog.UnknownPrincipal):
                 self.primary.status()
@@ -122,18 +164,29 @@ class Lists(Folder):
 
     def test_an_operator_that_may_not_look_is_said_once(self) -> None:
         with self.service.operator() as operator:
-            operator.set_table(TABLE.read_text().replace("[[row]]", '[[row]]\nverdict = "deny"\nwho = 1\nop = ["audit"]\n[[row]]', 1))
+            operator.set_table(
+                TABLE.read_text().replace(
+                    "[[row]]", '[[row]]\nverdict = "deny"\nwho = 1\nop = ["audit"]\n[[row]]', 1
+                )
+            )
             archiver, warned = Archiver(self.reader, self.archive()), []
             guard = ListGuard(AuditRoom(operator), archiver, warn=warned.append)
             self.assertEqual([guard.check() for _ in range(3)], [False] * 3)
-            self.assertRegex("|".join(warned), r"^it is not known how full the audit list is: denied B1 [^|]*$")
+            self.assertRegex(
+                "|".join(warned), r"^it is not known how full the audit list is: denied B1 [^|]*$"
+            )
             with self.assertRaises(pagelog.TableRow):
                 ListGuard(AuditRoom(operator), archiver, table=TableText.read(TABLE)).check()
 
     def test_after_a_fence_it_ends_once_all_is_archived(self) -> None:
         """The connection is lost after the fence, before it is known how much is left."""
         guard = mock.Mock(fenced=2)
-        archiver = mock.Mock(lag=0, **{"run.side_effect": [pagelog.ConnectionLost("cut"), psycopg.OperationalError("x"), 7]})
+        archiver = mock.Mock(
+            lag=0,
+            **{
+                "run.side_effect": [pagelog.ConnectionLost("cut"), psycopg.OperationalError("x"), 7]
+            },
+        )
         with mock.patch("time.sleep"), contextlib.redirect_stderr(io.StringIO()):
             Follower(archiver, 0.1, lambda: False, guard).run()
         self.assertEqual([call.kwargs["follow"] for call in archiver.run.mock_calls], [False] * 3)
@@ -147,7 +200,10 @@ class Lists(Folder):
                 self.assertFalse(guard.check())
                 seconds[0] += 1.2
             self.assertEqual(len(warned), 2)
-            self.assertRegex(warned[0], r"^the audit list has \d+ entries left of \d+.*; 0 blocks are not archived, which want 64: move the database$")
+            self.assertRegex(
+                warned[0],
+                r"^the audit list has \d+ entries left of \d+.*; 0 blocks are not archived, which want 64: move the database$",
+            )
 
     def test_blocks_that_come_count_before_the_next_look(self) -> None:
         with self.service.operator() as operator:
@@ -155,7 +211,9 @@ class Lists(Folder):
             archiver = Archiver(self.reader, self.archive())
             archiver.run(follow=False)
             room = AuditRoom(operator, operator.count_of_entries() + 6000, clock=lambda: 0.0)
-            guard = ListGuard(room, archiver, fence_at=3000, table=TableText.read(TABLE), clock=lambda: 0.0)
+            guard = ListGuard(
+                room, archiver, fence_at=3000, table=TableText.read(TABLE), clock=lambda: 0.0
+            )
             self.assertFalse(guard.check())
             looked = room.room
             fill(self.primary, 50)
@@ -183,13 +241,17 @@ class Lists(Folder):
 
     def test_a_list_that_is_shorter_than_it_was_is_counted_from_its_beginning(self) -> None:
         with self.service.operator() as operator:
-            self.assertIn(operator.count_of_entries(5000) - operator.count_of_entries(0), range(-60, 0))
+            self.assertIn(
+                operator.count_of_entries(5000) - operator.count_of_entries(0), range(-60, 0)
+            )
 
 
 class Rates(Folder):
     """How many entries an archiver takes, in a time that passes as it waits."""
 
-    def entries_of_both(self, commits_a_second: float, idle: float, seconds: float) -> tuple[int, int]:
+    def entries_of_both(
+        self, commits_a_second: float, idle: float, seconds: float
+    ) -> tuple[int, int]:
         """Entries of an archiver, and how many commits there were, in so many seconds."""
         passed, committed, due = 0.0, 0, 0.0
 
@@ -201,13 +263,23 @@ class Rates(Folder):
                 self.primary.commit()
                 committed, due = committed + 1, due + 1 / commits_a_second
 
-        with self.service.operator() as operator, self.service.reader() as reader, mock.patch.object(archiving, "_sleep", sleep):
+        with self.service.operator() as operator, self.service.reader() as reader, mock.patch.object(
+            archiving, "_sleep", sleep
+        ):
             first = operator.count_of_entries() + 1
-            Archiver(reader, self.archive()).run(follow=True, idle=idle, stop=lambda: passed >= seconds)
+            Archiver(reader, self.archive()).run(
+                follow=True, idle=idle, stop=lambda: passed >= seconds
+            )
             return sum(entry.principal == 3 for entry in operator.entries(first)), committed
 
     def test_it_takes_fewer_entries_than_the_writers(self) -> None:
-        for rate, idle, most in ((5, 1.0, 1.2), (50, 1.0, 0.3), (150, 1.0, 0.15), (5, 30.0, 0.15), (1, 1.0, 3.0)):
+        for rate, idle, most in (
+            (5, 1.0, 1.2),
+            (50, 1.0, 0.3),
+            (150, 1.0, 0.15),
+            (5, 30.0, 0.15),
+            (1, 1.0, 3.0),
+        ):
             with self.subTest(rate=rate, idle=idle):
                 self.setUp()
                 own, commits = self.entries_of_both(rate, idle, 60.0 if idle > 1 else 12.0)
@@ -217,8 +289,11 @@ class Rates(Folder):
     def test_one_line_a_second_at_most(self) -> None:
         seconds, lines = [100.0], []
         follower = Follower(mock.Mock(), 0.1, lambda: False)
-        with mock.patch.object(archive_words.time, "monotonic", lambda: seconds[0]), \
-                mock.patch.object(archive_words, "_tell", lambda *told: lines.append((seconds[0], *told[:2]))):  # fmt: skip
+        with mock.patch.object(
+            archive_words.time, "monotonic", lambda: seconds[0]
+        ), mock.patch.object(
+            archive_words, "_tell", lambda *told: lines.append((seconds[0], *told[:2]))
+        ):
             for at in range(1, 401):
                 seconds[0] += 0.01
                 follower.tell(at, at)
@@ -231,7 +306,14 @@ class Rates(Folder):
 
     def test_it_says_that_it_runs(self) -> None:
         Archiver(self.reader, self.archive()).run(follow=False)
-        process = words("archive", "--follow", "--credentials", self.service.credentials_file(), "--url", self.url)
+        process = words(
+            "archive",
+            "--follow",
+            "--credentials",
+            self.service.credentials_file(),
+            "--url",
+            self.url,
+        )
         assert process.stdout is not None
         self.assertEqual(process.stdout.readline(), "archived 0 of 0\n")
         process.terminate()
@@ -242,7 +324,16 @@ class Audits(Folder):
     def test_a_new_list_is_followed_from_its_beginning(self) -> None:
         fill(self.primary, 20)
         file = self.service.credentials_file()
-        process = words("audit", "--credentials", file, "--follow", "--idle", "0.05", "--json", PYTHONUNBUFFERED="1")
+        process = words(
+            "audit",
+            "--credentials",
+            file,
+            "--follow",
+            "--idle",
+            "0.05",
+            "--json",
+            PYTHONUNBUFFERED="1",
+        )
         assert process.stdout is not None
         while json.loads(process.stdout.readline())["number"] < 60:
             pass
@@ -303,10 +394,12 @@ class Audits(Folder):
 
 def patient(*arguments: object) -> subprocess.Popen[str]:
     """As `words`, with waits for PostgreSQL that have no end of their own, so that it is the signal that ends them."""
-    code = f"from pagelog import archive_postgres as of; of.WAIT_SECONDS = {20 * PATIENCE}; import pagelog.__main__"
+    code = f"from pagelog.archive import postgres as of; of.WAIT_SECONDS = {20 * PATIENCE}; import pagelog.__main__"
     command = [sys.executable, "-B", "-c", code, *map(str, arguments)]
     variables = {**os.environ, "PYTHONPATH": str(SOURCE)}
-    return subprocess.Popen(command, stdout=subprocess.PIPE, stderr=subprocess.PIPE, text=True, env=variables)
+    return subprocess.Popen(
+        command, stdout=subprocess.PIPE, stderr=subprocess.PIPE, text=True, env=variables
+    )
 
 
 class Silence(Folder):
@@ -321,15 +414,22 @@ class Silence(Folder):
     def test_sigterm_ends_an_archiver(self) -> None:
         fill(self.primary, 5)
         file = self.service.credentials_file()
-        process = patient("archive", "--follow", "--idle", "0.1", "--credentials", file, "--url", self.silent_url)
+        process = patient(
+            "archive", "--follow", "--idle", "0.1", "--credentials", file, "--url", self.silent_url
+        )
         assert process.stdout is not None
         self.assertIn("archived 5 of 5", process.stdout.readline())
         self.proxy.is_silent.set()
         fill(self.primary, 5)
         with self.service.operator() as operator:
             pulled = operator.count_of_entries()
-            while not any(entry.principal == 3 and entry.operation is pagelog.Operation.PULL and entry.is_allowed and entry.a == 6
-                          for entry in operator.entries(1)):  # fmt: skip
+            while not any(
+                entry.principal == 3
+                and entry.operation is pagelog.Operation.PULL
+                and entry.is_allowed
+                and entry.a == 6
+                for entry in operator.entries(1)
+            ):
                 time.sleep(0.05)
         self.assertGreater(pulled, 0)
         process.send_signal(signal.SIGTERM)
@@ -340,23 +440,45 @@ class Silence(Folder):
 
     def test_signals_end_what_begins_with_it(self) -> None:
         self.proxy.is_silent.set()
-        for line, number in (("archive", signal.SIGTERM), ("verify --offline", signal.SIGINT), ("restore", signal.SIGTERM), ("logs", signal.SIGINT),
-                             ("mend", signal.SIGTERM)):  # fmt: skip
-            process = patient(*line.split(), "--credentials", self.service.credentials_file(), "--url", self.silent_url)
+        for line, number in (
+            ("archive", signal.SIGTERM),
+            ("verify --offline", signal.SIGINT),
+            ("restore", signal.SIGTERM),
+            ("logs", signal.SIGINT),
+            ("mend", signal.SIGTERM),
+        ):
+            process = patient(
+                *line.split(),
+                "--credentials",
+                self.service.credentials_file(),
+                "--url",
+                self.silent_url,
+            )
             self.wait_until_it_asks(process.pid)
             process.send_signal(number)
             _, error = process.communicate(timeout=PATIENCE)
-            self.assertEqual((process.returncode, error.count("\n")), (128 + number, 1), (line, error))
+            self.assertEqual(
+                (process.returncode, error.count("\n")), (128 + number, 1), (line, error)
+            )
 
     def test_what_is_cleaned_up_after_a_signal_waits_no_more(self) -> None:
-        for ending in ("with engine.begin() as session: session.change('create table t (a int)'); asks(); time.sleep(100)",
-                       "with engine.begin() as session: asks(); session.rows('select pg_sleep(100)')", "asks(); time.sleep(100)"):  # fmt: skip
+        for ending in (
+            "with engine.begin() as session: session.change('create table t (a int)'); asks(); time.sleep(100)",
+            "with engine.begin() as session: asks(); session.rows('select pg_sleep(100)')",
+            "asks(); time.sleep(100)",
+        ):
             self.proxy.is_silent.clear()
-            code = ("import sys, time; sys.path.insert(0, sys.argv[1]); from pagelog import archive_postgres; from pagelog.archive_engine import engine_of\n"
-                    f"archive_postgres.WAIT_SECONDS = {20 * PATIENCE}; engine = engine_of(sys.argv[2]); engine.rows('select 1')\n"
-                    "def asks(): print('asks', flush=True)\n" + ending)
-            process = subprocess.Popen([sys.executable, "-B", "-c", code, str(SOURCE), self.silent_url], stdout=subprocess.PIPE,
-                                       stderr=subprocess.PIPE, text=True)  # fmt: skip
+            code = (
+                "import sys, time; sys.path.insert(0, sys.argv[1]); from pagelog.archive import postgres; from pagelog.archive.engine import engine_of\n"
+                f"postgres.WAIT_SECONDS = {20 * PATIENCE}; engine = engine_of(sys.argv[2]); engine.rows('select 1')\n"
+                "def asks(): print('asks', flush=True)\n" + ending
+            )
+            process = subprocess.Popen(
+                [sys.executable, "-B", "-c", code, str(SOURCE), self.silent_url],
+                stdout=subprocess.PIPE,
+                stderr=subprocess.PIPE,
+                text=True,
+            )
             assert process.stdout is not None
             self.assertEqual(process.stdout.readline(), "asks\n")
             self.proxy.is_silent.set()
@@ -373,13 +495,17 @@ class Silence(Folder):
         found = []
         for fd in os.listdir(f"/proc/{process}/fd"):
             try:
-                found += [fd] if os.readlink(f"/proc/{process}/fd/{fd}").startswith("socket:") else []
+                found += (
+                    [fd] if os.readlink(f"/proc/{process}/fd/{fd}").startswith("socket:") else []
+                )
             except OSError:
                 pass
         return found
 
     def test_a_wait_has_an_end_of_its_own(self) -> None:
-        with engine_of(self.silent_url).session() as session, mock.patch.object(archive_postgres, "WAIT_SECONDS", 0.5):
+        with engine_of(self.silent_url).session() as session, mock.patch.object(
+            archive_postgres, "WAIT_SECONDS", 0.5
+        ):
             self.proxy.is_silent.set()
             with self.assertRaisesRegex(psycopg.OperationalError, "PostgreSQL was silent for 0 s"):
                 session.rows("select 1")
@@ -387,10 +513,18 @@ class Silence(Folder):
     def test_a_signal_that_comes_just_before_a_wait_is_heard_soon(self) -> None:
         waits: list[float | None] = []
         ready = archive_postgres.ready_by_poll
-        with mock.patch.object(archive_postgres, "ready_by_poll", lambda fileno, wanted, seconds: (waits.append(seconds), ready(fileno, wanted, seconds))[1]):
+        with mock.patch.object(
+            archive_postgres,
+            "ready_by_poll",
+            lambda fileno, wanted, seconds: (waits.append(seconds), ready(fileno, wanted, seconds))[
+                1
+            ],
+        ):
             with engine_of(self.silent_url).session() as session:
                 session.rows("select 1")
-        self.assertTrue(waits and all(seconds is not None and seconds <= 1 for seconds in waits), waits)
+        self.assertTrue(
+            waits and all(seconds is not None and seconds <= 1 for seconds in waits), waits
+        )
 
     def test_q_ends_top(self) -> None:
         """With an archive that is silent, a service that hangs, and another key typed at once before it."""
@@ -398,10 +532,26 @@ class Silence(Folder):
         with Service(dbs=2) as service:
             file = service.credentials_file(url=self.silent_url)
             main, other = pty.openpty()
-            command = [sys.executable, "-B", "-m", "pagelog", "top", "--credentials", str(file), "--db", "0", "--db", "1", "--interval", "30"]
+            command = [
+                sys.executable,
+                "-B",
+                "-m",
+                "pagelog",
+                "top",
+                "--credentials",
+                str(file),
+                "--db",
+                "0",
+                "--db",
+                "1",
+                "--interval",
+                "30",
+            ]
             environment = {**os.environ, "PYTHONPATH": str(SOURCE), "TERM": "xterm"}
             stand_still(service.process.pid)
-            process = subprocess.Popen(command, stdin=other, stdout=other, stderr=other, env=environment)
+            process = subprocess.Popen(
+                command, stdin=other, stdout=other, stderr=other, env=environment
+            )
             os.close(other)
             drawn = ""
             while "NotInTime" not in drawn and "TimedOut" not in drawn:

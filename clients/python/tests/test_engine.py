@@ -20,13 +20,13 @@ from psycopg.conninfo import conninfo_to_dict
 
 from pagelog import Block
 from pagelog.archive import Archive, ArchiveError, NoArchive, OtherArchiver
-from pagelog.archive_care import drop, logs_of
-from pagelog.archive_engine import engine_of
-from pagelog.archive_postgres import BoundConnection
-from pagelog.archive_session import Engine, statements_of
-from pagelog.archive_tables import MOVE
-from pagelog.archive_tables import TABLES as OF_ARCHIVE
-from pagelog.archive_url import is_in_memory, parsed_url
+from pagelog.archive.care import drop, logs_of
+from pagelog.archive.engine import engine_of
+from pagelog.archive.postgres import BoundConnection
+from pagelog.archive.session import Engine, statements_of
+from pagelog.archive.tables import MOVE
+from pagelog.archive.tables import TABLES as OF_ARCHIVE
+from pagelog.archive.url import is_in_memory, parsed_url
 from pagelog.keeper.recorder import Recorder
 from pagelog.trail import OtherKeeper, Start, Trail
 from pagelog.trail.statements import TABLES as OF_TRAIL
@@ -107,7 +107,10 @@ def blocks(first: int, last: int) -> list[Block]:
 
 class Urls(Databases):
     def test_the_forms_of_older_versions_mean_the_same(self) -> None:
-        for url, older in ((self.file, ("sqlite+pysqlite:",)), (self.server, ("postgresql+psycopg2:", "postgresql+psycopg:"))):
+        for url, older in (
+            (self.file, ("sqlite+pysqlite:",)),
+            (self.server, ("postgresql+psycopg2:", "postgresql+psycopg:")),
+        ):
             self.archive(url).keep(blocks(1, 3), 1)
             kind = url.partition(":")[0] + ":"
             for each in older:
@@ -118,27 +121,47 @@ class Urls(Databases):
         self.archive(self.file).keep(blocks(1, 3), 1)
         with Archive(f"sqlite:///file:{self.folder}/archive.db?mode=rw&uri=true") as archive:
             self.assertEqual(archive.archived, 3)
-        self.assertRaises(NoArchive, Archive, f"sqlite:///file:{self.folder}/none.db?mode=rw&uri=true")
+        self.assertRaises(
+            NoArchive, Archive, f"sqlite:///file:{self.folder}/none.db?mode=rw&uri=true"
+        )
 
     def test_a_whole_path_a_part_of_one_and_what_is_in_memory(self) -> None:
         self.assertEqual(parsed_url("sqlite:////a/b.db").name, "/a/b.db")  # type: ignore[union-attr]
         self.assertEqual(parsed_url("sqlite:///b%20c.db").name, f"{os.getcwd()}/b%20c.db")  # type: ignore[union-attr]
-        for url in ("sqlite://", "sqlite:///", "sqlite:///:memory:", "sqlite:///file::memory:?uri=true", "sqlite:///file:x?mode=memory&uri=true"):
+        for url in (
+            "sqlite://",
+            "sqlite:///",
+            "sqlite:///:memory:",
+            "sqlite:///file::memory:?uri=true",
+            "sqlite:///file:x?mode=memory&uri=true",
+        ):
             self.assertTrue(is_in_memory(url), url)
             self.assertRaisesRegex(ArchiveError, "in memory is gone", engine_of, url)
 
     def test_what_is_no_url_says_what_to_write(self) -> None:
-        for url, said in (("sqlite://host/a.db", "sqlite:///FILE"), ("sqlite:///a.db?timeout=20", "sqlite:///FILE"), ("mysql://h/x", "'mysql'"),
-                          ("postgres://h/x", "'postgres'"), ("postgresql://u:SECRET@x@h/d", "%40"), ("postgresql://u:p@h:SECRET/d", "%3A"),
-                          ("postgresql://h/d?SECRET=1", "postgresql://USER@HOST/NAME")):  # fmt: skip
+        for url, said in (
+            ("sqlite://host/a.db", "sqlite:///FILE"),
+            ("sqlite:///a.db?timeout=20", "sqlite:///FILE"),
+            ("mysql://h/x", "'mysql'"),
+            ("postgres://h/x", "'postgres'"),
+            ("postgresql://u:SECRET@x@h/d", "%40"),
+            ("postgresql://u:p@h:SECRET/d", "%3A"),
+            ("postgresql://h/d?SECRET=1", "postgresql://USER@HOST/NAME"),
+        ):
             with self.assertRaises(ArchiveError) as raised:
                 parsed_url(url)
             self.assertIn(said, str(raised.exception))
             self.assertNotIn("SECRET", str(raised.exception))
 
     def test_a_password_is_not_shown(self) -> None:
-        for url, shown in (("postgresql://u:se%40cret@h/d", "postgresql://u:***@h/d"), ("postgresql://u@h/d?password=secret&sslmode=require",
-                           "postgresql://u@h/d?password=***&sslmode=require"), ("postgresql://u@h:5432/d", "postgresql://u@h:5432/d")):  # fmt: skip
+        for url, shown in (
+            ("postgresql://u:se%40cret@h/d", "postgresql://u:***@h/d"),
+            (
+                "postgresql://u@h/d?password=secret&sslmode=require",
+                "postgresql://u@h/d?password=***&sslmode=require",
+            ),
+            ("postgresql://u@h:5432/d", "postgresql://u@h:5432/d"),
+        ):
             self.assertEqual(parsed_url(url).shown, shown)
 
     def test_a_silent_host_is_passed_over(self) -> None:
@@ -153,16 +176,30 @@ class Urls(Databases):
 
         self.enterContext(mock.patch.object(BoundConnection, "connect", connected))
         engine = self.engine(self.server.replace("host=", "host=/silent,"))
-        self.assertEqual((engine.value("SELECT 1"), tried), (1, ["/silent", str(postgres().folder)]))
+        self.assertEqual(
+            (engine.value("SELECT 1"), tried), (1, ["/silent", str(postgres().folder)])
+        )
         with engine.session(), engine.session():
-            self.assertEqual(tried[2:], [str(postgres().folder)])  # it stays with the one that answers
-        self.assertRaises(psycopg.errors.ConnectionTimeout, self.engine("postgresql://u@/d?host=/silent,/silent").value, "SELECT 1")
+            self.assertEqual(
+                tried[2:], [str(postgres().folder)]
+            )  # it stays with the one that answers
+        self.assertRaises(
+            psycopg.errors.ConnectionTimeout,
+            self.engine("postgresql://u@/d?host=/silent,/silent").value,
+            "SELECT 1",
+        )
 
     def test_no_other_driver_is_asked_for(self) -> None:
         for file in SOURCE.rglob("*.py"):
             for node in ast.walk(ast.parse(file.read_text())):
-                names = [each.name for each in node.names] if isinstance(node, ast.Import) else [getattr(node, "module", None) or ""]
-                self.assertFalse({name.partition(".")[0] for name in names} & {"sqlalchemy", "psycopg2"}, file)
+                names = (
+                    [each.name for each in node.names]
+                    if isinstance(node, ast.Import)
+                    else [getattr(node, "module", None) or ""]
+                )
+                self.assertFalse(
+                    {name.partition(".")[0] for name in names} & {"sqlalchemy", "psycopg2"}, file
+                )
 
 
 class Older(Databases):
@@ -178,10 +215,18 @@ class Older(Databases):
         for url in self.each():
             engine, [one, two] = self.made(url), blocks(1, 2)
             with engine.begin() as session:
-                session.change("INSERT INTO pagelog_log (name, format, archived, epoch) VALUES ('shop', 1, 1, 7)")
-                session.change("INSERT INTO pagelog_block VALUES (1, 1, %(crc)s, %(data)s)", crc=zlib.crc32(one.data), data=one.data)
+                session.change(
+                    "INSERT INTO pagelog_log (name, format, archived, epoch) VALUES ('shop', 1, 1, 7)"
+                )
+                session.change(
+                    "INSERT INTO pagelog_block VALUES (1, 1, %(crc)s, %(data)s)",
+                    crc=zlib.crc32(one.data),
+                    data=one.data,
+                )
             with Archive(url, "shop") as archive:
-                self.assertEqual((archive.archived, archive.epoch, list(archive.blocks())), (1, 7, [one]))
+                self.assertEqual(
+                    (archive.archived, archive.epoch, list(archive.blocks())), (1, 7, [one])
+                )
                 archive.keep([two], 9)
                 self.assertEqual((list(archive.blocks()), archive.epoch), ([one, two], 9))
             self.assertEqual([(log.name, log.blocks) for log in logs_of(url)], [("shop", 2)])
@@ -191,19 +236,31 @@ class Older(Databases):
             engine = self.made(url)
             with engine.begin() as session:
                 session.change("ALTER TABLE pagelog_trail_list DROP COLUMN of_run")
-                session.change("INSERT INTO pagelog_trail_list (log, run, format, generation, kept, seen, pruned, digest) VALUES "
-                               "('shop', 1, 1, 0, 0, 5, 0, %(digest)s)", digest=bytes(32))  # fmt: skip
+                session.change(
+                    "INSERT INTO pagelog_trail_list (log, run, format, generation, kept, seen, pruned, digest) VALUES "
+                    "('shop', 1, 1, 0, 0, 5, 0, %(digest)s)",
+                    digest=bytes(32),
+                )
             with Trail(url, "shop") as trail:
-                self.assertEqual([(one.run, one.seen, one.of) for one in trail.lists()], [(1, 5, None)])
+                self.assertEqual(
+                    [(one.run, one.seen, one.of) for one in trail.lists()], [(1, 5, None)]
+                )
             with Trail(url, "shop", create=True) as trail:
                 one = trail.keep(trail.lists()[0], bytes(53), 9)
-                self.assertEqual((one.kept, trail.claim(one, "a/b").of, trail.lists()[0].of), (1, "a/b", "a/b"))
+                self.assertEqual(
+                    (one.kept, trail.claim(one, "a/b").of, trail.lists()[0].of), (1, "a/b", "a/b")
+                )
 
     def test_new_tables_are_as_the_older_ones(self) -> None:
         older, newer = f"sqlite:///{self.folder}/older.db", f"sqlite:///{self.folder}/newer.db"
         self.compare(older, newer, FILES, INDEXES)
-        self.compare(self.server, postgres().url(f"newer{time.monotonic_ns()}"), COLUMNS, CONSTRAINTS, "SELECT indexdef FROM pg_indexes WHERE "
-                     "schemaname = 'public' ORDER BY indexname")  # fmt: skip
+        self.compare(
+            self.server,
+            postgres().url(f"newer{time.monotonic_ns()}"),
+            COLUMNS,
+            CONSTRAINTS,
+            "SELECT indexdef FROM pg_indexes WHERE " "schemaname = 'public' ORDER BY indexname",
+        )
 
     def compare(self, older: str, newer: str, *questions: str) -> None:
         first, second = self.made(older), self.engine(newer)
@@ -230,7 +287,9 @@ class Transactions(Databases):
     def test_a_list_is_begun_with_its_texts_or_not_at_all(self) -> None:
         for url in self.each():
             trail = self.trail(url)
-            with mock.patch("pagelog.trail.store.hashlib.sha256", side_effect=OSError), self.assertRaises(OSError):
+            with mock.patch(
+                "pagelog.trail.store.hashlib.sha256", side_effect=OSError
+            ), self.assertRaises(OSError):
                 trail.begin(start=Start(b"x", 2))
             self.assertEqual(trail.lists(), [])
 
@@ -239,24 +298,41 @@ class Transactions(Databases):
             name = "it's %s %(log)s :log ? $1; DROP TABLE pagelog_log --"
             archive = self.archive(url, name)
             archive.keep(blocks(1, 300), 1)
-            self.assertEqual(([log.name for log in logs_of(url)], drop(archive), logs_of(url)), ([name], 300, []))
+            self.assertEqual(
+                ([log.name for log in logs_of(url)], drop(archive), logs_of(url)), ([name], 300, [])
+            )
             with self.assertRaisesRegex(ArchiveError, "a row of the archive is gone"):
                 archive.epoch
 
     def test_texts_of_a_database_without_an_encoding_are_texts(self) -> None:
         name = f"plain{time.monotonic_ns()}"
-        postgres().run("createdb", "-h", postgres().folder, "-U", "pagelog", "-E", "SQL_ASCII", "-T", "template0", name)
+        postgres().run(
+            "createdb",
+            "-h",
+            postgres().folder,
+            "-U",
+            "pagelog",
+            "-E",
+            "SQL_ASCII",
+            "-T",
+            "template0",
+            name,
+        )
         url = f"postgresql://pagelog@/{name}?host={postgres().folder}"
         self.archive(url, "Läden")
         trail = self.trail(url, "Läden")
         trail.end(trail.begin(), "über", 1)
-        self.assertEqual(([log.name for log in logs_of(url)], trail.lists()[0].ended), (["Läden"], "über"))
+        self.assertEqual(
+            ([log.name for log in logs_of(url)], trail.lists()[0].ended), (["Läden"], "über")
+        )
 
     def test_who_is_second_keeps_nothing(self) -> None:
         for url in self.each():
             one, two = self.trail(url), self.trail(url)
             begun = one.begin()
-            with mock.patch.object(two, "lists", return_value=[]), mock.patch.object(two.engine, "value", return_value=0):
+            with mock.patch.object(two, "lists", return_value=[]), mock.patch.object(
+                two.engine, "value", return_value=0
+            ):
                 self.assertRaises(OtherKeeper, two.begin)
             one.keep(begun, bytes(53), 1)
             self.assertRaises(OtherKeeper, two.keep, begun, bytes(53), 1)
@@ -273,15 +349,19 @@ class Transactions(Databases):
             trail.end(old, "over", 1)
             trail.claim(old, "a/3")
             self.assertRaises(OtherKeeper, trail.keep, old, bytes(53), 1)
-            self.assertEqual([(one.of, one.ended, one.kept) for one in trail.lists()], [("a/2", None, 0)])
+            self.assertEqual(
+                [(one.of, one.ended, one.kept) for one in trail.lists()], [("a/2", None, 0)]
+            )
 
     def test_in_a_file_the_lock_is_had_from_the_beginning(self) -> None:
         """Who reads first and writes then could not wait for the lock any more: SQLite refuses at once what comes behind another's change."""
         engine, began = self.archive(self.file).engine, []
-        with engine.begin(), mock.patch("pagelog.archive_sqlite.BUSY_SECONDS", 0):
+        with engine.begin(), mock.patch("pagelog.archive.sqlite.BUSY_SECONDS", 0):
             with self.assertRaisesRegex(sqlite3.OperationalError, "locked"), engine.begin():
                 began.append(1)
-            self.assertEqual((began, engine.value("SELECT count(*) FROM pagelog_log")), ([], 1))  # who reads waits for nobody
+            self.assertEqual(
+                (began, engine.value("SELECT count(*) FROM pagelog_log")), ([], 1)
+            )  # who reads waits for nobody
 
     def test_in_postgresql_an_archiver_waits_for_another_and_keeps_nothing(self) -> None:
         archive, said = self.archive(self.server), []
@@ -302,17 +382,29 @@ class Transactions(Databases):
 
     def test_a_file_is_on_the_disk_when_a_commit_returns(self) -> None:
         with self.archive(self.file).engine.session() as session:
-            self.assertEqual([session.value(f"PRAGMA {word}") for word in ("synchronous", "journal_mode", "busy_timeout")], [2, "wal", 4000])
+            self.assertEqual(
+                [
+                    session.value(f"PRAGMA {word}")
+                    for word in ("synchronous", "journal_mode", "busy_timeout")
+                ],
+                [2, "wal", 4000],
+            )
 
     def test_a_recorder_asks_for_what_postgresql_knows(self) -> None:
         """Its statement is of this engine too."""
         recorder = Recorder.__new__(Recorder)
-        of, served = mock.Mock(database="00000000-0000-0000-0000-000000000001"), mock.Mock(database="shop", generation=1, run="r")
+        of, served = mock.Mock(database="00000000-0000-0000-0000-000000000001"), mock.Mock(
+            database="shop", generation=1, run="r"
+        )
         engine = self.engine(self.server)
         with engine.begin() as session:
             session.change("CREATE TABLE pagelog_log (id integer, name text, identity uuid)")
-            session.change("CREATE TABLE pagelog_generation (log integer, generation bigint, run text)")
-            session.change("INSERT INTO pagelog_log VALUES (1, 'shop', '00000000-0000-0000-0000-000000000001')")
+            session.change(
+                "CREATE TABLE pagelog_generation (log integer, generation bigint, run text)"
+            )
+            session.change(
+                "INSERT INTO pagelog_log VALUES (1, 'shop', '00000000-0000-0000-0000-000000000001')"
+            )
             session.change("INSERT INTO pagelog_generation VALUES (1, 1, 'r')")
         recorder._trails, recorder._served, recorder._of = mock.Mock(engine=engine), served, of
         recorder._check_name()

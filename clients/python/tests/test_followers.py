@@ -48,11 +48,15 @@ class Followers(Folder):
         assert process.stdout is not None and process.stderr is not None
         for count in (5, 70):
             fill(self.primary, count)
-            while not process.stdout.readline().startswith(f"archived {self.primary.durable} of {self.primary.durable}"):
+            while not process.stdout.readline().startswith(
+                f"archived {self.primary.durable} of {self.primary.durable}"
+            ):
                 self.assertIsNone(process.poll())
         process.send_signal(signal.SIGTERM)
         out, error = process.communicate(timeout=PATIENCE)
-        self.assertEqual((process.returncode, out.splitlines()[-1], error), (0, "archived 75 of 75", ""))
+        self.assertEqual(
+            (process.returncode, out.splitlines()[-1], error), (0, "archived 75 of 75", "")
+        )
 
     def test_killed_at_any_moment_it_is_whole(self) -> None:
         self.kill_again_and_again(self.url, KILLS)
@@ -130,13 +134,17 @@ class Followers(Folder):
         self.assertEqual((process.returncode, archive.check().blocks), (0, 100))
 
     def test_it_waits_for_a_lost_archive_alone(self) -> None:
-        lost, fault = psycopg.errors.AdminShutdown("server closed the connection"), psycopg.errors.UndefinedTable("the table is not there")
+        lost, fault = psycopg.errors.AdminShutdown(
+            "server closed the connection"
+        ), psycopg.errors.UndefinedTable("the table is not there")
         archiver, said = mock.Mock(**{"resume.side_effect": [lost, fault]}), io.StringIO()
         with contextlib.redirect_stderr(said), mock.patch("time.sleep"):
             follower = Follower(archiver, 0, lambda: False)
             follower.follow()
             self.assertRaises(psycopg.errors.UndefinedTable, follower.follow)
-        self.assertEqual(said.getvalue(), "pagelogctl: archive: server closed the connection; trying again\n")
+        self.assertEqual(
+            said.getvalue(), "pagelogctl: archive: server closed the connection; trying again\n"
+        )
 
 
 if __name__ == "__main__":

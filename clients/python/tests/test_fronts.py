@@ -89,11 +89,15 @@ class Fronts(unittest.TestCase):
         self.addCleanup(made.close)
         return made
 
-    def open(self, address: str | None, client: Path | None = None, context: ssl.SSLContext | None = None) -> ssl.SSLSocket:
+    def open(
+        self, address: str | None, client: Path | None = None, context: ssl.SSLContext | None = None
+    ) -> ssl.SSLSocket:
         assert address is not None
         host, _, port = address.rpartition(":")
         plain = socket.create_connection((host, int(port)), PATIENCE)
-        return (context or self.certificates.context(client)).wrap_socket(plain, server_hostname="localhost")
+        return (context or self.certificates.context(client)).wrap_socket(
+            plain, server_hostname="localhost"
+        )
 
     def heard(self, address: str | None, client: Path | None = None) -> bytes:
         """What is said there first; nothing where the connection ends."""
@@ -114,7 +118,6 @@ class Fronts(unittest.TestCase):
             return any(until in sentence for sentence in self.said)
 
         eventually(is_said, until)
-
 
     def revive(self, front: Front, before: int = 0) -> None:
         """Until it is there again, in another process: what is tried again rests before."""
@@ -143,12 +146,20 @@ class Leading(Fronts):
         self.assertIsNone(front.place("shop"))
         self.assertEqual(self.heard(shop), b"")
         front.serve("third", self.echo("third").address, SHOP)
-        self.assertNotEqual(front.place("third"), shop, "an old address would lead to another service as soon as it can")
+        self.assertNotEqual(
+            front.place("third"),
+            shop,
+            "an old address would lead to another service as soon as it can",
+        )
 
-    def test_where_all_ports_lead_somewhere_that_is_said_and_a_free_one_is_taken_later(self) -> None:
+    def test_where_all_ports_lead_somewhere_that_is_said_and_a_free_one_is_taken_later(
+        self,
+    ) -> None:
         front = self.begun(replace(self.tls, ports=1))
         front.serve("shop", self.echo("shop").address, SHOP)
-        with self.assertRaisesRegex(FrontError, "all ports of the front lead to runs: tls_ports is 1"):
+        with self.assertRaisesRegex(
+            FrontError, "all ports of the front lead to runs: tls_ports is 1"
+        ):
             front.serve("notes", self.echo("notes").address, NOTES)
         self.assertIsNone(front.place("notes"))
         front.drop("shop")
@@ -173,8 +184,15 @@ class Leading(Fronts):
         front.serve("run1", self.echo("shop").address, SHOP)
         front.serve("run2", self.echo("notes").address, NOTES)
         shop, notes = self.certificates.client(SHOP), self.certificates.client(NOTES)
-        self.assertEqual((self.heard(front.place("run1"), shop), self.heard(front.place("run2"), notes)), (b"shop", b"notes"))
-        for place, client in ((front.place("run1"), notes), (front.place("run2"), shop), (front.place("run1"), None)):
+        self.assertEqual(
+            (self.heard(front.place("run1"), shop), self.heard(front.place("run2"), notes)),
+            (b"shop", b"notes"),
+        )
+        for place, client in (
+            (front.place("run1"), notes),
+            (front.place("run2"), shop),
+            (front.place("run1"), None),
+        ):
             self.assertEqual(self.heard(place, client), b"")
 
     def test_a_session_that_is_taken_up_again_is_of_the_same_database(self) -> None:
@@ -187,8 +205,12 @@ class Leading(Fronts):
             session = line.session
         for run, wanted in (("run1", b"shop"), ("run2", b"")):
             host, _, port = str(front.place(run)).rpartition(":")
-            with socket.create_connection((host, int(port)), PATIENCE) as plain, suppress(ConnectionError, ssl.SSLError):
-                with context.wrap_socket(plain, server_hostname="localhost", session=session) as again:
+            with socket.create_connection((host, int(port)), PATIENCE) as plain, suppress(
+                ConnectionError, ssl.SSLError
+            ):
+                with context.wrap_socket(
+                    plain, server_hostname="localhost", session=session
+                ) as again:
                     found = again.recv(100)
                     self.assertTrue(again.session_reused)
                     self.assertEqual(found, wanted)
@@ -207,7 +229,10 @@ class Coming(Fronts):
             self.assertEqual(line.recv(100), b"")
         line.close()
         front.serve("notes", self.echo("notes").address, NOTES)
-        self.assertEqual((front.place("shop"), self.heard(place), self.heard(front.place("notes"))), (place, b"shop", b"notes"))
+        self.assertEqual(
+            (front.place("shop"), self.heard(place), self.heard(front.place("notes"))),
+            (place, b"shop", b"notes"),
+        )
 
     def test_one_that_hangs_is_replaced(self) -> None:
         front = self.begun()
@@ -260,9 +285,13 @@ class Coming(Fronts):
         self.assertEqual(self.shown(self.port.address), "good")
 
     def test_without_its_packages_it_says_what_to_install(self) -> None:
-        with patch.dict(os.environ, PATH=str(self.folder)), self.assertRaisesRegex(FrontError, "apt-get install haproxy"):
+        with patch.dict(os.environ, PATH=str(self.folder)), self.assertRaisesRegex(
+            FrontError, "apt-get install haproxy"
+        ):
             self.begun()
-        with patch.dict(sys.modules, cryptography=None), self.assertRaisesRegex(CertificateError, "apt-get install python3-cryptography"):
+        with patch.dict(sys.modules, cryptography=None), self.assertRaisesRegex(
+            CertificateError, "apt-get install python3-cryptography"
+        ):
             Pair.read(self.file)
 
     def test_the_next_life_adopts_it_with_what_it_leads_to(self) -> None:
@@ -277,7 +306,10 @@ class Coming(Fronts):
         with patch("pagelog.keeper.front.services_of", return_value=[facts]):
             after = self.begun()
         assert after.process is not None
-        self.assertEqual((after.process.facts, after.place("run1"), self.heard(places[0])), (before.facts, places[0], b"shop"))
+        self.assertEqual(
+            (after.process.facts, after.place("run1"), self.heard(places[0])),
+            (before.facts, places[0], b"shop"),
+        )
         self.assertEqual(self.heard(places[1]), b"", "of a run that is gone nothing is led to")
         pid = after.process.facts.pid
         os.kill(pid, signal.SIGKILL)
@@ -300,20 +332,35 @@ class Coming(Fronts):
         self.assertFalse(has_services(self.folder))
         self.assertEqual(orphans_of(self.folder, set()), [])
         script = "import pathlib, sys; from pagelog.keeper.run import end_orphans; print(end_orphans(pathlib.Path(sys.argv[1]), set()))"
-        done = subprocess.run([sys.executable, "-c", script, self.folder], stdout=subprocess.PIPE, text=True, check=True,
-                              env={**os.environ, "PYTHONPATH": str(old() / "python" / "src")})  # fmt: skip
+        done = subprocess.run(
+            [sys.executable, "-c", script, self.folder],
+            stdout=subprocess.PIPE,
+            text=True,
+            check=True,
+            env={**os.environ, "PYTHONPATH": str(old() / "python" / "src")},
+        )
         self.assertEqual(done.stdout, "['~front']\n")
         self.assertEqual(fronts_of(self.folder), [])
 
     def test_of_a_keeper_that_is_killed_before_it_is_noted_nothing_is_left(self) -> None:
-        script = ("import os, sys; from pathlib import Path; from pagelog.keeper import run; from pagelog.keeper.front import Front, Tls\n"
-                  "def die(folder, name, child):\n    print(child.pid, flush=True); os.kill(os.getpid(), 9)\n"
-                  "run.Run.of_front = die\n"
-                  f"Front(Tls(Path({str(self.file)!r}), '127.0.0.1', {self.port.address!r}, ports=3), Path({str(self.folder)!r}), print).begin()")  # fmt: skip
-        done = subprocess.run([sys.executable, "-c", script], stdout=subprocess.PIPE, text=True,
-                              env={**os.environ, "PYTHONPATH": str(Path(front_module.__file__).parents[2])})  # fmt: skip
+        script = (
+            "import os, sys; from pathlib import Path; from pagelog.keeper import run; from pagelog.keeper.front import Front, Tls\n"
+            "def die(folder, name, child):\n    print(child.pid, flush=True); os.kill(os.getpid(), 9)\n"
+            "run.Run.of_front = die\n"
+            f"Front(Tls(Path({str(self.file)!r}), '127.0.0.1', {self.port.address!r}, ports=3), Path({str(self.folder)!r}), print).begin()"
+        )
+        done = subprocess.run(
+            [sys.executable, "-c", script],
+            stdout=subprocess.PIPE,
+            text=True,
+            env={**os.environ, "PYTHONPATH": str(Path(front_module.__file__).parents[2])},
+        )
         pid = int(done.stdout)
-        eventually(lambda: not Path(f"/proc/{pid}").exists() or " Z " in Path(f"/proc/{pid}/stat").read_text(), "its end")
+        eventually(
+            lambda: not Path(f"/proc/{pid}").exists()
+            or " Z " in Path(f"/proc/{pid}/stat").read_text(),
+            "its end",
+        )
 
 
 class Renewing(Fronts):
@@ -351,12 +398,18 @@ class Renewing(Fronts):
 
     def test_what_cannot_be_used_leaves_the_old_one_in_force(self) -> None:
         front = self.begun()
-        for text, what in ((b"broken", "no certificate with its key"), (b"", "no certificate with its key")):
+        for text, what in (
+            (b"broken", "no certificate with its key"),
+            (b"", "no certificate with its key"),
+        ):
             self.put(text=text)
             with self.assertRaisesRegex(CertificateError, what):
                 front.tend()
             self.assertEqual(self.shown(self.port.address), "good")
-        self.put(text=self.certificates.folder.joinpath("renewed.pem").read_bytes() + self.certificates.folder.joinpath("good.key").read_bytes())
+        self.put(
+            text=self.certificates.folder.joinpath("renewed.pem").read_bytes()
+            + self.certificates.folder.joinpath("good.key").read_bytes()
+        )
         with self.assertRaisesRegex(CertificateError, "KEY_VALUES_MISMATCH"):
             front.tend()
         front.tend()  # said once
@@ -372,7 +425,10 @@ class Renewing(Fronts):
     def test_one_that_the_front_refuses_is_tried_again(self) -> None:
         front = self.begun()
         self.put("renewed")
-        refused = patch("pagelog.keeper.haproxy.Haproxy.ask", lambda _, command, payload=b"": "" if "ssl" in command else "2.6")
+        refused = patch(
+            "pagelog.keeper.haproxy.Haproxy.ask",
+            lambda _, command, payload=b"": "" if "ssl" in command else "2.6",
+        )
         with refused, self.assertRaisesRegex(FrontError, "does not take another cert"):
             front.tend()
         front.tend()
@@ -395,8 +451,12 @@ class Renewing(Fronts):
             Pair.read(self.file)
         self.file.chmod(0o600)
         self.assertTrue(Pair.read(self.file).is_for("LOCALHOST"))
-        Front(replace(self.tls, host="elsewhere.example"), self.folder, self.said.append)._read_files()
-        self.assertTrue(any("no certificate for elsewhere.example" in sentence for sentence in self.said))
+        Front(
+            replace(self.tls, host="elsewhere.example"), self.folder, self.said.append
+        )._read_files()
+        self.assertTrue(
+            any("no certificate for elsewhere.example" in sentence for sentence in self.said)
+        )
 
 
 class Private(Fronts):
@@ -410,7 +470,11 @@ class Private(Fronts):
     def test_the_key_is_in_no_file_of_the_folder(self) -> None:
         self.begun()
         key = self.certificates.folder.joinpath("good.key").read_bytes()
-        found = [file.name for file in self.folder.iterdir() if file.is_file() and file != self.file and key in file.read_bytes()]
+        found = [
+            file.name
+            for file in self.folder.iterdir()
+            if file.is_file() and file != self.file and key in file.read_bytes()
+        ]
         self.assertEqual(found, [])
 
     def test_it_has_as_many_connections_as_descriptors_allow(self) -> None:

@@ -32,7 +32,9 @@ class Threads(Kept):
         def run() -> None:
             for text in texts:
                 try:
-                    self.told[text] = self.group.commit(*([put(0, each)] if each else []), put(0, f"<{text}>".encode()))
+                    self.told[text] = self.group.commit(
+                        *([put(0, each)] if each else []), put(0, f"<{text}>".encode())
+                    )
                 except BaseException as error:
                     self.told[text] = error
 
@@ -57,12 +59,16 @@ class Threads(Kept):
     def blocks(self) -> list[list[str]]:
         """The texts of each archived block."""
         found = [[record.data for record in Block.decode(block).records] for block in self.keeping.archive()]  # type: ignore[union-attr]
-        return [[data.strip(b"<>").decode() for data in datas if data[:1] == b"<"] for datas in found]
+        return [
+            [data.strip(b"<>").decode() for data in datas if data[:1] == b"<"] for datas in found
+        ]
 
     def check(self) -> None:
         """What was told to be durable is in the archive, at its position, once."""
         blocks = self.blocks()
-        self.assertLessEqual(max(Counter(text for block in blocks for text in block).values(), default=0), 1)
+        self.assertLessEqual(
+            max(Counter(text for block in blocks for text in block).values(), default=0), 1
+        )
         for text, told in self.told.items():
             if isinstance(told, int):
                 self.assertIn(text, blocks[told - 1])
@@ -83,9 +89,23 @@ class Groups(Threads):
         gate.open()
         self.end()
         self.assertEqual(self.blocks(), [["1"], ["2", "3", "4", "5"]])
-        ends = self.primary.pack([[put(0, b"x" * 8000)] * 3, [put(0, b"y" * 8000)] * 2, [], [put(0, b"z" * 8000)] * 5, [put(0, b"<6>")]])
+        ends = self.primary.pack(
+            [
+                [put(0, b"x" * 8000)] * 3,
+                [put(0, b"y" * 8000)] * 2,
+                [],
+                [put(0, b"z" * 8000)] * 5,
+                [put(0, b"<6>")],
+            ]
+        )
         self.assertEqual((ends, self.primary.commit(durable=True)), ([3, 4, 4, 6, 6], 6))
-        self.assertEqual([len(block.records) for block in self.enterContext(self.keeping.reader()).blocks(3, follow=False)], [3, 2, 4, 2])
+        self.assertEqual(
+            [
+                len(block.records)
+                for block in self.enterContext(self.keeping.reader()).blocks(3, follow=False)
+            ],
+            [3, 2, 4, 2],
+        )
 
     def test_many_threads_through_deaths_of_the_service(self) -> None:
         for number in range(16):
@@ -101,7 +121,10 @@ class Groups(Threads):
         order = [text for block in self.blocks() for text in block]
         self.assertEqual(len(order), 320)
         for number in range(16):
-            self.assertEqual([text for text in order if text.split()[0] == f"{number}"], [f"{number} {at}" for at in range(20)])
+            self.assertEqual(
+                [text for text in order if text.split()[0] == f"{number}"],
+                [f"{number} {at}" for at in range(20)],
+            )
 
 
 class OverSqlite(Threads):
@@ -109,7 +132,11 @@ class OverSqlite(Threads):
 
     def test_nothing_is_written_unless_asked(self) -> None:
         """By a group, by its writer, and by one that has moved. Who has written, or was asked to, goes on in the next generation."""
-        end_mark = b"plfile01" + b"".join(number.to_bytes(8, "big") for number in (1, 8192, 7, 1)) + b"\4shop"
+        end_mark = (
+            b"plfile01"
+            + b"".join(number.to_bytes(8, "big") for number in (1, 8192, 7, 1))
+            + b"\4shop"
+        )
         for position in (1, 2):
             self.primary.append(put(0, end_mark))
             self.assertEqual(self.primary.commit(durable=True), position)
@@ -137,7 +164,11 @@ class OverSqlite(Threads):
 
 class Ends(Threads):
     def raised(self) -> dict[str, str]:
-        return {text: type(told).__name__ for text, told in self.told.items() if not isinstance(told, int)}
+        return {
+            text: type(told).__name__
+            for text, told in self.told.items()
+            if not isinstance(told, int)
+        }
 
     def test_where_another_writer_goes_on(self) -> None:
         gate = self.begin_behind("1", "2", "3")

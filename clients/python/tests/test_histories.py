@@ -9,7 +9,7 @@ from pathlib import Path
 import pagelog
 from pagelog import Block, Primary, Put
 from pagelog.archive import Archive
-from pagelog.archiving import Archiver
+from pagelog.archive.archiving import Archiver
 from pagelog.request import Report, Write
 from pagelog.restoring import EPOCHS_ABOVE, raise_epoch, restore
 from service import WIDE_TABLE, Service, put, token
@@ -22,7 +22,9 @@ class Restarts(unittest.TestCase):
 
     def setUp(self) -> None:
         self.folder = Path(self.enterContext(tempfile.TemporaryDirectory()))
-        self.archive = self.enterContext(Archive(f"sqlite:///{self.folder}/archive.db", create=True))
+        self.archive = self.enterContext(
+            Archive(f"sqlite:///{self.folder}/archive.db", create=True)
+        )
         self.service = self.enterContext(Service(table=WIDE_TABLE))
 
     def take_over(self, **options: object) -> Primary:
@@ -49,7 +51,9 @@ class Restarts(unittest.TestCase):
     def restored(self, *, raises: bool) -> None:
         """A new service at the address, filled from the archive."""
         self.service.restart()
-        with self.service.primary(alone=True) as primary, self.service.reader() as reader, self.service.operator() as operator:
+        with self.service.primary(
+            alone=True
+        ) as primary, self.service.reader() as reader, self.service.operator() as operator:
             restore(self.archive, primary, reader, operator=operator if raises else None)
 
     def test_a_commit_that_is_not_in_the_log_is_not_acknowledged(self) -> None:
@@ -58,7 +62,9 @@ class Restarts(unittest.TestCase):
             for has_witness in (False, True):
                 with self.subTest(has_replies=has_replies, has_witness=has_witness):
                     self.setUp()
-                    old = self.take_over(witness=self.enterContext(self.service.reader()) if has_witness else None)
+                    old = self.take_over(
+                        witness=self.enterContext(self.service.reader()) if has_witness else None
+                    )
                     self.ten_blocks(old)
                     self.lose(old, replies_to_writes=has_replies)
                     self.restored(raises=False)
@@ -70,7 +76,9 @@ class Restarts(unittest.TestCase):
                             old.commit()
                     with self.assertRaises(pagelog.HardenedAlready):
                         list(old.stream([[put(2, b"goes on")]]))
-                    self.assertEqual(self.enterContext(self.service.reader()).page(2, 11).data[:6], b"of the")
+                    self.assertEqual(
+                        self.enterContext(self.service.reader()).page(2, 11).data[:6], b"of the"
+                    )
 
     def test_a_report_over_another_connection_says_nothing_of_whose_blocks(self) -> None:
         """The writes were answered, the line was cut, and the report is done of a service that has another's block."""
@@ -82,13 +90,22 @@ class Restarts(unittest.TestCase):
         list(new.stream([[put(2, b"of the new writer")]]))
         # What is sent again is the report alone.
         old._requests = lambda groups, plan, ended: (  # type: ignore[method-assign, assignment]
-            (plan.append(pagelog.in_flight.Step(old._unhardened[0], None)), old._request(Report(group[-1].lsn)))[1] for group in groups)
+            (
+                plan.append(pagelog.in_flight.Step(old._unhardened[0], None)),
+                old._request(Report(group[-1].lsn)),
+            )[1]
+            for group in groups
+        )
         with self.assertRaises(pagelog.HardenedAlready):
             old.commit()
 
     def test_what_is_in_the_log_is_acknowledged_over_another_connection(self) -> None:
         """The same service: the block that the log has is the one that was sent."""
-        for records in ([put(2, b"mine")], [put(7, b"x" * 100), pagelog.Zero(2), put(2, b"y", 9)], []):
+        for records in (
+            [put(2, b"mine")],
+            [put(7, b"x" * 100), pagelog.Zero(2), put(2, b"y", 9)],
+            [],
+        ):
             primary = self.take_over()
             primary._prepare()
             list(primary.stream([[put(2, b"before")]]))
@@ -178,8 +195,12 @@ class Restarts(unittest.TestCase):
         writer = self.take_over()
         self.ten_blocks(writer)
         list(writer.stream([[put(2, b"lost")]]))
-        for asks in (lambda reader: reader.page(2, 11), lambda reader: next(reader.blocks(12)), lambda reader: reader.pull(12),
-                     lambda reader: reader.status()):  # fmt: skip
+        for asks in (
+            lambda reader: reader.page(2, 11),
+            lambda reader: next(reader.blocks(12)),
+            lambda reader: reader.pull(12),
+            lambda reader: reader.status(),
+        ):
             reader = self.enterContext(self.service.reader())
             self.assertEqual(len(list(reader.blocks(1, follow=False))), 11)
             reader.asks = asks  # type: ignore[attr-defined]

@@ -32,14 +32,31 @@ class Numbers(unittest.TestCase):
         self.numbers = numbers.Numbers(self.folder)
 
     def row(self, generation: int, run: str | None = "r", **more: Any) -> Row:
-        return Row(**{"id": 1, "name": "shop", "generation": generation, "run": run, "identity": "one", "next_generation": generation + 1, **more})
+        return Row(
+            **{
+                "id": 1,
+                "name": "shop",
+                "generation": generation,
+                "run": run,
+                "identity": "one",
+                "next_generation": generation + 1,
+                **more,
+            }
+        )
 
     def test_what_postgresql_forgets_is_known(self) -> None:
         self.assertEqual(self.numbers.see([self.row(4)]), [])
         self.assertEqual(self.numbers.least(self.row(4)), 0)
         self.numbers.note("one", 6)  # a take of its own
         self.assertEqual(self.numbers.see([self.row(4)]), [self.row(4)])
-        self.assertEqual((self.numbers.highest(self.row(4)), self.numbers.least(self.row(4)), self.numbers.doubted(self.row(4))), (6, 8, 0))
+        self.assertEqual(
+            (
+                self.numbers.highest(self.row(4)),
+                self.numbers.least(self.row(4)),
+                self.numbers.doubted(self.row(4)),
+            ),
+            (6, 8, 0),
+        )
         told = self.row(4, next_generation=8)
         self.assertEqual((self.numbers.see([told]), self.numbers.least(told)), ([], 0))
 
@@ -56,7 +73,9 @@ class Numbers(unittest.TestCase):
         later = numbers.Numbers(self.folder)
         later.begin()
         self.assertEqual(later.see([self.row(3)]), [self.row(3)])
-        self.assertEqual((later.highest(self.row(3)), later.doubted(self.row(3))), (5, 5))  # whose 3 that is it cannot know
+        self.assertEqual(
+            (later.highest(self.row(3)), later.doubted(self.row(3))), (5, 5)
+        )  # whose 3 that is it cannot know
         for text in ("", "[]", '{"one": "x"}', "nothing"):
             (self.folder / "numbers").write_text(text)
             later = numbers.Numbers(self.folder)
@@ -64,7 +83,9 @@ class Numbers(unittest.TestCase):
             self.assertEqual(later.see([self.row(3)]), [])
 
     def test_a_name_goes_on_above_the_dropped_one(self) -> None:
-        dropped, again = self.row(9, None, name="shop!1", dropped=True), Row(2, "shop", identity="two")
+        dropped, again = self.row(9, None, name="shop!1", dropped=True), Row(
+            2, "shop", identity="two"
+        )
         self.assertEqual(self.numbers.see([dropped, again]), [again])
         self.assertEqual((self.numbers.least(again), self.numbers.doubted(again)), (11, 9))
         self.assertEqual(self.numbers.see([dropped, replace(again, next_generation=11)]), [])
@@ -89,7 +110,9 @@ class Going(Kept):
         """Another database of the name."""
         before = self.keeping.row().identity
         self.keeping.word("drop", "shop", "--force")
-        self.assertTrue(self.keeping.referee.create("shop", self.keeping.table.read_text(), b"s" * 16))
+        self.assertTrue(
+            self.keeping.referee.create("shop", self.keeping.table.read_text(), b"s" * 16)
+        )
         self.wait_for_another_than(before)
 
     def wait_for_another_than(self, database: str | None, name: str = "shop") -> None:
@@ -212,7 +235,10 @@ class NamesAreUsedAgain(Going):
         reader = connected(self.keeping.addresses, id=3, mode="ro", durable=1)
         self.assertEqual(reader.execute("select count(*) from t").fetchone(), (0,))
         self.keeping.word("drop", "shop", "--force")
-        for connection, statement in ((writer, "insert into t values(1)"), (reader, "select * from t")):
+        for connection, statement in (
+            (writer, "insert into t values(1)"),
+            (reader, "select * from t"),
+        ):
             with self.assertRaises(sqlite3.Error):
                 connection.execute(statement)
             self.assertIn("was dropped", error_of(connection))
@@ -228,7 +254,9 @@ class NamesAreUsedAgain(Going):
         eventually(lambda: self.keeping.row("copy").address is not None, "its place")
         self.keeping.word("restore", "copy", "--at", position, "--as", "second")
         for name in ("copy", "second"):
-            eventually(lambda: self.keeping.row(name).address is not None, "its place")  # noqa: B023
+            eventually(
+                lambda: self.keeping.row(name).address is not None, "its place"
+            )  # noqa: B023
             with closing(connected(self.keeping.addresses, id=3, name=name, mode="ro")) as reader:
                 self.assertEqual(reader.execute("select n from t").fetchone(), (7,))
                 self.assertEqual(reader.execute("pragma pagelog_origin").fetchone(), (of,))
@@ -248,7 +276,10 @@ class NamesAreUsedAgain(Going):
             return found.run, found.address
 
         before = noted()
-        self.keeping.referee._ask("UPDATE pagelog_standby SET run = 'earlier', address = '127.0.0.1:1' WHERE log = %s RETURNING log", (id,))
+        self.keeping.referee._ask(
+            "UPDATE pagelog_standby SET run = 'earlier', address = '127.0.0.1:1' WHERE log = %s RETURNING log",
+            (id,),
+        )
         eventually(lambda: noted() == before, "the one that is here")
 
     def test_the_numbers_of_a_name_go_on(self) -> None:
@@ -259,16 +290,22 @@ class NamesAreUsedAgain(Going):
         self.assertNotEqual(second.database, first.database)
         self.keeping.word("drop", "shop", "--force")
         referee = self.keeping.referee  # as an older version creates it
-        referee._ask("WITH made AS (INSERT INTO pagelog_log (name, format, archived, epoch) VALUES ('shop', 3, 0, 1) RETURNING id) "
-                     "INSERT INTO pagelog_table (log, text, secret) SELECT id, %s, %s FROM made RETURNING log",
-                     (self.keeping.table.read_text(), b"s" * 16))  # fmt: skip
+        referee._ask(
+            "WITH made AS (INSERT INTO pagelog_log (name, format, archived, epoch) VALUES ('shop', 3, 0, 1) RETURNING id) "
+            "INSERT INTO pagelog_table (log, text, secret) SELECT id, %s, %s FROM made RETURNING log",
+            (self.keeping.table.read_text(), b"s" * 16),
+        )
         self.wait_for_another_than(second.database)
         self.assertGreater(self.keeping.place().generation, second.generation)
 
     def test_an_older_client_is_told_no_keys(self) -> None:
         place = self.keeping.place()
         with self.keeping.line(self.holder()) as line:
-            for question, count in (("where shop", 10), (f"next shop {place.generation}", 10), (f"durable shop {place.generation} 0", 4)):
+            for question, count in (
+                ("where shop", 10),
+                (f"next shop {place.generation}", 10),
+                (f"durable shop {place.generation} 0", 4),
+            ):
                 line.write(f"{question}\n")
                 line.flush()
                 self.assertEqual(len(line.readline().split()), count)
@@ -280,7 +317,7 @@ class NamesAreUsedAgain(Going):
         asked = {
             f"durable shop {place.generation} 0 of={database}/{run}": f"durable shop {place.generation} 0 of={database}/{run}",
             f"durable shop {place.generation} 0 of={database}/another": f"lost shop {place.generation} superseded by={place.generation} "
-                                                                        f"of={database}/another",
+            f"of={database}/another",
             f"durable shop {place.generation} 0 of={other}/{run}": f"lost shop {place.generation} another by=0 of={other}/{run}",
             f"durable shop {place.generation + 1} 0 of={database}/later": f"elsewhere shop {place.generation + 1} of={database}/later",
             f"turn shop of={database}/another": f"elsewhere shop of={database}/another",
@@ -313,13 +350,18 @@ class Movable(Going):
 
     def cut_off(self) -> None:
         """Nobody may connect to the database, and nobody is."""
-        self.server("ALTER DATABASE {name} ALLOW_CONNECTIONS false",
-                    "SELECT pg_terminate_backend(pid) FROM pg_stat_activity WHERE datname = '{name}'")  # fmt: skip
+        self.server(
+            "ALTER DATABASE {name} ALLOW_CONNECTIONS false",
+            "SELECT pg_terminate_backend(pid) FROM pg_stat_activity WHERE datname = '{name}'",
+        )
 
     def copy(self) -> None:
         self.keeping.referee.close()
         self.cut_off()
-        self.server("CREATE DATABASE {name}_before TEMPLATE {name}", "ALTER DATABASE {name} ALLOW_CONNECTIONS true")
+        self.server(
+            "CREATE DATABASE {name}_before TEMPLATE {name}",
+            "ALTER DATABASE {name} ALLOW_CONNECTIONS true",
+        )
 
     def set_back(self) -> None:
         self.keeping.referee.close()
@@ -383,7 +425,9 @@ class NumbersComeAgain(Movable):
         """Until each keeper tells of this run: one that has not looked since PostgreSQL went back tells of what that has lost."""
         for address in self.keeping.addresses:
             with closing(Keepers("shop", [address], PATIENCE)) as keeper:
-                eventually(lambda: keeper.place().run == run, "a word of the other run")  # noqa: B023
+                eventually(
+                    lambda: keeper.place().run == run, "a word of the other run"
+                )  # noqa: B023
 
     def has_gone_on(self, first: str | None, place: Place, continues: bool) -> bool:
         """Whether the run that PostgreSQL had lost has a later number there, or one serves that is neither this one nor the first, perhaps
@@ -391,22 +435,32 @@ class NumbersComeAgain(Movable):
         row = self.keeping.row()
         if row.address is None or row.run is None:
             return False
-        return row.run == place.run and row.generation > place.generation if continues else row.run not in (first, place.run)
+        return (
+            row.run == place.run and row.generation > place.generation
+            if continues
+            else row.run not in (first, place.run)
+        )
 
     def test_a_writer_is_told_nothing_of_another_run_of_the_number(self) -> None:
         primary = self.enterContext(self.keeping.primary())
         self.commit(primary, "0", durable=True)
-        self.go_back_before_a_switchover(lambda number: self.commit(primary, f"gone {number}", durable=True), continues=False)
+        self.go_back_before_a_switchover(
+            lambda number: self.commit(primary, f"gone {number}", durable=True), continues=False
+        )
         self.fill("new", 30)
         self.assertIn("PostgreSQL went back", self.lost(primary, durable=True))
         self.assertGreater(self.commit(primary, "after", durable=True), 30)
-        texts = self.texts()  # what PostgreSQL has lost may be there: the other keeper's standby may have had it
+        texts = (
+            self.texts()
+        )  # what PostgreSQL has lost may be there: the other keeper's standby may have had it
         self.assertEqual((texts[0], b"mine" in texts, texts[-1]), (b"0", False, b"after"))
 
     def test_a_writer_whose_run_continues_has_lost_nothing(self) -> None:
         primary = self.enterContext(self.keeping.primary())
         self.commit(primary, "0", durable=True)
-        self.go_back_before_a_switchover(lambda number: self.commit(primary, f"kept {number}", durable=True), continues=True)
+        self.go_back_before_a_switchover(
+            lambda number: self.commit(primary, f"kept {number}", durable=True), continues=True
+        )
         self.assertEqual(self.commit(primary, "after", durable=True), 4)
         self.fill("new", 5)
         self.assertEqual(self.texts(), [b"0", b"kept 1", b"kept 2", b"after", b"new"])
@@ -415,7 +469,9 @@ class NumbersComeAgain(Movable):
         """A connection whose commits, all durable, PostgreSQL has lost; another process has written since."""
         old = connected(self.keeping.addresses)
         old.execute("create table t(n integer primary key)")
-        self.go_back_before_a_switchover(lambda number: old.execute("insert into t values(?)", (100 + number,)), continues)
+        self.go_back_before_a_switchover(
+            lambda number: old.execute("insert into t values(?)", (100 + number,)), continues
+        )
         enter(self.keeping.addresses, 20)
         return old
 
@@ -454,7 +510,11 @@ class NumbersComeAgain(Movable):
             self.set_back()
             self.keeping.start(before)
             self.keeping.word("succeed", "shop")
-            eventually(lambda: (now := self.keeping.row()).generation == place.generation and now.address is not None, "another run of the number")
+            eventually(
+                lambda: (now := self.keeping.row()).generation == place.generation
+                and now.address is not None,
+                "another run of the number",
+            )
         finally:
             os.kill(pid, signal.SIGCONT)
         self.assertNotEqual(self.keeping.row().run, place.run)
@@ -468,12 +528,18 @@ class NumbersComeAgain(Movable):
         self.assertIn("PostgreSQL went back", self.lost(primary, durable=True))
         self.commit(primary, "after", durable=True)
         texts = self.texts()
-        self.assertEqual((texts[0], b"new" in texts, b"mine" in texts, texts[-1]), (b"1", True, False, b"after"))
+        self.assertEqual(
+            (texts[0], b"new" in texts, b"mine" in texts, texts[-1]), (b"1", True, False, b"after")
+        )
 
-    def test_a_writer_of_sqlite_is_told_nothing_of_another_run_whose_number_is_its_own(self) -> None:
+    def test_a_writer_of_sqlite_is_told_nothing_of_another_run_whose_number_is_its_own(
+        self,
+    ) -> None:
         old = connected(self.keeping.addresses)
         old.execute("create table t(n integer primary key)")
-        self.give_a_number_twice(lambda number: old.execute("insert into t values(?)", (100 + number,)))
+        self.give_a_number_twice(
+            lambda number: old.execute("insert into t values(?)", (100 + number,))
+        )
         enter(self.keeping.addresses, 20)
         self.assert_told_once(old)
 
@@ -481,17 +547,25 @@ class NumbersComeAgain(Movable):
         """Of the same writer, which goes on where PostgreSQL went back to."""
         old = connected(self.keeping.addresses)
         old.execute("create table t(n integer primary key)")
-        reader, durable = (connected(self.keeping.addresses, id=3, mode="ro", **more) for more in ({}, {"durable": 1}))
+        reader, durable = (
+            connected(self.keeping.addresses, id=3, mode="ro", **more)
+            for more in ({}, {"durable": 1})
+        )
 
         def write(number: int) -> None:
             old.execute("insert into t values(?)", (number,))
-            eventually(lambda: self.all_of(reader)[-1:] == self.all_of(durable)[-1:] == [number], "what was written")
+            eventually(
+                lambda: self.all_of(reader)[-1:] == self.all_of(durable)[-1:] == [number],
+                "what was written",
+            )
 
         self.give_a_number_twice(write)
         with self.assertRaises(sqlite3.OperationalError):
             old.execute("insert into t values(9000)")
         old.execute("insert into t values(3)")
-        eventually(lambda: self.all_of(reader) == self.all_of(durable) == [1, 3], "what came in its place")
+        eventually(
+            lambda: self.all_of(reader) == self.all_of(durable) == [1, 3], "what came in its place"
+        )
 
     def all_of(self, reader: sqlite3.Connection) -> list[int]:
         return [number for (number,) in reader.execute("select n from t")]
@@ -500,7 +574,9 @@ class NumbersComeAgain(Movable):
         """PostgreSQL has lost it, and has given the number of its row, and its name too, to another one."""
         self.holder()
         self.copy()
-        self.assertTrue(self.keeping.referee.create("again", self.keeping.table.read_text(), b"s" * 16))
+        self.assertTrue(
+            self.keeping.referee.create("again", self.keeping.table.read_text(), b"s" * 16)
+        )
         self.wait_for_another_than(None, "again")
         primary = self.enterContext(self.keeping.primary("again"))
         for _ in range(5):
@@ -545,7 +621,12 @@ class NumbersComeAgain(Movable):
     def test_what_was_durable_of_a_lost_run_is_not_so_of_the_next_in_python(self) -> None:
         primary = self.enterContext(self.keeping.primary(patience=2.0))
         self.commit(primary, "0", durable=True)
-        self.go_back_before_a_switchover(lambda number: [self.commit(primary, f"gone {number}", durable=True) for _ in range(20)], continues=False)
+        self.go_back_before_a_switchover(
+            lambda number: [
+                self.commit(primary, f"gone {number}", durable=True) for _ in range(20)
+            ],
+            continues=False,
+        )
         self.lost(primary, durable=True)
         self.keeping.referee.close()
         self.cut_off()

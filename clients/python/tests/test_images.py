@@ -45,7 +45,11 @@ class Images(unittest.TestCase):
         for _ in range(self.chance.randrange(4)):
             page, offset = self.chance.choice(numbers), self.chance.randrange(PAGE_SIZE)
             size = self.chance.choice((1, 20, 1500, PAGE_SIZE))
-            found.append(Zero(page) if self.chance.random() < 0.2 else Put(page, offset, self.chance.randbytes(size)[: PAGE_SIZE - offset]))
+            found.append(
+                Zero(page)
+                if self.chance.random() < 0.2
+                else Put(page, offset, self.chance.randbytes(size)[: PAGE_SIZE - offset])
+            )
         return found
 
     def test_images_are_what_each_record_makes_and_their_blocks_make_them_again(self) -> None:
@@ -55,10 +59,14 @@ class Images(unittest.TestCase):
             images = made(blocks[at : at + 50], images)
             self.assertEqual(of(images), pages(blocks[: at + 50]))
             again = labelled(blocks_of(images[number] for number in sorted(images)), 1)
-            self.assertEqual([Block.decode(block).lsn for block in again], list(range(1, len(again) + 1)))
+            self.assertEqual(
+                [Block.decode(block).lsn for block in again], list(range(1, len(again) + 1))
+            )
             self.assertEqual(pages(again), of(images))
 
-    def test_a_page_that_became_zeros_is_in_no_image_and_a_range_without_pages_has_an_empty_one(self) -> None:
+    def test_a_page_that_became_zeros_is_in_no_image_and_a_range_without_pages_has_an_empty_one(
+        self,
+    ) -> None:
         before = made([Block.of(1, [Put(3, 0, b"x"), Put(4, 0, b"y"), Put(100, 0, b"z")]).data])
         after = made([Block.of(2, [Zero(3), Put(100, 0, b"\0")]).data], before)
         self.assertEqual((sorted(of(after)), after[1].mask, after[1].data), ([4], 0, b""))
@@ -69,7 +77,10 @@ class Images(unittest.TestCase):
         self.assertEqual((len(sizes), set(sizes[:-1])), (65, {BLOCK_SIZE}))
         page = b"\0" * 5000 + b"abc" + b"\0" * 100 + b"d" + bytes(PAGE_SIZE - 5104)
         [block] = blocks_of([Image(0, 2, page)])
-        self.assertEqual(Block.decode(labelled([block], 7)[0]).records, (Put(1, 5000, b"abc"), Put(1, 5103, b"d")))
+        self.assertEqual(
+            Block.decode(labelled([block], 7)[0]).records,
+            (Put(1, 5000, b"abc"), Put(1, 5103, b"d")),
+        )
         self.assertEqual(list(blocks_of([Image(5, 0, b"")])), [])
 
     def test_an_end_mark_of_the_vfs_is_known(self) -> None:

@@ -47,7 +47,10 @@ class Trailed(KeptService):
 
     def refused(self, run: int) -> str:
         """What is said of a list that is not decided likewise."""
-        done = CliRunner().invoke(pagelogctl, ["replay", "shop", "--list", str(run), "--credentials", str(self.keeping.file)])
+        done = CliRunner().invoke(
+            pagelogctl,
+            ["replay", "shop", "--list", str(run), "--credentials", str(self.keeping.file)],
+        )
         self.assertEqual(done.exit_code, 1, done.output)
         return done.output
 
@@ -57,12 +60,16 @@ class Trailed(KeptService):
 
     def store_block(self, data: bytes) -> None:
         """Puts this block into the archive, with its checksum."""
-        self.run_sql("UPDATE pagelog_block SET data = %s, crc = %s WHERE log = %s AND lsn = %s", data, zlib.crc32(data),
-                     self.keeping.row().id, int.from_bytes(data[:8], "big"))  # fmt: skip
+        self.run_sql(
+            "UPDATE pagelog_block SET data = %s, crc = %s WHERE log = %s AND lsn = %s",
+            data,
+            zlib.crc32(data),
+            self.keeping.row().id,
+            int.from_bytes(data[:8], "big"),
+        )
 
     def replayed(self) -> list[str]:
         return [line for line in self.replay().splitlines() if line.startswith("list")]
-
 
     def last_reported(self) -> int:
         """Up to which LSN blocks are hardened by the last list."""
@@ -70,7 +77,14 @@ class Trailed(KeptService):
             [*_, one] = [None, *trail.lists()]
             if one is None or one.generation != self.keeping.row().generation:
                 return 0
-            return max((line.a for line in lines_of(trail, one) if line.op == wire.REPORT and line.verdict == ALLOWED), default=0)
+            return max(
+                (
+                    line.a
+                    for line in lines_of(trail, one)
+                    if line.op == wire.REPORT and line.verdict == ALLOWED
+                ),
+                default=0,
+            )
 
     def check_durable_has_lines(self) -> None:
         """The last list has the line by which the last archived block was hardened, as PostgreSQL has both now."""
@@ -86,27 +100,46 @@ class Statement(Referees):
         kept = self.referee.kept(row.id, run)
         assert kept is not None
         one = trail.lists()[-1]
-        lines = b"".join(number.to_bytes(8, "big") + os.urandom(LINE_SIZE - 8) for number in range(one.kept + 1, one.kept + count + 1))
+        lines = b"".join(
+            number.to_bytes(8, "big") + os.urandom(LINE_SIZE - 8)
+            for number in range(one.kept + 1, one.kept + count + 1)
+        )
         return replace(batch_of(row, kept, run), lines=Lines(*piece_behind(one, lines, 5)))
 
     def test_lines_are_kept_with_their_blocks_or_not_at_all(self) -> None:
         self.taken()
         other = new_database(self.referee, "other")
         self.referee.take(other, "r1")
-        with Trail(self.url, self.row.name, create=True) as trail, Trail(self.url, "other", create=True) as second:
-            one, two = trail.begin(generation=1, of=f"{self.row.identity}/r1"), second.begin(generation=1, of=f"{other.identity}/r1")
+        with Trail(self.url, self.row.name, create=True) as trail, Trail(
+            self.url, "other", create=True
+        ) as second:
+            one, two = trail.begin(generation=1, of=f"{self.row.identity}/r1"), second.begin(
+                generation=1, of=f"{other.identity}/r1"
+            )
             good = self.batch("r1", self.row, trail, 3)
             assert good.lines is not None
-            for wrong in (replace(good, run="r2"), replace(good, generation=9), replace(good, old=1)):
+            for wrong in (
+                replace(good, run="r2"),
+                replace(good, generation=9),
+                replace(good, old=1),
+            ):
                 self.assertEqual(self.referee.keep([wrong]), frozenset())
                 self.assertEqual(trail.lists(), [one])
-            both = [good, replace(batch_of(other, Kept(0, b"", 1), "r1"), lines=self.batch("r1", other, second, 400).lines)]
+            both = [
+                good,
+                replace(
+                    batch_of(other, Kept(0, b"", 1), "r1"),
+                    lines=self.batch("r1", other, second, 400).lines,
+                ),
+            ]
             self.assertEqual(self.referee.keep(both), {self.row.id, other.id})
             for batch, log in zip(both, (trail, second)):
                 assert batch.lines is not None
                 self.assertEqual(log.lists(), [batch.lines.one])
                 [piece] = log.pieces(batch.lines.one)  # each is checked
-                self.assertEqual((piece.first, piece.seen, piece.count), (1, 5, batch.lines.values["count"]))
+                self.assertEqual(
+                    (piece.first, piece.seen, piece.count), (1, 5, batch.lines.values["count"])
+                )
             # Blocks wait for no trail: lines that come behind others than the list has, and a list that has ended.
             stale = replace(self.batch("r1", self.row, trail, 3), lines=good.lines)
             self.assertEqual(self.referee.keep([stale]), {self.row.id})
@@ -121,7 +154,9 @@ class Statement(Referees):
         self.taken()
         other = new_database(self.referee, "other")
         self.referee.take(other, "r1")
-        with Trail(self.url, self.row.name, create=True) as trail, Trail(self.url, "other", create=True) as second:
+        with Trail(self.url, self.row.name, create=True) as trail, Trail(
+            self.url, "other", create=True
+        ) as second:
             second.begin(generation=1, of=f"{other.identity}/r1")
             lines = self.batch("r1", other, second, 3).lines
             assert lines is not None
@@ -129,7 +164,12 @@ class Statement(Referees):
                 kept = self.referee.kept(self.row.id, "r1")
                 assert kept is not None
                 lost = replace(lines.one, of=of, kept=0)
-                self.assertEqual(self.referee.keep([replace(batch_of(self.row, kept, "r1"), lines=Lines(lines.values, lost))]), {self.row.id})
+                self.assertEqual(
+                    self.referee.keep(
+                        [replace(batch_of(self.row, kept, "r1"), lines=Lines(lines.values, lost))]
+                    ),
+                    {self.row.id},
+                )
                 self.assertRaises(OtherKeeper, second.keep, lost, b"x" * LINE_SIZE, 5)
                 second.end(lost, "it is over", 6)
             [found] = second.lists()
@@ -143,11 +183,17 @@ class Statement(Referees):
                 trail.begin(generation=self.seen().generation, of=f"{self.row.identity}/{run}")
                 last = self.batch(run, self.seen(), trail, 3)
                 assert last.lines is not None
-                for wrong in (replace(last, run="r9"), replace(last, generation=9), replace(last, old=99)):
+                for wrong in (
+                    replace(last, run="r9"),
+                    replace(last, generation=9),
+                    replace(last, old=99),
+                ):
                     self.assertFalse(end(wrong))
                     self.assertEqual((trail.lists()[-1].kept, self.seen().archived), (0, last.old))
                 self.assertTrue(end(last))
-                self.assertEqual((trail.lists()[-1], self.seen().archived), (last.lines.one, last.new))
+                self.assertEqual(
+                    (trail.lists()[-1], self.seen().archived), (last.lines.one, last.new)
+                )
                 [piece] = trail.pieces(last.lines.one)
                 self.assertEqual((piece.first, piece.count), (1, 3))
                 trail.end(trail.lists()[-1], "it was enough", 6)
@@ -169,8 +215,13 @@ class Statement(Referees):
         self.assertFalse(old._keep())
         old._tried(lambda: old._opened().end("it is over"))
         self.assertTrue(new._keep())
-        with Trail(self.url, "shop") as trail, Trail(self.url, f"shop!{self.row.id - 1}") as dropped:
-            self.assertEqual([(one.generation, one.ended) for one in trail.lists()], [(self.seen().generation, None)])
+        with Trail(self.url, "shop") as trail, Trail(
+            self.url, f"shop!{self.row.id - 1}"
+        ) as dropped:
+            self.assertEqual(
+                [(one.generation, one.ended) for one in trail.lists()],
+                [(self.seen().generation, None)],
+            )
             self.assertEqual([one.generation for one in dropped.lists()], [2])
         self.assertRegex(self.said[-1], "generation 2 of shop is not that of run r2")
 
@@ -179,7 +230,9 @@ class Statement(Referees):
         self.assertTrue(self.referee.drop("shop"))
         row = new_database(self.referee, "shop")
         with Trail(self.url, "shop", create=True, database=self.row.identity) as late:
-            one = late.keep(late.begin(generation=1, of=f"{self.row.identity}/r1"), b"x" * LINE_SIZE, 5)
+            one = late.keep(
+                late.begin(generation=1, of=f"{self.row.identity}/r1"), b"x" * LINE_SIZE, 5
+            )
         with Trail(self.url, "shop", create=True) as trail:
             self.assertEqual(trail.lists(), [])
             two = trail.begin(generation=1, of=f"{row.identity}/r2")
@@ -220,7 +273,13 @@ class Statement(Referees):
     def recorder(self, trails: Trails, run: str) -> Recorder:
         """Of a run that takes the database."""
         kept = self.taken(run)
-        served = SimpleNamespace(database="shop", run=run, generation=kept.generation, operator=Listed, texts=lambda: [TABLE.read_bytes()])
+        served = SimpleNamespace(
+            database="shop",
+            run=run,
+            generation=kept.generation,
+            operator=Listed,
+            texts=lambda: [TABLE.read_bytes()],
+        )
         self.said: list[str] = []
         of = Of(self.seen().identity, run)
         return Recorder(trails, served, of, lambda _, sentence: self.said.append(sentence))  # type: ignore[arg-type]
@@ -228,8 +287,23 @@ class Statement(Referees):
     def succeeded(self, last: Batch) -> bool:
         following = number(self.referee, last.log, "r1", self.seen().generation)
         assert following is not None
-        return succeed(self.referee, Switch(last.log, last.run, last.generation, last.old, last.blocks, last.chain, following, "r2", "x:1",
-                                            0, 0, last.lines))  # fmt: skip
+        return succeed(
+            self.referee,
+            Switch(
+                last.log,
+                last.run,
+                last.generation,
+                last.old,
+                last.blocks,
+                last.chain,
+                following,
+                "r2",
+                "x:1",
+                0,
+                0,
+                last.lines,
+            ),
+        )
 
     def released(self, last: Batch) -> bool:
         return release(self.referee, last) is not None
@@ -245,7 +319,9 @@ class Durable(Trailed):
     def setUp(self) -> None:
         super().setUp()
         self.primary = self.enterContext(self.keeping.primary())
-        eventually(lambda: all(self.has_lines_at_once() for _ in range(3)), "a list that was caught up")
+        eventually(
+            lambda: all(self.has_lines_at_once() for _ in range(3)), "a list that was caught up"
+        )
         self.end = self.keeping.row().archived
 
     def has_lines_at_once(self) -> bool:
@@ -268,7 +344,10 @@ class Durable(Trailed):
             self.check_durable_has_lines()
             self.keeping.kill("a")
             gate.open()
-            eventually(lambda: self.keeping.row().archived == self.end + 1, "the commit of a keeper that is gone")
+            eventually(
+                lambda: self.keeping.row().archived == self.end + 1,
+                "the commit of a keeper that is gone",
+            )
             self.check_durable_has_lines()
             self.keeping.start("a")  # it adopts the service, and goes on with its list
             self.assertEqual(waiting.result(), self.end + 1)
@@ -287,10 +366,18 @@ class Durable(Trailed):
 
         for number, level in enumerate(("EXCEPTION", "WARNING", "EXCEPTION"), self.end + 1):
             body, before = f"PERFORM nextval('pagelog_tries'); RAISE {level} 'no room'", tries()
-            trigger = Trigger(self.keeping.url, "pagelog_log", "UPDATE ON pagelog_log FOR EACH ROW WHEN (NEW.archived > OLD.archived)", body)
+            trigger = Trigger(
+                self.keeping.url,
+                "pagelog_log",
+                "UPDATE ON pagelog_log FOR EACH ROW WHEN (NEW.archived > OLD.archived)",
+                body,
+            )
             with ThreadPoolExecutor(1) as writer:
                 waiting = writer.submit(self.commit, self.primary, f"{number}", durable=True)
-                eventually(lambda: tries() > before + 1 or self.keeping.row().archived == number, "a statement")
+                eventually(
+                    lambda: tries() > before + 1 or self.keeping.row().archived == number,
+                    "a statement",
+                )
                 trigger.close()
                 self.assertEqual(waiting.result(), number)
             self.check_durable_has_lines()
@@ -304,15 +391,23 @@ class Locked(Trailed):
     def waiting(self) -> tuple[int, object] | None:
         """The session of a trail's thread that waits for a lock, and since when its statement is under way."""
         with psycopg.connect(self.keeping.url) as session:
-            found = session.execute("SELECT pid, query_start FROM pg_stat_activity WHERE application_name = 'pagelog' AND wait_event_type = 'Lock'")
+            found = session.execute(
+                "SELECT pid, query_start FROM pg_stat_activity WHERE application_name = 'pagelog' AND wait_event_type = 'Lock'"
+            )
             return found.fetchone()
 
     def test_blocks_wait_for_no_trail_whose_tables_are_locked(self) -> None:
-        with self.keeping.primary() as primary, psycopg.connect(self.keeping.url) as session, ThreadPoolExecutor(1) as writer:
+        with self.keeping.primary() as primary, psycopg.connect(
+            self.keeping.url
+        ) as session, ThreadPoolExecutor(1) as writer:
             self.commit(primary, "1", durable=True)
             eventually(lambda: self.lists() and self.last_reported() > 0, "the list")
-            session.execute("LOCK pagelog_trail_piece IN ACCESS EXCLUSIVE MODE")  # as VACUUM FULL and ALTER do
-            committed = writer.submit(lambda: [self.commit(primary, f"{number}", durable=True) for number in range(2, 5)])
+            session.execute(
+                "LOCK pagelog_trail_piece IN ACCESS EXCLUSIVE MODE"
+            )  # as VACUUM FULL and ALTER do
+            committed = writer.submit(
+                lambda: [self.commit(primary, f"{number}", durable=True) for number in range(2, 5)]
+            )
             eventually(lambda: self.waiting() is not None, "a thread that waits for the table")
             before = self.waiting()
             self.assertEqual(committed.result(), [2, 3, 4])
@@ -349,17 +444,33 @@ class TwoKeepers(Trailed):
             eventually(lambda: self.has_list_of(three), "the list of the third generation")
         (_, first), (_, second), (_, third) = self.lists()
         self.assertEqual([generation for generation, _ in self.lists()], [one, two, three])
-        self.assertRegex(first or "", f"generation {one} was released: a switchover to . was asked for")
-        self.assertEqual(second, f"generation {three} has begun: what was decided behind the last line was not seen")
+        self.assertRegex(
+            first or "", f"generation {one} was released: a switchover to . was asked for"
+        )
+        self.assertEqual(
+            second,
+            f"generation {three} has begun: what was decided behind the last line was not seen",
+        )
         self.assertIsNone(third)
         # Nothing that was durable is without its lines where a generation was closed.
         self.assertIn("40 blocks hardened, 40 of them archived, which fit", self.replayed()[0])
-        self.assertEqual([line.split(":")[0] for line in self.replayed()], ["list 1", "list 2", "list 3"])
-        eventually(lambda: self.lists_with_a_failover() == {1, 2, 3}, "the failover of the third generation")
-        self.assertIn(f"list 1 of generation {one} ends behind line", self.keeping.word("trail", "shop", "--op", "failover"))
+        self.assertEqual(
+            [line.split(":")[0] for line in self.replayed()], ["list 1", "list 2", "list 3"]
+        )
+        eventually(
+            lambda: self.lists_with_a_failover() == {1, 2, 3},
+            "the failover of the third generation",
+        )
+        self.assertIn(
+            f"list 1 of generation {one} ends behind line",
+            self.keeping.word("trail", "shop", "--op", "failover"),
+        )
         # Another block, with a checksum of its own: the digest behind the end of the first list is of it too.
         self.store_block(Block.of(10, [put(0, b"<other>")]).data)
-        self.assertIn("BrokenArchive: the archived blocks 1 to 42 are not those that were archived", self.refused(1))
+        self.assertIn(
+            "BrokenArchive: the archived blocks 1 to 42 are not those that were archived",
+            self.refused(1),
+        )
 
 
 class Released(Trailed):
@@ -377,17 +488,26 @@ class Released(Trailed):
             eventually(is_followed, "a standby with all of it")
             one = self.keeping.place().generation
             # The end of the first list, which comes after the release, takes long.
-            gate = Gate(self.keeping.url, "NEW.ended IS NOT NULL AND OLD.ended IS NULL", "pagelog_trail_list")
+            gate = Gate(
+                self.keeping.url,
+                "NEW.ended IS NOT NULL AND OLD.ended IS NULL",
+                "pagelog_trail_list",
+            )
             self.keeping.referee.wish("shop", "*")
             gate.somebody_waits()
             two = self.keeping.place(least=one + 1).generation
             self.assertEqual(self.commit(primary, "2", durable=True), 2)
-            eventually(lambda: "is kept once the one before has ended" in self.keeping.said(), "the word that it waits")
+            eventually(
+                lambda: "is kept once the one before has ended" in self.keeping.said(),
+                "the word that it waits",
+            )
             self.assertEqual(self.lists(), [(one, None)])
             gate.open()
             eventually(lambda: len(self.lists()) == 2, "the list of the next generation")
             (_, first), (generation, _) = self.lists()
-            self.assertRegex(first or "", f"generation {one} was released: a switchover to . was asked for")
+            self.assertRegex(
+                first or "", f"generation {one} was released: a switchover to . was asked for"
+            )
             self.assertEqual(generation, two)
 
 
@@ -402,8 +522,13 @@ class OneKeeper(Trailed):
             self.keeping.word("succeed", "shop")
             after = self.keeping.place(least=before + 1).generation
             self.assertEqual(self.commit(primary, "21", durable=True), 21)
-            eventually(lambda: len(self.lists()) == 2 and self.lists()[0][1] is not None, "both lists")
-        self.assertEqual(self.lists()[0], (before, f"generation {after} has begun: the service of the next generation is ready"))
+            eventually(
+                lambda: len(self.lists()) == 2 and self.lists()[0][1] is not None, "both lists"
+            )
+        self.assertEqual(
+            self.lists()[0],
+            (before, f"generation {after} has begun: the service of the next generation is ready"),
+        )
         self.assertIn("20 blocks hardened, 20 of them archived, which fit", self.replayed()[0])
 
     def test_a_service_that_is_killed_and_a_keeper_that_adopts(self) -> None:
@@ -418,11 +543,16 @@ class OneKeeper(Trailed):
             after = self.keeping.place(least=before + 1).generation
             eventually(lambda: len(self.lists()) == 2, "the list of the next generation")
         (first, why), (second, _) = self.lists()
-        self.assertEqual((first, why, second), (before, f"generation {before} was released: the service ended", after))
+        self.assertEqual(
+            (first, why, second),
+            (before, f"generation {before} was released: the service ended", after),
+        )
         self.assertEqual([line.split(":")[0] for line in self.replayed()], ["list 1", "list 2"])
         id = self.keeping.row().id
         self.keeping.word("drop", "shop", "--force")
-        self.assertEqual(self.lists(), [])  # so that a new database of this name has a trail of its own
+        self.assertEqual(
+            self.lists(), []
+        )  # so that a new database of this name has a trail of its own
         with Trail(self.keeping.url, f"shop!{id}") as trail:
             self.assertEqual([one.generation for one in trail.lists()][:2], [first, second])
 
@@ -447,14 +577,20 @@ class FirstLines(Trailed):
             end = self.commit(primary, "1", durable=True)
             eventually(lambda: len(self.lists()) == 1, "the list")
             lock = Gate(self.keeping.url, "false")  # which nothing waits for yet
-            trigger = Trigger(self.keeping.url, "pagelog_trail_list", "INSERT ON pagelog_trail_list FOR EACH ROW",
-                              "PERFORM pg_advisory_xact_lock_shared(42)")  # fmt: skip
+            trigger = Trigger(
+                self.keeping.url,
+                "pagelog_trail_list",
+                "INSERT ON pagelog_trail_list FOR EACH ROW",
+                "PERFORM pg_advisory_xact_lock_shared(42)",
+            )
             self.addCleanup(trigger.close)
             os.kill(self.keeping.pid(), signal.SIGKILL)
             waiting = writer.submit(self.commit, primary, "2", durable=True)
             lock.somebody_waits()
             with self.keeping.reader() as reader:
-                eventually(lambda: reader.end() > end, "the block in the service of the next generation")
+                eventually(
+                    lambda: reader.end() > end, "the block in the service of the next generation"
+                )
             self.looks(3)
             self.assertEqual(self.keeping.row().archived, end)
             lock.open()
@@ -498,7 +634,11 @@ class OfImages(Trailed):
         id = self.keeping.row().id
         self.run_sql("UPDATE pagelog_image SET data = %s WHERE log = %s AND range = 1", data, id)
         if crc:
-            self.run_sql("UPDATE pagelog_image SET crc = %s WHERE log = %s AND range = 1", zlib.crc32(data), id)
+            self.run_sql(
+                "UPDATE pagelog_image SET crc = %s WHERE log = %s AND range = 1",
+                zlib.crc32(data),
+                id,
+            )
         if heads:
             digest = hashlib.blake2b(digest_size=16)
             for _, head in Bases(self.keeping.referee, id).heads(20):
@@ -507,7 +647,9 @@ class OfImages(Trailed):
 
     def test_a_byte_of_an_image_that_was_changed_is_found(self) -> None:
         said = self.replay(2)
-        self.assertIn("blocks 1 to 1 are made of images; 3 of these are compared with the blocks before", said)
+        self.assertIn(
+            "blocks 1 to 1 are made of images; 3 of these are compared with the blocks before", said
+        )
         self.assertNotIn("not checked", said)
         bases = Bases(self.keeping.referee, self.keeping.row().id)
         image = bases.image(1, bases.newest(20))
@@ -519,34 +661,62 @@ class OfImages(Trailed):
         self.store_image(changed)
         self.assertIn("BrokenBase: the image of range 1 at position 20 is damaged", self.refused(2))
         self.store_image(changed, crc=True)
-        self.assertIn("BrokenBase: the images at position 20 are not those that were kept", self.refused(2))
+        self.assertIn(
+            "BrokenBase: the images at position 20 are not those that were kept", self.refused(2)
+        )
         self.store_image(changed, crc=True, heads=True)
-        self.assertIn("BrokenArchive: the image of range 1 at position 20 is not what the blocks before make", self.refused(2))
+        self.assertIn(
+            "BrokenArchive: the image of range 1 at position 20 is not what the blocks before make",
+            self.refused(2),
+        )
         self.store_image(data, crc=True, heads=True)
-        self.run_sql("UPDATE pagelog_generation SET shift = shift - 1 WHERE log = %s AND images = 20", self.keeping.row().id)
-        self.assertIn("BrokenArchive: the images at position 20 make 1 blocks, and the generation began with 2", self.refused(2))
+        self.run_sql(
+            "UPDATE pagelog_generation SET shift = shift - 1 WHERE log = %s AND images = 20",
+            self.keeping.row().id,
+        )
+        self.assertIn(
+            "BrokenArchive: the images at position 20 make 1 blocks, and the generation began with 2",
+            self.refused(2),
+        )
 
     def test_a_record_of_a_block_that_was_changed_is_found(self) -> None:
         was, other = self.keeping.archive()[21], Block.of(22, [put(70, b"<other>")]).data
-        self.run_sql("UPDATE pagelog_block SET data = %s WHERE log = %s AND lsn = 22", other, self.keeping.row().id)
-        self.assertIn("BrokenArchive: the archived block 22 is not the one that was kept", self.refused(2))
+        self.run_sql(
+            "UPDATE pagelog_block SET data = %s WHERE log = %s AND lsn = 22",
+            other,
+            self.keeping.row().id,
+        )
+        self.assertIn(
+            "BrokenArchive: the archived block 22 is not the one that was kept", self.refused(2)
+        )
         self.store_block(other)
-        self.assertIn("BrokenArchive: the archived blocks 21 to 25 are not those that were archived", self.refused(2))
+        self.assertIn(
+            "BrokenArchive: the archived blocks 21 to 25 are not those that were archived",
+            self.refused(2),
+        )
         self.store_block(was)
         self.replay()
 
     def test_the_service_has_the_blocks_and_the_pages(self) -> None:
         with self.keeping.file.open("a") as file:
-            file.write(f'[secondary]\nto = "{self.keeping.addresses[0]}"\nid = 3\ntoken = "{token(3)}"\n')
-        self.assertRegex(self.replay(), r"6 blocks and \d+ pages of the service are those of the archive; 0 more")
+            file.write(
+                f'[secondary]\nto = "{self.keeping.addresses[0]}"\nid = 3\ntoken = "{token(3)}"\n'
+            )
+        self.assertRegex(
+            self.replay(), r"6 blocks and \d+ pages of the service are those of the archive; 0 more"
+        )
 
     def test_a_takeover_begins_with_the_newest_base(self) -> None:
         row = self.keeping.row()
-        self.assertEqual(make_base(self.keeping.referee, row.id, row.archived, row.chain).position, 25)
+        self.assertEqual(
+            make_base(self.keeping.referee, row.id, row.archived, row.chain).position, 25
+        )
         os.kill(self.keeping.pid(), signal.SIGKILL)
         self.write(2)
         said = self.blocks_of(3, 3)
-        self.assertIn("blocks 1 to 1 are made of images; 3 of these are compared with the blocks before", said)
+        self.assertIn(
+            "blocks 1 to 1 are made of images; 3 of these are compared with the blocks before", said
+        )
         # Without what was before the images, and then without these.
         self.assertEqual(Bases(self.keeping.referee, row.id).prune(25), 25)
         self.assertIn("not checked: what the images are made of, which is pruned", self.replay(3))
@@ -557,5 +727,9 @@ class OfImages(Trailed):
         make_base(self.keeping.referee, row.id, row.archived, row.chain)
         Bases(self.keeping.referee, row.id).prune(27)
         self.write(1)
-        eventually(lambda: "4 blocks hardened, 1 of them archived" in self.replay(3), "the last block")
-        self.assertIn("not checked: blocks 1 to 3 are pruned, or made of images that are", self.replay(3))
+        eventually(
+            lambda: "4 blocks hardened, 1 of them archived" in self.replay(3), "the last block"
+        )
+        self.assertIn(
+            "not checked: blocks 1 to 3 are pruned, or made of images that are", self.replay(3)
+        )

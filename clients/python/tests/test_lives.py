@@ -67,14 +67,21 @@ class Starts(Kept):
         with keeping.primary() as primary:
             self.commit(primary, "1", durable=True)
         self.assertNotEqual(keeping.row().run, run)
-        eventually(lambda: services(keeping.folder / "a") == [keeping.pid()], "the end of the service that nobody knows")
+        eventually(
+            lambda: services(keeping.folder / "a") == [keeping.pid()],
+            "the end of the service that nobody knows",
+        )
 
 
 class Ends(Kept):
     keepers = "a"
 
     def beat(self) -> int:
-        return next(keeper.beat for keeper in self.keeping.referee.everything().keepers if keeper.name == "a")
+        return next(
+            keeper.beat
+            for keeper in self.keeping.referee.everything().keepers
+            if keeper.name == "a"
+        )
 
     def test_a_keeper_that_is_told_to_end_before_it_has_adopted_archives_the_rest(self) -> None:
         with self.keeping.primary() as primary:
@@ -88,11 +95,17 @@ class Ends(Kept):
         eventually(lambda: "PostgreSQL: " in self.keeping.said(), "a try to reach PostgreSQL")
         self.keeping.processes["a"].send_signal(signal.SIGTERM)
         eventually(lambda: self.keeping.said().count("told to end") == 1, "the word that it ends")
-        trigger = Trigger(self.keeping.url, "pagelog_log", "UPDATE ON pagelog_log FOR EACH ROW WHEN (NEW IS NOT DISTINCT FROM OLD)",
-                          "RAISE WARNING 'cancelled'")  # fmt: skip
+        trigger = Trigger(
+            self.keeping.url,
+            "pagelog_log",
+            "UPDATE ON pagelog_log FOR EACH ROW WHEN (NEW IS NOT DISTINCT FROM OLD)",
+            "RAISE WARNING 'cancelled'",
+        )
         self.addCleanup(trigger.close)
         line.count_from_now()
-        eventually(lambda: "adopt: PostgreSQL: cancelled" in self.keeping.said(), "an adoption in doubt")
+        eventually(
+            lambda: "adopt: PostgreSQL: cancelled" in self.keeping.said(), "an adoption in doubt"
+        )
         keeper, looks = self.keeping.processes["a"], self.beat()
         eventually(lambda: self.beat() > looks + 3 or keeper.poll() is not None, "looks after it")
         trigger.close()
@@ -113,13 +126,22 @@ class Filled(Kept):
         keeping.referee.keep([batch_of(row, kept, "r0")])
         keeping.referee.release(row.id, "r0")
         with psycopg.connect(keeping.url, autocommit=True) as session:
-            session.execute("CREATE ROLE few LOGIN CONNECTION LIMIT 1; GRANT ALL ON ALL TABLES IN SCHEMA public TO few")
+            session.execute(
+                "CREATE ROLE few LOGIN CONNECTION LIMIT 1; GRANT ALL ON ALL TABLES IN SCHEMA public TO few"
+            )
             session.execute("GRANT ALL ON ALL SEQUENCES IN SCHEMA public TO few")
             file.write_text(file.read_text().replace("//pagelog@", "//few@"))
             keeping.start("a")
             eventually(lambda: "fill: PostgreSQL: " in keeping.said(), "a refusal")
-            eventually(lambda: "shop: it could not be filled: PostgreSQL: " in keeping.said(), "the word that it was given up")
-            eventually(lambda: "shop: nobody has it; it could not be filled here just now" in keeping.said(), "its release")
+            eventually(
+                lambda: "shop: it could not be filled: PostgreSQL: " in keeping.said(),
+                "the word that it was given up",
+            )
+            eventually(
+                lambda: "shop: nobody has it; it could not be filled here just now"
+                in keeping.said(),
+                "its release",
+            )
             self.assertIn("too many connections", keeping.said())
             session.execute("ALTER ROLE few CONNECTION LIMIT 9")
             self.assertEqual(keeping.place().archived, 3)
@@ -163,14 +185,25 @@ class Names(Kept):
         with keeping.primary() as primary:
             self.commit(primary, "1", durable=True)
             run, living = keeping.row().run, services(a)
-            for number, makes in enumerate((lambda: None, lambda: (shutil.rmtree(b), shutil.copytree(a, b)),
-                                            lambda: (shutil.rmtree(b), b.symlink_to(a)))):  # fmt: skip
+            for number, makes in enumerate(
+                (
+                    lambda: None,
+                    lambda: (shutil.rmtree(b), shutil.copytree(a, b)),
+                    lambda: (shutil.rmtree(b), b.symlink_to(a)),
+                )
+            ):
                 with self.subTest(number):
                     makes()
                     keeping.launch("b")
-                    self.assertRegex(self.refusal(), rf"the name a is in use: the keeper at 127.0.0.1:{keeping.ports['a']} has it "
-                                                     r"since 2\d{3}-\d\d-\d\d \d\d:\d\d:\d\d UTC, and its heartbeat moves")  # fmt: skip
-                    self.assertEqual((keeping.processes["a"].poll(), services(a), keeping.row().run), (None, living, run))
+                    self.assertRegex(
+                        self.refusal(),
+                        rf"the name a is in use: the keeper at 127.0.0.1:{keeping.ports['a']} has it "
+                        r"since 2\d{3}-\d\d-\d\d \d\d:\d\d:\d\d UTC, and its heartbeat moves",
+                    )
+                    self.assertEqual(
+                        (keeping.processes["a"].poll(), services(a), keeping.row().run),
+                        (None, living, run),
+                    )
             self.commit(primary, "2", durable=True)
 
     def test_of_two_that_start_with_a_name_one_has_it(self) -> None:
@@ -179,7 +212,9 @@ class Names(Kept):
         self.keeping.processes["a"].stdout.close()  # type: ignore[union-attr]
         self.keeping.launch("a", "b")
         both = self.keeping.processes["a"], self.keeping.processes["b"]
-        eventually(lambda: any(process.poll() is not None for process in both), "the refusal of one")
+        eventually(
+            lambda: any(process.poll() is not None for process in both), "the refusal of one"
+        )
         self.assertEqual({process.poll() for process in both}, {3, None})
         with self.keeping.primary() as primary:
             self.commit(primary, "1", durable=True)
@@ -197,7 +232,9 @@ class Names(Kept):
                     primary.keepers._addresses = keeping.addresses
                     self.commit(primary, f"{number}", durable=True)
                     self.assertNotEqual(keeping.row().run, run)
-                    self.assertIn("its heartbeat is watched for a ttl", (keeping.folder / "b.log").read_text())
+                    self.assertIn(
+                        "its heartbeat is watched for a ttl", (keeping.folder / "b.log").read_text()
+                    )
                     if kind == signal.SIGKILL:
                         keeping.launch("a")
                     else:
@@ -230,25 +267,36 @@ class Vanished(Kept):
     options = {"ttl": 120.0}
 
     def test_who_waits_for_a_database_that_the_referee_has_lost_is_told(self) -> None:
-        with self.keeping.primary() as primary, psycopg.connect(self.keeping.url, autocommit=True) as session:
+        with self.keeping.primary() as primary, psycopg.connect(
+            self.keeping.url, autocommit=True
+        ) as session:
             self.commit(primary, "1", durable=True)
             place, pid = self.keeping.place(), self.keeping.pid()
             stand_still(pid)  # so that nothing is pulled
             with self.keeping.line() as text:
                 print(f"durable shop {place.generation} 2\nwhere shop", file=text, flush=True)
                 self.assertEqual(text.readline().split()[:3], ["at", "shop", str(place.generation)])
-                session.execute("UPDATE pagelog_log SET format = 99 WHERE name = 'shop'")  # as where PostgreSQL was restored to the past
+                session.execute(
+                    "UPDATE pagelog_log SET format = 99 WHERE name = 'shop'"
+                )  # as where PostgreSQL was restored to the past
                 session.execute("NOTIFY pagelog_keeper")
-                self.assertEqual(text.readline().split(), ["elsewhere", "shop", str(place.generation)])
+                self.assertEqual(
+                    text.readline().split(), ["elsewhere", "shop", str(place.generation)]
+                )
                 print(f"durable shop {place.generation} 2", file=text, flush=True)
                 self.assertEqual(text.readline().split(), ["unknown", "shop"])
             self.assertIn("shop: the referee knows nothing of the database", self.keeping.said())
             os.kill(pid, signal.SIGCONT)
             session.execute(f"UPDATE pagelog_log SET format = {FORMAT} WHERE name = 'shop'")
             session.execute("NOTIFY pagelog_keeper")
-            eventually(lambda: self.keeping.said().count("shop: serves\n") == 2, "the word that it is there again")
+            eventually(
+                lambda: self.keeping.said().count("shop: serves\n") == 2,
+                "the word that it is there again",
+            )
             self.assertEqual(self.commit(primary, "2", durable=True), 2)
-            self.assertEqual((self.keeping.place().generation, self.keeping.pid()), (place.generation, pid))
+            self.assertEqual(
+                (self.keeping.place().generation, self.keeping.pid()), (place.generation, pid)
+            )
 
 
 class WentBack(Kept):
@@ -262,11 +310,18 @@ class WentBack(Kept):
         if other:
             blocks[-1] = Block.of(archived, [Put(9, 0, b"another")]).data
         with psycopg.connect(self.keeping.url) as session:
-            session.execute("DELETE FROM pagelog_block WHERE log = %s AND lsn > %s", (row.id, archived))
+            session.execute(
+                "DELETE FROM pagelog_block WHERE log = %s AND lsn > %s", (row.id, archived)
+            )
             if other:
-                session.execute("UPDATE pagelog_block SET data = %s, crc = %s WHERE log = %s AND lsn = %s",
-                                (blocks[-1], zlib.crc32(blocks[-1]), row.id, archived))  # fmt: skip
-            session.execute(f"UPDATE pagelog_log SET archived = %s, chain = %s{more} WHERE id = %s", (archived, digest(b"", blocks), row.id))
+                session.execute(
+                    "UPDATE pagelog_block SET data = %s, crc = %s WHERE log = %s AND lsn = %s",
+                    (blocks[-1], zlib.crc32(blocks[-1]), row.id, archived),
+                )
+            session.execute(
+                f"UPDATE pagelog_log SET archived = %s, chain = %s{more} WHERE id = %s",
+                (archived, digest(b"", blocks), row.id),
+            )
             session.execute("NOTIFY pagelog_keeper")
 
     def test_what_it_has_lost_of_a_run_is_archived_again_by_that_run(self) -> None:
@@ -290,13 +345,21 @@ class WentBack(Kept):
                 self.commit(primary, f"{number}", durable=True)
             place, pid = self.keeping.place(), self.keeping.pid()
             with psycopg.connect(self.keeping.url) as session:
-                session.execute("UPDATE pagelog_keeper SET run = 'an earlier life', beat = 0 WHERE name = 'a'")
+                session.execute(
+                    "UPDATE pagelog_keeper SET run = 'an earlier life', beat = 0 WHERE name = 'a'"
+                )
             self.put_back(1)
-            eventually(lambda: "it went back, and is told again" in self.keeping.said(), "the word that it went back")
+            eventually(
+                lambda: "it went back, and is told again" in self.keeping.said(),
+                "the word that it went back",
+            )
             keeper = self.keeping.referee.everything().keeper("a")
             self.assertNotIn("earlier", keeper.run)  # type: ignore[union-attr]
             self.assertEqual(self.commit(primary, "4", durable=True), 4)
-            self.assertEqual((self.keeping.place().run, self.keeping.pid(), self.texts()), (place.run, pid, [b"1", b"2", b"3", b"4"]))
+            self.assertEqual(
+                (self.keeping.place().run, self.keeping.pid(), self.texts()),
+                (place.run, pid, [b"1", b"2", b"3", b"4"]),
+            )
 
     RELEASED = ", generation = generation + 5, next_generation = next_generation + 5, run = NULL, holder = NULL, address = NULL"
 
@@ -320,7 +383,9 @@ class WentBack(Kept):
             self.keeping.kill("a")
             # As where PostgreSQL lost a succession: it knows the run before alone, whose service is gone.
             with psycopg.connect(self.keeping.url) as session:
-                session.execute("UPDATE pagelog_generation SET run = 'before' WHERE run = %s", (place.run,))
+                session.execute(
+                    "UPDATE pagelog_generation SET run = 'before' WHERE run = %s", (place.run,)
+                )
             self.put_back(1, ", run = 'before', generation = 0")
             self.keeping.start("a")
             after = self.keeping.place(least=place.generation + 1)
@@ -338,7 +403,10 @@ class WentBack(Kept):
         self.put_back(1, self.RELEASED, other=True)
         after = self.keeping.place(least=place.generation + 6)
         self.assertEqual((after.archived, len(self.texts())), (1, 1))
-        self.assertIn(f"process {pid} at {place.address}, may be the only copy of its log", self.keeping.said())
+        self.assertIn(
+            f"process {pid} at {place.address}, may be the only copy of its log",
+            self.keeping.said(),
+        )
         for number in (signal.SIGKILL, signal.SIGTERM):
             self.keeping.kill("a", number)
             self.keeping.start("a")
@@ -350,7 +418,9 @@ class WentBack(Kept):
         self.keeping.word("drop", "shop", "--force")
         self.keeping.kill("a")
         self.keeping.start("a")
-        self.assertTrue(self.keeping.referee.create("next", self.keeping.table.read_text(), b"s" * 16))
+        self.assertTrue(
+            self.keeping.referee.create("next", self.keeping.table.read_text(), b"s" * 16)
+        )
         eventually(lambda: self.keeping.knows("next"), "a place of the next one")
         with Reader(Connection(place.address), credentials) as reader:
             self.assertEqual([block.lsn for block in reader.blocks(1, follow=False)], [1, 2, 3])
@@ -389,36 +459,76 @@ class WentBack(Kept):
             lines = map(json.loads, self.keeping.word("kept", "--json").splitlines())
             return [each for line in lines if line["name"] == "shop" for each in line["set_aside"]]
 
-        eventually(lambda: asides() == [{"keeper": "a", "name": "shop", "run": place.run, "address": place.address, "pid": pid, "shift": 0,
-                                         "images": 0, "had": 3, "kept": True, "database": identity}], "the word of the next life")  # fmt: skip
+        eventually(
+            lambda: asides()
+            == [
+                {
+                    "keeper": "a",
+                    "name": "shop",
+                    "run": place.run,
+                    "address": place.address,
+                    "pid": pid,
+                    "shift": 0,
+                    "images": 0,
+                    "had": 3,
+                    "kept": True,
+                    "database": identity,
+                }
+            ],
+            "the word of the next life",
+        )
         stand_still(pid)
         with self.assertRaisesRegex(AssertionError, r"\): 3: "):
             self.keeping.word("--timeout", "0.5", "rescue", "shop")
         os.kill(pid, signal.SIGCONT)
-        self.assertIn("ends at position 3, which is LSN 3: PostgreSQL has it up to 0, and lacks 3 blocks", self.keeping.word("rescue", "shop"))
+        self.assertIn(
+            "ends at position 3, which is LSN 3: PostgreSQL has it up to 0, and lacks 3 blocks",
+            self.keeping.word("rescue", "shop"),
+        )
         folder, url = self.keeping.folder / "a", f"sqlite:///{self.keeping.folder}/saved.db"
-        with self.assertRaisesRegex(AssertionError, f"nobody else has 3 blocks of it: name it, by --run {place.run}"):
+        with self.assertRaisesRegex(
+            AssertionError, f"nobody else has 3 blocks of it: name it, by --run {place.run}"
+        ):
             self.keeping.word("rescue", "shop", "--into", url, "--end", folder, "--yes")
         ending = ("rescue", "shop", "--run", place.run)
         with self.assertRaisesRegex(AssertionError, "its 3 blocks would be lost"):
             self.keeping.word(*ending, "--end", folder, "--yes")
         self.assertIn("no keeper says", self.keeping.refused("rescue", "shop", "--run", "other"))
-        self.assertIn("it is on the machine of its keeper", self.keeping.refused(*ending, "--into", url, "--end", self.keeping.folder, "--yes"))
-        goes = (f"to be ended: run {place.run} of shop, process {pid} of keeper a at {place.address}, up to position 3; nobody else has its positions "
-                f"1 to 3, which are saved as log {place.run} before\nPostgreSQL has positions 0 to 2, from ")  # fmt: skip
-        with self.assertRaisesRegex(AssertionError, f"(?s){re.escape(goes)}.*: nothing was done: there is no terminal to ask at"):
+        self.assertIn(
+            "it is on the machine of its keeper",
+            self.keeping.refused(*ending, "--into", url, "--end", self.keeping.folder, "--yes"),
+        )
+        goes = (
+            f"to be ended: run {place.run} of shop, process {pid} of keeper a at {place.address}, up to position 3; nobody else has its positions "
+            f"1 to 3, which are saved as log {place.run} before\nPostgreSQL has positions 0 to 2, from "
+        )
+        with self.assertRaisesRegex(
+            AssertionError,
+            f"(?s){re.escape(goes)}.*: nothing was done: there is no terminal to ask at",
+        ):
             self.keeping.word(*ending, "--into", url, "--end", folder)
-        other = Trigger(self.keeping.url, "pagelog_block", "INSERT ON pagelog_block FOR EACH ROW",
-                        "NEW.data := set_byte(NEW.data, length(NEW.data) - 1, 0)")  # fmt: skip
-        self.assertIn("BrokenArchive", self.keeping.refused(*ending, "--as", "old", "--end", folder, "--yes"))
+        other = Trigger(
+            self.keeping.url,
+            "pagelog_block",
+            "INSERT ON pagelog_block FOR EACH ROW",
+            "NEW.data := set_byte(NEW.data, length(NEW.data) - 1, 0)",
+        )
+        self.assertIn(
+            "BrokenArchive", self.keeping.refused(*ending, "--as", "old", "--end", folder, "--yes")
+        )
         other.close()
         os.kill(pid, 0)
-        self.assertIn("saved positions up to 3 as database old, and compared them", self.keeping.word("rescue", "shop", "--as", "old"))
+        self.assertIn(
+            "saved positions up to 3 as database old, and compared them",
+            self.keeping.word("rescue", "shop", "--as", "old"),
+        )
         eventually(lambda: self.keeping.row("old").address is not None, "a place of it")
         eventually(lambda: self.keeping.knows("old"), "what was saved")
         with self.keeping.reader("old") as reader:
             self.assertEqual(reader.end(), 3)
-        self.assertIn("there is a database old", self.keeping.refused("rescue", "shop", "--as", "old"))
+        self.assertIn(
+            "there is a database old", self.keeping.refused("rescue", "shop", "--as", "old")
+        )
         said = self.keeping.word(*ending, "--into", url, "--end", folder, "--yes")
         self.assertIn(goes, said)
         self.assertIn(f"saved 3 blocks as log {place.run}\nended process {pid}", said)
@@ -436,7 +546,10 @@ class WentBack(Kept):
             self.keeping.start("a")
             eventually(lambda: self.keeping.row().address == place.address, "the address")
             self.assertEqual(self.commit(primary, "2", durable=True), 2)
-            self.assertEqual((self.keeping.place().run, self.keeping.pid(), self.texts()), (place.run, pid, [b"1", b"2"]))
+            self.assertEqual(
+                (self.keeping.place().run, self.keeping.pid(), self.texts()),
+                (place.run, pid, [b"1", b"2"]),
+            )
 
 
 class LateNote(Kept):
@@ -454,8 +567,10 @@ class LateNote(Kept):
         self.keeping.kill("a")
         self.put_back(1, ", run = NULL, holder = NULL, address = NULL")
         self.keeping.start("a")
-        self.assertIn(f"the service of run {run}, which an earlier life left, is set aside: PostgreSQL went back: it had the run up to position 3",
-                      self.keeping.said())  # fmt: skip
+        self.assertIn(
+            f"the service of run {run}, which an earlier life left, is set aside: PostgreSQL went back: it had the run up to position 3",
+            self.keeping.said(),
+        )
         os.kill(pid, 0)
 
 
@@ -464,15 +579,21 @@ class InDoubt(Kept):
     options = {"ttl": 120.0}
     """For so long it leaves the others time."""
 
-    def test_a_switchover_to_any_other_whose_release_was_in_doubt_leaves_the_others_time(self) -> None:
+    def test_a_switchover_to_any_other_whose_release_was_in_doubt_leaves_the_others_time(
+        self,
+    ) -> None:
         with self.keeping.primary() as primary:
             self.commit(primary, "1", durable=True)
         row, other = self.keeping.row(), Referee(self.keeping.url, "b", "life")
         self.addCleanup(other.close)
         other.register("127.0.0.1:1")
         other.stand_by(row.id, "127.0.0.1:1", "s", 1)
-        trigger = Trigger(self.keeping.url, "pagelog_log", "UPDATE ON pagelog_log FOR EACH ROW WHEN (NEW.run IS NULL AND OLD.run IS NOT NULL)",
-                          "RAISE WARNING 'cancelled'")  # fmt: skip
+        trigger = Trigger(
+            self.keeping.url,
+            "pagelog_log",
+            "UPDATE ON pagelog_log FOR EACH ROW WHEN (NEW.run IS NULL AND OLD.run IS NOT NULL)",
+            "RAISE WARNING 'cancelled'",
+        )
         self.addCleanup(trigger.close)
         self.assertTrue(self.keeping.referee.wish("shop", "*"))
 
@@ -498,7 +619,12 @@ class Phantoms(Kept):
         self.keeping.referee.wish("shop", None)
         [note] = self.keeping.folder.glob(f"{other}/shop.*.json")
         # It is not deleted, and PostgreSQL warns, so that it is in doubt.
-        trigger = Trigger(self.keeping.url, "pagelog_standby", "DELETE ON pagelog_standby FOR EACH ROW", "RAISE WARNING 'cancelled'")
+        trigger = Trigger(
+            self.keeping.url,
+            "pagelog_standby",
+            "DELETE ON pagelog_standby FOR EACH ROW",
+            "RAISE WARNING 'cancelled'",
+        )
         self.addCleanup(trigger.close)
         os.kill(json.loads(note.read_text())["pid"], signal.SIGKILL)
         eventually(lambda: "end: PostgreSQL: cancelled" in self.keeping.said(), "the doubt")

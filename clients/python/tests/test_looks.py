@@ -49,7 +49,9 @@ class Looks(unittest.IsolatedAsyncioTestCase):
     def at(self, listener: socket.socket, timeout: float = PATIENCE) -> Served:
         """A service that is whatever listens there."""
         made = Served("shop", "r", WIDE_TABLE, SECRET, timeout=timeout)
-        made.serve(Mock(Run, address=f"127.0.0.1:{listener.getsockname()[1]}", is_alive=True, memory=0))
+        made.serve(
+            Mock(Run, address=f"127.0.0.1:{listener.getsockname()[1]}", is_alive=True, memory=0)
+        )
         return made
 
     def listener(self) -> socket.socket:
@@ -64,7 +66,9 @@ class Looks(unittest.IsolatedAsyncioTestCase):
         self.addCleanup(operator.close)
         assert served.process is not None
         operator.failover(2)
-        made = Primary.at(served.process.address, 2, token_of(bytes.fromhex(token(2)), "shop", served.run).hex())
+        made = Primary.at(
+            served.process.address, 2, token_of(bytes.fromhex(token(2)), "shop", served.run).hex()
+        )
         self.addCleanup(made.close)
         return made
 
@@ -73,7 +77,11 @@ class Looks(unittest.IsolatedAsyncioTestCase):
             self.tasks.append(asyncio.create_task(work))
             return self.tasks[-1]
 
-        shared = Mock(settings=Mock(ttl=PATIENCE), spawn=spawn, say=lambda _, sentence: self.said.append(sentence))
+        shared = Mock(
+            settings=Mock(ttl=PATIENCE),
+            spawn=spawn,
+            say=lambda _, sentence: self.said.append(sentence),
+        )
         return Work(shared, Row(1, "shop", identity="one"), Waits("shop"), Mock())
 
     async def asyncSetUp(self) -> None:
@@ -108,7 +116,9 @@ class Looks(unittest.IsolatedAsyncioTestCase):
         self.assertGreater(served.entries, 300)
         self.assertGreater(served.share(1000, 0), 0.3)
 
-    async def test_a_list_that_is_full_and_a_service_that_is_gone_are_left_to_a_thread(self) -> None:
+    async def test_a_list_that_is_full_and_a_service_that_is_gone_are_left_to_a_thread(
+        self,
+    ) -> None:
         served = self.served(audit=100)
         with self.assertRaises(AuditListFull):
             while await served.looked_at_once():
@@ -153,9 +163,14 @@ class Looks(unittest.IsolatedAsyncioTestCase):
         served, sockets = self.served(), list[socket.socket]()
         self.addCleanup(lambda: [each.close() for each in sockets])
         assert served.process is not None and served._quick_looker is not None
-        addresses = silent_address(sockets), ("127.0.0.1", int(served.process.address.rpartition(":")[2]))
+        addresses = silent_address(sockets), (
+            "127.0.0.1",
+            int(served.process.address.rpartition(":")[2]),
+        )
         found = [(socket.AF_INET, socket.SOCK_STREAM, 6, "", address) for address in addresses]
-        with patch.object(asyncio.get_running_loop(), "getaddrinfo", AsyncMock(return_value=found)), without_threads():
+        with patch.object(
+            asyncio.get_running_loop(), "getaddrinfo", AsyncMock(return_value=found)
+        ), without_threads():
             served._quick_looker._address = Address("host", 1)
             self.assertTrue(await served.looked_at_once())
         served.stop_looks()

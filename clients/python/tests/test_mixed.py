@@ -53,7 +53,11 @@ def old() -> Path:
     """The clients of 0.1.0."""
     if not _folders:
         _folders.append(tempfile.TemporaryDirectory(prefix="pagelog-old-"))
-        packed = subprocess.run(["git", "-C", str(REPOSITORY), "archive", OLD, "clients/python/src", "clients/c"], check=True, stdout=subprocess.PIPE)
+        packed = subprocess.run(
+            ["git", "-C", str(REPOSITORY), "archive", OLD, "clients/python/src", "clients/c"],
+            check=True,
+            stdout=subprocess.PIPE,
+        )
         with tarfile.open(fileobj=io.BytesIO(packed.stdout)) as files:
             files.extractall(_folders[0].name)
     return Path(_folders[0].name) / "clients"
@@ -64,8 +68,13 @@ class OldWriter:
 
     def __init__(self, addresses: list[str]) -> None:
         environment = {**os.environ, "PYTHONPATH": str(old() / "python" / "src")}
-        self.process = subprocess.Popen([sys.executable, "-B", "-c", WRITER, ",".join(addresses), token(2), token(1)], text=True,
-                                        stdin=subprocess.PIPE, stdout=subprocess.PIPE, env=environment)  # fmt: skip
+        self.process = subprocess.Popen(
+            [sys.executable, "-B", "-c", WRITER, ",".join(addresses), token(2), token(1)],
+            text=True,
+            stdin=subprocess.PIPE,
+            stdout=subprocess.PIPE,
+            env=environment,
+        )
 
     def commit(self, text: str) -> str:
         """A durable commit: its position, or the error's name."""
@@ -84,7 +93,9 @@ class MixedKeeping(Keeping):
     @contextmanager
     def older(self) -> Iterator[None]:
         before = dict(self.environment)
-        self.environment.update(PYTHONPATH=str(old() / "python" / "src"), PYTHONPYCACHEPREFIX=str(old() / "bytecode"))
+        self.environment.update(
+            PYTHONPATH=str(old() / "python" / "src"), PYTHONPYCACHEPREFIX=str(old() / "bytecode")
+        )
         try:
             yield
         finally:
@@ -92,8 +103,20 @@ class MixedKeeping(Keeping):
 
     def old_word(self, *words: object) -> None:
         with self.older():
-            subprocess.run([sys.executable, "-B", "-m", "pagelog", *map(str, words), "--credentials", str(self.file)], check=True,
-                           env=self.environment, stdout=subprocess.DEVNULL)  # fmt: skip
+            subprocess.run(
+                [
+                    sys.executable,
+                    "-B",
+                    "-m",
+                    "pagelog",
+                    *map(str, words),
+                    "--credentials",
+                    str(self.file),
+                ],
+                check=True,
+                env=self.environment,
+                stdout=subprocess.DEVNULL,
+            )
 
     def replace(self, name: str, *, is_old: bool) -> None:
         """The keeper hands over, and another one of its name begins."""
@@ -134,7 +157,9 @@ class Beside(unittest.TestCase):
     def held(self) -> tuple[str | None, str | None]:
         """The holder and the run that is published, in tables of any version."""
         with psycopg.connect(self.keeping.url) as session:
-            found = session.execute("SELECT holder, run FROM pagelog_log WHERE name = 'shop' AND address IS NOT NULL").fetchone()
+            found = session.execute(
+                "SELECT holder, run FROM pagelog_log WHERE name = 'shop' AND address IS NOT NULL"
+            ).fetchone()
             return (None, None) if found is None else (found[0], found[1])
 
     def version(self) -> int:
@@ -144,7 +169,9 @@ class Beside(unittest.TestCase):
 
     def refused(self) -> None:
         """Keepers of version 1 alone cannot say which database of the name they have."""
-        with self.keeping.primary(id=5) as primary, self.assertRaisesRegex(OlderKeepers, "upgraded before their clients"):
+        with self.keeping.primary(id=5) as primary, self.assertRaisesRegex(
+            OlderKeepers, "upgraded before their clients"
+        ):
             primary.append(put(0, b"<refused>"))
             primary.commit()
         with self.assertRaises(sqlite3.OperationalError):
@@ -208,7 +235,10 @@ class Mixed(Beside):
         run = keeping.row().run
         keeping.word("drop", "shop", "--force")
         self.assertTrue(keeping.referee.create("shop", keeping.table.read_text(), b"s" * 16))
-        eventually(lambda: keeping.row().address is not None and keeping.row().run != run, "the place of another one")
+        eventually(
+            lambda: keeping.row().address is not None and keeping.row().run != run,
+            "the place of another one",
+        )
         with keeping.primary(id=5) as primary:
             for _ in range(10):
                 primary.append(put(0, b"<new>"))
@@ -222,7 +252,10 @@ class Mixed(Beside):
         words = ["token", "shop", "5", "--new", "--credentials", str(keeping.file)]
         done = CliRunner(mix_stderr=False).invoke(pagelogctl, words)
         self.assertEqual(done.exit_code, 1)
-        self.assertIn("nothing was changed: keeper b is of a version that knows no numbers of tables", done.stderr)
+        self.assertIn(
+            "nothing was changed: keeper b is of a version that knows no numbers of tables",
+            done.stderr,
+        )
         self.assertEqual(keeping.row().table_number, 1)
         keeping.replace("b", is_old=False)
         done = CliRunner(mix_stderr=False).invoke(pagelogctl, words)
@@ -238,10 +271,14 @@ class Mixed(Beside):
         keeping.replace("b", is_old=False)
         enter(keeping.addresses, 5, 10, old() / "c")
         with closing(connected(keeping.addresses, id=3, mode="ro")) as reader:
-            self.assertEqual(reader.execute("pragma pagelog_origin").fetchone(), ("",))  # an older client does not say it
+            self.assertEqual(
+                reader.execute("pragma pagelog_origin").fetchone(), ("",)
+            )  # an older client does not say it
             enter(keeping.addresses, 5, 15)
             self.assertEqual(reader.execute("select count(*), max(n) from t").fetchone(), (20, 19))
-            self.assertEqual(reader.execute("pragma pagelog_origin").fetchone(), (keeping.place().of,))
+            self.assertEqual(
+                reader.execute("pragma pagelog_origin").fetchone(), (keeping.place().of,)
+            )
         enter(keeping.addresses, 5, 20, old() / "c")
 
 
@@ -252,7 +289,10 @@ class Trailed(Beside):
     def lists(self) -> list[tuple[int, str | None, str | None]]:
         """The generation of each list, the run that it says it is of, and why it ended."""
         with Trail(self.keeping.url, "shop", create=True) as trail:
-            return [(one.generation, one.of and one.of.partition("/")[2], one.ended) for one in trail.lists()]
+            return [
+                (one.generation, one.of and one.of.partition("/")[2], one.ended)
+                for one in trail.lists()
+            ]
 
     def test_a_list_is_gone_on_with_in_both_directions(self) -> None:
         keeping = self.keeping
@@ -264,8 +304,14 @@ class Trailed(Beside):
                 before = self.lists()
                 self.begin_again(is_old)
                 self.assertEqual(writer.commit(str(number)), str(number))
-                eventually(lambda: self.lists() == [(1, of, None)], f"the list of {before}")  # noqa: B023
-        eventually(lambda: "4 blocks hardened, 4 of them archived, which fit" in keeping.word("replay", "shop"), "all of its lines")
+                eventually(
+                    lambda: self.lists() == [(1, of, None)], f"the list of {before}"
+                )  # noqa: B023
+        eventually(
+            lambda: "4 blocks hardened, 4 of them archived, which fit"
+            in keeping.word("replay", "shop"),
+            "all of its lines",
+        )
 
 
 if __name__ == "__main__":

@@ -25,7 +25,9 @@ class Movers(Pair):
     def mover(self, *, knows_target: bool = False, **options: object) -> Move:
         """A move from the source to the target, which has the target's operator where it is to know that."""
         archiver = Archiver(self.enterContext(self.source.reader()), self.archive)
-        operator, target = self.enterContext(self.source.operator()), self.enterContext(self.target.primary(alone=True))
+        operator, target = self.enterContext(self.source.operator()), self.enterContext(
+            self.target.primary(alone=True)
+        )
         check = self.enterContext(self.target.reader())
         options |= {"target": self.enterContext(self.target.operator())} if knows_target else {}
         return Move(archiver, operator, target, check, 1, **options)  # type: ignore[arg-type]
@@ -52,7 +54,9 @@ class Moving(Movers):
         ended: list[object] = []
         writer = threading.Thread(target=self.write_until_denied, args=(ended, 0.002))
         writer.start()
-        while not ended:  # where it has committed nothing before the fence, it never is denied as this epoch's primary
+        while (
+            not ended
+        ):  # where it has committed nothing before the fence, it never is denied as this epoch's primary
             time.sleep(0.002)
         done = self.mover().run()
         writer.join(PATIENCE)
@@ -73,13 +77,30 @@ class Moving(Movers):
             with service.primary() as primary:
                 fill(primary, 50)
             done = self.words_move(service, service, to_db=1)
-            self.assertRegex(done, r"^moved 50 blocks, alike in both; the source is fenced in epoch 2, 0 blocks before its end; ")
+            self.assertRegex(
+                done,
+                r"^moved 50 blocks, alike in both; the source is fenced in epoch 2, 0 blocks before its end; ",
+            )
             with service.reader(db=1) as reader, service.reader() as source:
                 self.assertEqual(list(all_blocks(reader, 1, 50)), list(all_blocks(source, 1, 50)))
 
     def words_move(self, source: Service, target: Service, *, to_db: int = 0) -> str:
-        old, new = source.credentials_file(name="old.toml"), target.credentials_file(name="new.toml")
-        process = words("move", "--from", old, "--to", new, "--to-db", to_db, "--table", source.table, "--url", self.url)
+        old, new = source.credentials_file(name="old.toml"), target.credentials_file(
+            name="new.toml"
+        )
+        process = words(
+            "move",
+            "--from",
+            old,
+            "--to",
+            new,
+            "--to-db",
+            to_db,
+            "--table",
+            source.table,
+            "--url",
+            self.url,
+        )
         out, error = process.communicate(timeout=PATIENCE)
         self.assertEqual((process.returncode, error), (0, ""))
         return out
@@ -152,7 +173,9 @@ class Moving(Movers):
         def a_writer_comes(compared: int, told: pagelog.keeping.Progress) -> int:
             hard = check(compared, told)
             with self.source.operator() as operator:
-                writer = pagelog.Primary.take_over(self.source.connection(), pagelog.Credentials.of(2, token(2)), operator)
+                writer = pagelog.Primary.take_over(
+                    self.source.connection(), pagelog.Credentials.of(2, token(2)), operator
+                )
             list(writer.stream([[put(1, b"after the fence")]]))
             writer.close()
             return hard
@@ -184,7 +207,14 @@ class Moving(Movers):
     def write_without_report(self, block: Block) -> None:
         head = pagelog.request.Head(2, bytes.fromhex(token(2)), pagelog.Role.PRIMARY, 0, 1)
         with self.source.connection() as connection:
-            list(connection.exchange([pagelog.request.Request(head, pagelog.request.Write(copy, block)) for copy in (0, 1)]))
+            list(
+                connection.exchange(
+                    [
+                        pagelog.request.Request(head, pagelog.request.Write(copy, block))
+                        for copy in (0, 1)
+                    ]
+                )
+            )
 
     def test_what_the_fence_hardens_is_counted(self) -> None:
         fill(self.primary, 10)
@@ -197,7 +227,9 @@ class Moving(Movers):
     def test_an_end_after_the_fence_is_told(self) -> None:
         """The source's last block is of a partition that the target's table denies."""
         fill(self.primary, 10, empties=False)
-        old, new = self.source.credentials_file(name="old.toml"), self.target.credentials_file(name="new.toml")
+        old, new = self.source.credentials_file(name="old.toml"), self.target.credentials_file(
+            name="new.toml"
+        )
         self.write_without_report(Block.of(11, [Put(7 * 65536, 0, b"hardened by the fence")]))
         with self.target.operator() as operator:
             denies = '[[row]]\nverdict = "deny"\nwho = 2\nop = ["write"]\nfrom = 7\nto = 7\n'
@@ -205,16 +237,23 @@ class Moving(Movers):
         process = words("move", "--from", old, "--to", new, "--table", TABLE, "--url", self.url)
         _, error = process.communicate(timeout=PATIENCE)
         self.assertEqual(process.returncode, 1)
-        self.assertIn("the source was fenced in epoch 2, and the move is not done: run it again", error)
+        self.assertIn(
+            "the source was fenced in epoch 2, and the move is not done: run it again", error
+        )
 
     def test_an_end_amid_the_fence_is_told(self) -> None:
         """Its table is in place, and no reply comes to its failover: nobody may write at the source, and nobody would know why."""
         fill(self.primary, 10)
         move = self.mover(table=TableText.read(TABLE))
         for error in (pagelog.InDoubt("the reply was lost"), KeyboardInterrupt()):
-            with patch.object(move.operator, "failover", side_effect=error), patch("click.echo") as said, self.assertRaises(type(error)):
+            with patch.object(move.operator, "failover", side_effect=error), patch(
+                "click.echo"
+            ) as said, self.assertRaises(type(error)):
                 _run(move, no_progress)
-            self.assertIn("the source may be fenced, and the move is not done: run it again", str(said.call_args))
+            self.assertIn(
+                "the source may be fenced, and the move is not done: run it again",
+                str(said.call_args),
+            )
             with self.assertRaises(pagelog.Denial):
                 fill(self.primary, 1)
         self.assertEqual(_run(move, no_progress).hard, 10)
@@ -222,7 +261,9 @@ class Moving(Movers):
     def test_an_end_amid_an_earlier_fence_is_told(self) -> None:
         fill(self.primary, 10)
         move = self.mover(table=TableText.read(TABLE), source_limit=100)
-        with patch("pagelog.fencing.fence_for_archiver", side_effect=pagelog.InDoubt("the reply was lost")), patch("click.echo") as said:
+        with patch(
+            "pagelog.fencing.fence_for_archiver", side_effect=pagelog.InDoubt("the reply was lost")
+        ), patch("click.echo") as said:
             self.assertRaises(pagelog.InDoubt, _run, move, no_progress)
         self.assertIn("the source may be fenced", str(said.call_args))
 
@@ -245,7 +286,9 @@ class Rooms(Movers):
 
     def test_a_target_without_room_for_the_entries_is_refused_before_the_fence(self) -> None:
         fill(self.primary, 300)
-        with self.assertRaisesRegex(NoRoom, "takes 600 entries and has .*: the source was not fenced"):
+        with self.assertRaisesRegex(
+            NoRoom, "takes 600 entries and has .*: the source was not fenced"
+        ):
             self.mover(limit=600).run()
         with self.target.reader() as reader:
             self.assertEqual((self.reader.status().epoch, reader.status().hard), (1, 0))
@@ -261,7 +304,9 @@ class Rooms(Movers):
         fill(self.primary, 10)
         self.target = self.source
         move = self.mover()
-        move.target = pagelog.Operator.at(self.source.address.replace("127.0.0.1", "localhost"), 1, token(1))
+        move.target = pagelog.Operator.at(
+            self.source.address.replace("127.0.0.1", "localhost"), 1, token(1)
+        )
         self.addCleanup(move.target.close)
         with self.assertRaises(SameDatabase):
             move.run()
@@ -275,12 +320,17 @@ class Rooms(Movers):
         move = self.mover(table=TableText.read(TABLE))
         self.assertEqual(move.run().hard, 50)
         with self.source.operator() as operator:
-            writer = pagelog.Primary.take_over(self.source.connection(), pagelog.Credentials.of(2, token(2)), operator)
+            writer = pagelog.Primary.take_over(
+                self.source.connection(), pagelog.Credentials.of(2, token(2)), operator
+            )
             writer.append(put(1, b"after the fence"))
             with self.assertRaises(pagelog.TableRow):
                 writer.commit()
         self.assertEqual(self.reader.status().hard, 50)
-        self.assertEqual(len(list(self.reader.blocks(1, follow=False))), len(list(self.target.reader().blocks(1, follow=False))))
+        self.assertEqual(
+            len(list(self.reader.blocks(1, follow=False))),
+            len(list(self.target.reader().blocks(1, follow=False))),
+        )
         self.same_logs(50)
 
     def test_the_target_is_in_an_epoch_above_the_source(self) -> None:
@@ -357,7 +407,9 @@ class Rooms(Movers):
                 self.assertGreaterEqual(done.hard, primary.durable)
             self.assertEqual(self.archive.archived, done.hard)
             with Archive(self.url) as archive:
-                self.assertEqual(list(archive.blocks()), list(all_blocks(self.target.reader(), 1, done.hard)))
+                self.assertEqual(
+                    list(archive.blocks()), list(all_blocks(self.target.reader(), 1, done.hard))
+                )
 
 
 if __name__ == "__main__":

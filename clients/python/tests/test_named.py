@@ -42,7 +42,9 @@ class Named(unittest.TestCase):
         self.keepers.name = "shop"
         self.keepers.has_left.return_value = False
         self.keepers.place.side_effect = self.keepers.after.side_effect = lambda *_: self.places[-1]
-        self.keepers.fate.side_effect = lambda place, position, *_: Fate(position, place.generation != self.places[-1].generation)
+        self.keepers.fate.side_effect = lambda place, position, *_: Fate(
+            position, place.generation != self.places[-1].generation
+        )
 
     def begin(self, *, shift: int = 0, kept: int = 0) -> Service:
         """The next generation."""
@@ -51,7 +53,9 @@ class Named(unittest.TestCase):
         for id in range(1, 6):
             text = text.replace(token(id), self.token(id, run).hex())
         service = self.enterContext(Service(table=text))
-        self.places.append(Place(len(self.places) + 1, run, service.address, kept, "", kept, shift, kept, DATABASE))
+        self.places.append(
+            Place(len(self.places) + 1, run, service.address, kept, "", kept, shift, kept, DATABASE)
+        )
         return service
 
     def token(self, id: int, run: str) -> bytes:
@@ -60,7 +64,10 @@ class Named(unittest.TestCase):
     def of_run(self, kind: type[Any], id: int) -> Any:
         """A client of the service of the last generation."""
         place = self.places[-1]
-        made = kind(pagelog.Connection(place.address, timeout=PATIENCE), Credentials(id, self.token(id, place.run)))
+        made = kind(
+            pagelog.Connection(place.address, timeout=PATIENCE),
+            Credentials(id, self.token(id, place.run)),
+        )
         return self.enterContext(made)
 
     def named(self, kind: type[Any], id: int, *options: Any, **more: Any) -> Any:
@@ -91,8 +98,11 @@ class Writers(Named):
         writer.append(put(0, b"1"))
         writer.commit()
         assert writer._primary is not None
-        with patch.object(writer._primary, "harden", side_effect=pagelog.ConnectionLost), patch.object(
-                NamedPrimary, "_first_other", side_effect=[KeyboardInterrupt, pagelog.OutOfMemory]):  # fmt: skip
+        with patch.object(
+            writer._primary, "harden", side_effect=pagelog.ConnectionLost
+        ), patch.object(
+            NamedPrimary, "_first_other", side_effect=[KeyboardInterrupt, pagelog.OutOfMemory]
+        ):
             writer.append(put(0, b"2"))
             # It has the epoch no more, and another process of its principal goes on.
             self.of_run(pagelog.Operator, 1).failover(2)
@@ -125,7 +135,8 @@ class Continued(Named):
         writer, position = self.ended()
         later = replace(self.places[0], generation=7)
         self.keepers.fate.side_effect = lambda place, position, *_: (
-            Fate(position, False) if place == later else Fate(position - 1, True, continues=later))  # fmt: skip
+            Fate(position, False) if place == later else Fate(position - 1, True, continues=later)
+        )
         writer.durable(position)
         self.assertEqual((writer.durable_end, self.texts()), (position, [b"1"]))
 
@@ -143,7 +154,10 @@ class Overtaken(Named):
     def setUp(self) -> None:
         super().setUp()
         self.keepers.fate.side_effect = lambda place, position, *_: (
-            Fate(self.places[place.generation].kept, True) if place.generation < len(self.places) else Fate(position, False))  # fmt: skip
+            Fate(self.places[place.generation].kept, True)
+            if place.generation < len(self.places)
+            else Fate(position, False)
+        )
         self.begin()
         self.overtaken = self.writer()
         for text in (b"1", b"2"):
@@ -194,7 +208,9 @@ class Overtaken(Named):
                 self.come()
             return begun(*arguments)
 
-        self.keepers.block.side_effect = lambda position: hashlib.sha256(self.blocks[position - 1].data).hexdigest()
+        self.keepers.block.side_effect = lambda position: hashlib.sha256(
+            self.blocks[position - 1].data
+        ).hexdigest()
         with self.write_again(meanwhile, 2), patch.object(NamedPrimary, "_begun", overtaken):
             self.overtaken.durable(2)
         self.assertEqual((self.overtaken.durable_end, self.texts()), (2, [b"images"] * 2))
@@ -210,9 +226,13 @@ class Tokens(Named):
         right, gone = self.places[-1], replace(self.places[-1], run="gone")
         for make in (self.writer, self.reader):
             told = iter((gone, right))
-            self.keepers.place.side_effect = self.keepers.after.side_effect = lambda *_: next(told, right)
+            self.keepers.place.side_effect = self.keepers.after.side_effect = lambda *_: next(
+                told, right
+            )
             with make() as client:
-                self.assertEqual(client.commit() if isinstance(client, NamedPrimary) else client.end(), 0)
+                self.assertEqual(
+                    client.commit() if isinstance(client, NamedPrimary) else client.end(), 0
+                )
 
     def test_one_that_has_let_in_is_not_followed_by_a_wrong_token(self) -> None:
         """As long as it takes to see that it has ended."""
@@ -296,8 +316,9 @@ class Readers(Named):
         with self.of_run(pagelog.Primary, 2) as primary:
             for _ in primary.stream([put(0, b"2")] for _ in range(4)):
                 pass
-        self.assertEqual([block.records[0].data for block in reader.blocks(4, follow=False)], [b"2"])
-
+        self.assertEqual(
+            [block.records[0].data for block in reader.blocks(4, follow=False)], [b"2"]
+        )
 
     def test_keepers_that_name_another_run_each_time_are_not_asked_for_ever(self) -> None:
         self.begin()
@@ -330,7 +351,9 @@ class Groups(unittest.TestCase):
     def test_an_interrupt_anywhere_leaves_no_other_waiting(self) -> None:
         at, came = 1, True
         while came:
-            group = Group(Mock(NamedPrimary, pack=lambda commits: [1] * len(commits), durable_end=0))
+            group = Group(
+                Mock(NamedPrimary, pack=lambda commits: [1] * len(commits), durable_end=0)
+            )
             came = interrupted(lambda: group.commit(put(0, b"1")), "group.py", at)
             told = self.told_another(group)
             self.assertEqual((at, len(told)), (at, 1))
@@ -340,7 +363,14 @@ class Groups(unittest.TestCase):
 
     def test_nor_does_one_in_the_middle_of_what_an_interrupt_leaves_to_be_done(self) -> None:
         for first, wanted in ((None, int), (KeyboardInterrupt, Unwritten)):
-            group = Group(Mock(NamedPrimary, pack=lambda commits: [1] * len(commits), durable_end=0, commit=Mock(side_effect=first)))
+            group = Group(
+                Mock(
+                    NamedPrimary,
+                    pack=lambda commits: [1] * len(commits),
+                    durable_end=0,
+                    commit=Mock(side_effect=first),
+                )
+            )
             with patch.object(Group, "_leave", side_effect=KeyboardInterrupt):  # each time
                 self.assertRaises(KeyboardInterrupt, group.commit, put(0, b"1"))
             with patch("pagelog.group._GONE", 0.001):
@@ -366,7 +396,6 @@ class Saying(unittest.TestCase):
         accept_each(listener, serve)
         return f"127.0.0.1:{listener.getsockname()[1]}"
 
-
     def answer(self, words: list[str], said: Callable[[list[str]], bytes]) -> bytes:
         """Of a keeper of version 2: each answer says of which database and run it is."""
         if words[0] == "hello":
@@ -385,21 +414,37 @@ class Unopened(Saying):
     def setUp(self) -> None:
         super().setUp()
         self.served = Served("shop", "run", WIDE_TABLE, b"s" * 16, timeout=PATIENCE)
-        self.served.start(Program(PROGRAM, "127.0.0.1", Path(self.enterContext(tempfile.TemporaryDirectory()))))
+        self.served.start(
+            Program(PROGRAM, "127.0.0.1", Path(self.enterContext(tempfile.TemporaryDirectory())))
+        )
         self.addCleanup(self.served.end)
         self.asked: list[int] = []
         self.own = self.keeper(self.holder)
-        self.primary = NamedPrimary("shop", [self.keeper(self.another), self.own], 2, token(2), (1, token(1)), patience=PATIENCE, timeout=PATIENCE)
+        self.primary = NamedPrimary(
+            "shop",
+            [self.keeper(self.another), self.own],
+            2,
+            token(2),
+            (1, token(1)),
+            patience=PATIENCE,
+            timeout=PATIENCE,
+        )
         self.addCleanup(self.primary.close)
 
     def another(self, words: list[str]) -> bytes:
-        return f"at shop 1 run {self.served.where.address} 0 {self.own} 0 0 0\n".encode() if words[-1] in ("shop", "1") else b""
+        return (
+            f"at shop 1 run {self.served.where.address} 0 {self.own} 0 0 0\n".encode()
+            if words[-1] in ("shop", "1")
+            else b""
+        )
 
     def holder(self, words: list[str]) -> bytes:
         if words[0] == "next":
             self.asked.append(int(words[2]))
             self.next_asked()
-        return self.another(words) if self.served.is_open or words[0] == "next" else b"nowhere shop\n"
+        return (
+            self.another(words) if self.served.is_open or words[0] == "next" else b"nowhere shop\n"
+        )
 
     def next_asked(self) -> None:
         self.served.open()
@@ -416,7 +461,9 @@ class Unopened(Saying):
         self.next_asked = lambda: None if len(self.asked) == 1 else self.served.open()  # type: ignore[method-assign]
         with patch("pagelog.place._HELD", 0.01):
             self.commit()
-        self.assertEqual((self.asked.count(1), set(self.asked)), (1, {1, 2}))  # how often for the next one is a matter of time
+        self.assertEqual(
+            (self.asked.count(1), set(self.asked)), (1, {1, 2})
+        )  # how often for the next one is a matter of time
 
 
 class Left(Saying):
@@ -424,7 +471,9 @@ class Left(Saying):
 
     def started(self, run: str) -> Served:
         served = Served("shop", run, WIDE_TABLE, b"s" * 16, timeout=PATIENCE)
-        served.start(Program(PROGRAM, "127.0.0.1", Path(self.enterContext(tempfile.TemporaryDirectory()))))
+        served.start(
+            Program(PROGRAM, "127.0.0.1", Path(self.enterContext(tempfile.TemporaryDirectory())))
+        )
         self.addCleanup(served.end)
         served.open()
         return served
@@ -449,7 +498,15 @@ class Left(Saying):
             return at(known[0]) if known else b"nowhere shop\n"
 
         own = self.keeper(holder)
-        primary = NamedPrimary("shop", [self.keeper(another), own], 2, token(2), (1, token(1)), patience=PATIENCE, timeout=PATIENCE)
+        primary = NamedPrimary(
+            "shop",
+            [self.keeper(another), own],
+            2,
+            token(2),
+            (1, token(1)),
+            patience=PATIENCE,
+            timeout=PATIENCE,
+        )
         self.addCleanup(primary.close)
         primary.append(put(0, b"1"))
         self.assertEqual(primary.commit(), 1)
@@ -475,17 +532,31 @@ class Words(Saying):
 
     def setUp(self) -> None:
         super().setUp()
-        self.answered = answer = _Line.answer  # where the machine stands still for a second, it is no silence of a keeper
-        self.enterContext(patch.object(_Line, "answer", lambda line, timeout: answer(line, PATIENCE)))
+        self.answered = (
+            answer
+        ) = (
+            _Line.answer
+        )  # where the machine stands still for a second, it is no silence of a keeper
+        self.enterContext(
+            patch.object(_Line, "answer", lambda line, timeout: answer(line, PATIENCE))
+        )
         self.keepers = Keepers("shop", [self.keeper(), self.keeper()], 0.0)
         self.addCleanup(self.keepers.close)
 
     def test_an_interrupt_anywhere_leaves_no_answer_to_the_next_question(self) -> None:
         at_generation = "at shop {} r 127.0.0.1:1 5 127.0.0.1:2 0 0 0\n"
-        answers = {"next": at_generation.format(1), "where": at_generation.format(2), "block": "block shop 1 digest\n"}
+        answers = {
+            "next": at_generation.format(1),
+            "where": at_generation.format(2),
+            "block": "block shop 1 digest\n",
+        }
         self.said = lambda words: answers[words[0]].encode()
-        calls: list[Callable[[], object]] = [lambda: self.keepers.wait_for(1, 0), lambda: self.keepers.wait_for(9, 0), self.keepers.where,
-                                             lambda: self.keepers.block(1)]  # fmt: skip
+        calls: list[Callable[[], object]] = [
+            lambda: self.keepers.wait_for(1, 0),
+            lambda: self.keepers.wait_for(9, 0),
+            self.keepers.where,
+            lambda: self.keepers.block(1),
+        ]
         for number, call in enumerate(calls):
             at = 1
             while interrupted(call, "place.py", at):
@@ -499,7 +570,11 @@ class Words(Saying):
 
         def said(words: list[str]) -> bytes:
             asked.append(words[0])
-            return f"what {words[0]}\n".encode() if words[0] in ("ring", "full") else f"at shop 2 r 127.0.0.1:1 5 {lines} 0 0 0\n".encode()
+            return (
+                f"what {words[0]}\n".encode()
+                if words[0] in ("ring", "full")
+                else f"at shop 2 r 127.0.0.1:1 5 {lines} 0 0 0\n".encode()
+            )
 
         lines = self.keeper(said)
         keepers = Keepers("shop", [lines], PATIENCE)
@@ -519,7 +594,9 @@ class Words(Saying):
             with client, client.makefile("rb") as lines:
                 for line in lines:
                     words = line.decode().split()
-                    told = answers.get(words[0], "") if not any("=" in word for word in words) else ""
+                    told = (
+                        answers.get(words[0], "") if not any("=" in word for word in words) else ""
+                    )
                     client.sendall((told or f"what {words[0]}").encode() + b"\n")
 
         listener = self.enterContext(socket.create_server(("127.0.0.1", 0)))
@@ -528,10 +605,16 @@ class Words(Saying):
 
     def test_what_an_older_keeper_says_is_durable_is_of_its_present_run(self) -> None:
         at = "at shop 1 {} 127.0.0.1:1 5 127.0.0.1:2 0 0 0"
-        for run, answer, told in (("r", "durable shop 1 7", Fate(7, False)), ("another", "durable shop 1 7", None), ("r", "over shop 1 7", None)):
+        for run, answer, told in (
+            ("r", "durable shop 1 7", Fate(7, False)),
+            ("another", "durable shop 1 7", None),
+            ("r", "over shop 1 7", None),
+        ):
             keepers = Keepers("shop", [self.older(where=at.format(run), durable=answer)], 0.0)
             self.addCleanup(keepers.close)
-            with self.subTest(run=run, answer=answer), patch.object(Keepers, "where", return_value=None):
+            with self.subTest(run=run, answer=answer), patch.object(
+                Keepers, "where", return_value=None
+            ):
                 if told is None:
                     self.assertRaises(pagelog.TimedOut, keepers.fate, of_generation(1), 5)
                 else:
@@ -539,22 +622,34 @@ class Words(Saying):
 
     def test_where_all_keepers_are_older_a_client_is_refused(self) -> None:
         older = self.older(where="at shop 1 r 127.0.0.1:1 5 127.0.0.1:2 0 0 0")
-        for others, error in (([], OlderKeepers), (["127.0.0.1:1"], pagelog.TimedOut)):  # one that is away may be a newer one
+        for others, error in (
+            ([], OlderKeepers),
+            (["127.0.0.1:1"], pagelog.TimedOut),
+        ):  # one that is away may be a newer one
             keepers = Keepers("shop", [older, *others], 0.0)
             self.addCleanup(keepers.close)
             self.assertRaises(error, keepers.place)
-        keepers = Keepers("shop", [older, self.keeper(lambda _: b"at shop 1 r 127.0.0.1:1 4 127.0.0.1:2 0 0 0\n")], PATIENCE)
+        keepers = Keepers(
+            "shop",
+            [older, self.keeper(lambda _: b"at shop 1 r 127.0.0.1:1 4 127.0.0.1:2 0 0 0\n")],
+            PATIENCE,
+        )
         self.addCleanup(keepers.close)
         self.assertEqual(keepers.place().database, DATABASE)
 
     def test_who_knows_most_of_the_newest_generation_is_believed(self) -> None:
         """The place of one that has not looked for a while may be of a service that was ended since."""
-        answers = [b"at shop %d r 127.0.0.1:%d %d 127.0.0.1:2 0 0 0\n" % of for of in ((2, 11, 5), (2, 12, 9), (2, 13, 7), (1, 14, 99))]
+        answers = [
+            b"at shop %d r 127.0.0.1:%d %d 127.0.0.1:2 0 0 0\n" % of
+            for of in ((2, 11, 5), (2, 12, 9), (2, 13, 7), (1, 14, 99))
+        ]
         for order in itertools.permutations(answers):
             keepers = Keepers("shop", [self.keeper(lambda _, answer=answer: answer) for answer in order], 0.0)  # type: ignore[misc]
             self.addCleanup(keepers.close)
             place = keepers.where()
-            self.assertEqual(place and (place.generation, place.address, place.archived), (2, "127.0.0.1:12", 9))
+            self.assertEqual(
+                place and (place.generation, place.address, place.archived), (2, "127.0.0.1:12", 9)
+            )
 
     def test_a_keeper_whose_machine_is_gone_is_asked_now_and_then(self) -> None:
         """To connect to it takes a second. It is asked at once where no other is left."""
@@ -566,7 +661,11 @@ class Words(Saying):
                 raise TimeoutError("timed out")
             return dial(host, port, timeout)
 
-        self.said = lambda words: b"at shop 1 r 127.0.0.1:1 5 127.0.0.1:2 0 0 0\n" if words[0] == "where" else b"nowhere shop\n"
+        self.said = (
+            lambda words: b"at shop 1 r 127.0.0.1:1 5 127.0.0.1:2 0 0 0\n"
+            if words[0] == "where"
+            else b"nowhere shop\n"
+        )
         clock = Mock(return_value=0.0)
         with patch("pagelog.place.dial", connect), patch("pagelog.place.time.monotonic", clock):
             for _ in range(3):
@@ -601,7 +700,11 @@ class Words(Saying):
                 raise TimeoutError("no whole answer came")
             return answer(line, timeout)
 
-        self.said = lambda words: b"at shop 1 r 127.0.0.1:1 5 127.0.0.1:2 0 0 0\n" if words[0] == "where" else b"nowhere shop\n"
+        self.said = (
+            lambda words: b"at shop 1 r 127.0.0.1:1 5 127.0.0.1:2 0 0 0\n"
+            if words[0] == "where"
+            else b"nowhere shop\n"
+        )
         with patch.object(_Line, "answer", answered):
             self.assertRaises(pagelog.TimedOut, self.keepers.fate, of_generation(1), 9)
             self.assertEqual((len(asked), self.keepers._left_out), (1, {}))
@@ -613,20 +716,36 @@ class Words(Saying):
             self.assertIsNotNone(self.keepers.where())
 
     def test_words_that_are_none_are_no_answer(self) -> None:
-        for answer in ("at shop x r 127.0.0.1:1 5 127.0.0.1:2 0 0 0", "at shop 1 r nowhere 5 127.0.0.1:2 0 0 0", "at shop 1 r 127.0.0.1:1",
-                       "standby shop 127.0.0.1:1 r 5 x 0", "standby shop - - 5 0 0", "durable shop 1 x", "over", "", "\xff"):  # fmt: skip
+        for answer in (
+            "at shop x r 127.0.0.1:1 5 127.0.0.1:2 0 0 0",
+            "at shop 1 r nowhere 5 127.0.0.1:2 0 0 0",
+            "at shop 1 r 127.0.0.1:1",
+            "standby shop 127.0.0.1:1 r 5 x 0",
+            "standby shop - - 5 0 0",
+            "durable shop 1 x",
+            "over",
+            "",
+            "\xff",
+        ):
             self.said = lambda _, answer=answer: answer.encode("latin-1") + b"\n"  # type: ignore[misc]
             with self.subTest(answer):
                 self.assertEqual((self.keepers.where(), self.keepers.standby()), (None, None))
                 self.assertRaises(pagelog.TimedOut, self.keepers.fate, of_generation(1), 5)
 
     def test_a_run_that_continues_under_a_later_number_is_named_with_what_is_archived(self) -> None:
-        lines = self.keeper(lambda words: b"elsewhere shop 1\n" if words[0] == "durable" else f"at shop 7 r 127.0.0.1:1 4 {lines} 0 0 0\n".encode())
+        lines = self.keeper(
+            lambda words: b"elsewhere shop 1\n"
+            if words[0] == "durable"
+            else f"at shop 7 r 127.0.0.1:1 4 {lines} 0 0 0\n".encode()
+        )
         keepers = Keepers("shop", [lines], PATIENCE)
         self.addCleanup(keepers.close)
         fate = keepers.fate(of_generation(1), 5)
         assert fate.continues is not None
-        self.assertEqual((fate.end, fate.is_over, fate.continues.generation, fate.continues.run), (4, True, 7, "r"))
+        self.assertEqual(
+            (fate.end, fate.is_over, fate.continues.generation, fate.continues.run),
+            (4, True, 7, "r"),
+        )
 
     def test_what_became_of_another_generation_is_no_answer(self) -> None:
         self.said = lambda _: b"over shop 1 5\n"
@@ -634,8 +753,15 @@ class Words(Saying):
         self.assertEqual(self.keepers.fate(of_generation(1), 7), Fate(5, True))
 
     def test_how_far_its_holder_has_archived_all_that_it_has(self) -> None:
-        for told, archived in (("durable shop 1 9", 9), ("above shop 1 7", 7), ("above shop 1 4", 5), ("above shop 2 7", None), ("elsewhere shop 1", None),
-                               ("over shop 1 6", 6), ("lost shop 1 superseded by=7", None)):  # fmt: skip
+        for told, archived in (
+            ("durable shop 1 9", 9),
+            ("above shop 1 7", 7),
+            ("above shop 1 4", 5),
+            ("above shop 2 7", None),
+            ("elsewhere shop 1", None),
+            ("over shop 1 6", 6),
+            ("lost shop 1 superseded by=7", None),
+        ):
             asked: list[list[str]] = []
             self.said = lambda words, told=told: (asked.append(words), f"{told}\n".encode())[1]  # type: ignore[misc]
             place = replace(of_generation(1), lines=self.keepers._addresses[0])
@@ -644,16 +770,36 @@ class Words(Saying):
 
     def test_what_became_of_another_run_is_no_answer(self) -> None:
         """Of the same number; by a keeper whose answers say of what they are, or which knows no better."""
-        for told in (f"over shop 1 5 of={DATABASE}/another", f"durable shop 1 9 of={DATABASE}/another", "durable shop 1 9",
-                     f"lost shop 1 dropped of={DATABASE}/another"):  # fmt: skip
-            with patch.object(Words, "answer", lambda _, words, said, told=told: b"hello 2\n" if words[0] == "hello" else f"{told}\n".encode()):
+        for told in (
+            f"over shop 1 5 of={DATABASE}/another",
+            f"durable shop 1 9 of={DATABASE}/another",
+            "durable shop 1 9",
+            f"lost shop 1 dropped of={DATABASE}/another",
+        ):
+            with patch.object(
+                Words,
+                "answer",
+                lambda _, words, said, told=told: b"hello 2\n"
+                if words[0] == "hello"
+                else f"{told}\n".encode(),
+            ):
                 self.assertRaises(pagelog.TimedOut, self.keepers.fate, of_generation(1), 5)
         self.said = lambda _: b"lost shop 1 superseded by=7\n"
-        self.assertEqual(self.keepers.fate(of_generation(1), 5), Fate(0, True, True, "PostgreSQL went back, and has gone on with generation 7 without this run"))
+        self.assertEqual(
+            self.keepers.fate(of_generation(1), 5),
+            Fate(
+                0,
+                True,
+                True,
+                "PostgreSQL went back, and has gone on with generation 7 without this run",
+            ),
+        )
         self.said = lambda _: b"lost shop 1 another by=0\n"
         self.assertRaisesRegex(Dropped, "another database", self.keepers.fate, of_generation(1), 5)
 
-    def test_who_had_a_database_that_nobody_knows_is_told_once_a_keeper_says_what_became_of_it(self) -> None:
+    def test_who_had_a_database_that_nobody_knows_is_told_once_a_keeper_says_what_became_of_it(
+        self,
+    ) -> None:
         """PostgreSQL has to say that, and may take long: till then its place is waited for."""
         answers = {"where": b"unknown shop\n", "durable": b""}
         self.said = lambda words: answers[words[0]]
@@ -678,7 +824,9 @@ class Words(Saying):
             send(line, words, timeout)
             select.select([line], [], [], PATIENCE)
 
-        with patch.object(_Line, "send", sent), patch("pagelog.place.time.monotonic", itertools.count(step=2 * PATIENCE).__next__):
+        with patch.object(_Line, "send", sent), patch(
+            "pagelog.place.time.monotonic", itertools.count(step=2 * PATIENCE).__next__
+        ):
             self.assertIsNotNone(self.keepers.where())
 
     def test_an_answer_that_comes_byte_by_byte(self) -> None:

@@ -8,7 +8,7 @@ from __future__ import annotations
 import hashlib
 import random
 import unittest
-from contextlib import ExitStack
+from contextlib import ExitStack, contextmanager
 from types import SimpleNamespace
 from typing import Any, Iterator, Sequence
 from unittest.mock import patch
@@ -75,8 +75,18 @@ class World:
         generation, service = len(self.services), self.now
         before = self.services[-2].run if generation > 1 else ""
         kept = self.ends.get(before, 0)
-        return Place(generation, service.run, service.run, len(self.archived), "", service.images, 0, kept, DATABASE,
-                     before if self.chance.random() < 0.5 else "")  # fmt: skip
+        return Place(
+            generation,
+            service.run,
+            service.run,
+            len(self.archived),
+            "",
+            service.images,
+            0,
+            kept,
+            DATABASE,
+            before if self.chance.random() < 0.5 else "",
+        )
 
     def at(self, place: Place) -> Service:
         return self.services[place.generation - 1]
@@ -85,7 +95,9 @@ class World:
         """Perhaps something. Raises `ConnectionLost` where the service has died."""
         if self.left and self.chance.random() < self.often:
             self.left -= 1
-            self.chance.choice([self.die, self.succeed, self.come, self.come, self.archive, self.go_back])()
+            self.chance.choice(
+                [self.die, self.succeed, self.come, self.come, self.archive, self.go_back]
+            )()
         if service.is_dead:
             raise ConnectionLost
 
@@ -114,11 +126,15 @@ class World:
         """Another writer."""
         self.now.fail_over(WRITER)
         self.others += 1
-        self.now.log.append(Block.of(len(self.now.log) + 1, [put(5, f"other {self.others}".encode())]))
+        self.now.log.append(
+            Block.of(len(self.now.log) + 1, [put(5, f"other {self.others}".encode())])
+        )
 
     def archive(self, *, all: bool = False) -> None:
         log = self.now.log
-        self.archived = log[: len(log) if all else self.chance.randint(len(self.archived), len(log))]
+        self.archived = log[
+            : len(log) if all else self.chance.randint(len(self.archived), len(log))
+        ]
 
     # The keepers' lines.
 
@@ -144,8 +160,20 @@ class World:
     def keepers(self) -> Any:
         place = lambda *_: self.place()  # noqa: E731
         nothing = lambda *_: None  # noqa: E731
-        return SimpleNamespace(name="shop", patience=60.0, place=place, after=place, fate=self.fate, block=self.block, wait_for=nothing, ring=nothing,
-                               full=nothing, is_of=nothing, close=nothing, has_left=lambda place: self.at(place).is_dead)  # fmt: skip
+        return SimpleNamespace(
+            name="shop",
+            patience=60.0,
+            place=place,
+            after=place,
+            fate=self.fate,
+            block=self.block,
+            wait_for=nothing,
+            ring=nothing,
+            full=nothing,
+            is_of=nothing,
+            close=nothing,
+            has_left=lambda place: self.at(place).is_dead,
+        )
 
 
 class Client:
@@ -173,7 +201,10 @@ class Reader(Client):
     def span(self, lsn: int, *, pulls: int) -> Span:
         self.world.happen(self.service)
         last = min(len(self.service.log), lsn + 16 * pulls - 1)
-        blocks = [Block.of(at, [IMAGES]) if at <= self.service.images else self.service.log[at - 1] for at in range(lsn, last + 1)]
+        blocks = [
+            Block.of(at, [IMAGES]) if at <= self.service.images else self.service.log[at - 1]
+            for at in range(lsn, last + 1)
+        ]
         return Span(lsn, last, tuple(blocks))
 
 
@@ -216,7 +247,10 @@ class Primary(Client):
             self.world.happen(self.service)
             self._see_epoch()
         except OlderEpoch:
-            while blocks[self.durable + 1 - blocks[0].lsn :] and blocks[self.durable + 1 - blocks[0].lsn] in self.service.log:
+            while (
+                blocks[self.durable + 1 - blocks[0].lsn :]
+                and blocks[self.durable + 1 - blocks[0].lsn] in self.service.log
+            ):
                 self.durable += 1
             if self.durable < blocks[-1].lsn:
                 raise
@@ -247,19 +281,53 @@ class Told:
         self.positions.clear()
 
 
+@contextmanager
+def writer_of(world: World) -> Iterator[NamedPrimary]:
+    """A writer of this world."""
+    with ExitStack() as stack:
+        for kind in (Reader, Operator, Primary):
+            stack.enter_context(patch(f"pagelog.named.{kind.__name__}", kind))
+        writer = NamedPrimary("shop", ["127.0.0.1:1"], WRITER, token(2), (1, token(1)))
+        writer.keepers = world.keepers()
+        stack.enter_context(
+            patch.object(
+                writer,
+                "_connection",
+                lambda place, *_: SimpleNamespace(
+                    world=world, service=world.at(place), when_sent=None
+                ),
+            )
+        )
+        yield writer
+
+
 class Orders(unittest.TestCase):
     def play(self, seed: int) -> tuple[World, Told]:
         world, told = World(seed), Told()
-        with ExitStack() as stack:
-            for kind in (Reader, Operator, Primary):
-                stack.enter_context(patch(f"pagelog.named.{kind.__name__}", kind))
-            writer = NamedPrimary("shop", ["127.0.0.1:1"], WRITER, token(2), (1, token(1)))
-            writer.keepers = world.keepers()
-            stack.enter_context(patch.object(
-                writer, "_connection", lambda place, *_: SimpleNamespace(world=world, service=world.at(place), when_sent=None)))  # fmt: skip
+        with writer_of(world) as writer:
             self.write(world, writer, told)
         world.archive(all=True)
         return world, told
+
+    def test_no_commit_is_begun_in_a_generation_that_is_known_to_be_over(self) -> None:
+        world = World(0)
+        world.left = 0  # nothing else happens
+        with writer_of(world) as writer:
+
+            def over(place: Place, position: int, *_: object) -> Fate:
+                """Meanwhile its keeper hands over, and another writer goes on in the next generation."""
+                writer.keepers.fate = world.fate  # type: ignore[method-assign]
+                world.succeed()
+                world.come()
+                return world.fate(place, position)
+
+            writer.append(put(0, b"first"))
+            self.assertEqual(writer.commit(), 1)
+            world.come()  # behind it
+            writer._leave()
+            writer.keepers.fate = over  # type: ignore[method-assign]
+            writer.append(put(0, b"second"))
+            self.assertEqual(writer.commit(), 4)
 
     def write(self, world: World, writer: NamedPrimary, told: Told) -> None:
         for number in range(world.chance.randint(2, 8)):
@@ -297,8 +365,16 @@ class Orders(unittest.TestCase):
             texts = {block.lsn: b"".join(record.data for record in block.records) for block in world.archived}  # type: ignore[union-attr]
             mine = [text for text in texts.values() if text.startswith(b"mine")]
             self.assertEqual(len(mine), len(set(mine)), f"seed {seed}: a commit is there twice")
-            self.assertEqual({position: texts.get(position) for position in told.durable}, told.durable, f"seed {seed}: not durable")
-            self.assertEqual(told.never.intersection(mine), set(), f"seed {seed}: called lost or denied, and there")
+            self.assertEqual(
+                {position: texts.get(position) for position in told.durable},
+                told.durable,
+                f"seed {seed}: not durable",
+            )
+            self.assertEqual(
+                told.never.intersection(mine),
+                set(),
+                f"seed {seed}: called lost or denied, and there",
+            )
             counts[0] += len(told.durable)
             counts[1] += len(told.never)
         self.assertGreater(min(counts), SEEDS / 10)

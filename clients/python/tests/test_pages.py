@@ -33,7 +33,7 @@ from pagelog.desk.words import pagelogctl
 from pagelog.errors import ConnectionLost, Unreachable
 from pagelog.keeper.bases import make_base
 from pagelog.keeper.images import Replay
-from pagelog.keeper.referee import Doubt, Referee, digest
+from pagelog.keeper.referee import BrokenArchive, Doubt, Referee, digest
 from pagelog.keeper.rows import PagesRow
 from pagelog.keeper.table import token_of
 from pagelog.pages import following
@@ -63,7 +63,12 @@ def some_block(lsn: int, random: random.Random) -> Block:
         else:
             offset = random.randrange(8000)
             records.append(Put(page, offset, random.randbytes(random.randint(1, 192))))
-    return Block.of(lsn, records[:3] if sum(len(getattr(each, "data", b"")) for each in records) > 30000 else records)
+    return Block.of(
+        lsn,
+        records[:3]
+        if sum(len(getattr(each, "data", b"")) for each in records) > 30000
+        else records,
+    )
 
 
 class Log:
@@ -80,23 +85,31 @@ class Log:
     def page_at(self, page: int, position: int) -> bytes:
         replay = Replay(lambda _: None)
         replay.apply(self.blocks[:position])
-        return {number: data for image in replay.images() for number, data in image.pages()}.get(page, bytes(8192))
+        return {number: data for image in replay.images() for number, data in image.pages()}.get(
+            page, bytes(8192)
+        )
 
 
 class Paged(unittest.TestCase):
     def setUp(self) -> None:
         self.folder = Path(self.enterContext(tempfile.TemporaryDirectory(prefix="pagelog-pages-")))
         self.running: list[PagesProcess] = []
-        self.addCleanup(lambda: [each.kill() for each in self.running if each._process.poll() is None])
+        self.addCleanup(
+            lambda: [each.kill() for each in self.running if each._process.poll() is None]
+        )
 
-    def start(self, *options: str, table: str = TABLE.read_text(), folder: str = "store") -> PagesProcess:
+    def start(
+        self, *options: str, table: str = TABLE.read_text(), folder: str = "store"
+    ) -> PagesProcess:
         made = pages_program.started(self.folder / folder, *options)
         self.running.append(made)
         made.set_table(table)
         return made
 
     def reader(self, address: str) -> Reader:
-        return self.enterContext(closing(Reader(Connection(address, timeout=PATIENCE), Credentials.of(3, token(3)))))
+        return self.enterContext(
+            closing(Reader(Connection(address, timeout=PATIENCE), Credentials.of(3, token(3))))
+        )
 
     def feed(self, pages: PagesProcess, log: Log, upto: int) -> None:
         """The blocks behind those that it has, in pieces, confirmed at the end of each."""
@@ -119,10 +132,16 @@ class Pages(Paged):
                 reader = self.reader(pages.address)
                 for _ in range(40):
                     page, position = log.random.choice((*PAGES, 4)), log.random.randint(0, upto)
-                    self.assertEqual(reader.page(page, position), truth.page(page, position), (page, position, upto))
+                    self.assertEqual(
+                        reader.page(page, position),
+                        truth.page(page, position),
+                        (page, position, upto),
+                    )
                     newer = reader.page(page, position, exact=False)
                     self.assertEqual((newer.at, newer.data), (upto, truth.page(page, upto).data))
-                self.assertEqual([each.data for each in reader.blocks(1, follow=False)], log.blocks[:upto])
+                self.assertEqual(
+                    [each.data for each in reader.blocks(1, follow=False)], log.blocks[:upto]
+                )
                 if log.random.random() < 0.5:
                     pages.flush()
                 pages.kill()
@@ -159,8 +178,13 @@ class Pages(Paged):
         replay.apply(log.blocks[:100])
         images = [each for image in replay.images() for each in image.pages()]
         aborted = self.start()
-        for first in range(0, 2048, 256):  # of a base that never was whole: so many that they are written
-            aborted._tell(b"images 7 256\n", *(struct.pack(">I", n) + bytes([1]) * 8192 for n in range(first, first + 256)))
+        for first in range(
+            0, 2048, 256
+        ):  # of a base that never was whole: so many that they are written
+            aborted._tell(
+                b"images 7 256\n",
+                *(struct.pack(">I", n) + bytes([1]) * 8192 for n in range(first, first + 256)),
+            )
         aborted.flush()
         aborted.kill()
         pages = self.start()
@@ -169,7 +193,9 @@ class Pages(Paged):
         reader = self.reader(pages.address)
         for page in (*PAGES, 4):
             for position in (100, 101, 150, 300):
-                self.assertEqual(reader.page(page, position).data, log.page_at(page, position), (page, position))
+                self.assertEqual(
+                    reader.page(page, position).data, log.page_at(page, position), (page, position)
+                )
         pages.forget(200)
         with self.assertRaises(Exception) as denied:
             reader.page(0, 199)
@@ -191,10 +217,15 @@ class Pages(Paged):
         reader = self.reader(pages.address)
         for page in PAGES:
             for position in (150, 151, 170, 222, 300):
-                self.assertEqual(reader.page(page, position).data, log.page_at(page, position), (page, position))
+                self.assertEqual(
+                    reader.page(page, position).data, log.page_at(page, position), (page, position)
+                )
 
     def test_a_position_is_told_once_it_can_be_read(self) -> None:
-        blocks = [Block.of(n, [Put(0, 0, b"%08d" % n), Put(n % 50 + 1, 0, bytes(8000))]).data for n in range(1, 2001)]
+        blocks = [
+            Block.of(n, [Put(0, 0, b"%08d" % n), Put(n % 50 + 1, 0, bytes(8000))]).data
+            for n in range(1, 2001)
+        ]
         pages, done, wrong, asked = self.start(), threading.Event(), [], []
 
         def read(reader: Reader) -> None:
@@ -204,7 +235,9 @@ class Pages(Paged):
                 if found.at and found.data[:8] != b"%08d" % found.at:
                     wrong.append((found.at, found.data[:8]))
 
-        threads = [threading.Thread(target=read, args=(self.reader(pages.address),)) for _ in range(3)]
+        threads = [
+            threading.Thread(target=read, args=(self.reader(pages.address),)) for _ in range(3)
+        ]
         for thread in threads:
             thread.start()
         chain = b""
@@ -226,7 +259,9 @@ class Pages(Paged):
         thread = threading.Thread(target=lambda: found.append(reader.page(1, 15).data))
         thread.start()
         other = self.reader(pages.address)
-        self.assertEqual(other.page(1, 10).data, log.page_at(1, 10))  # by the same thread, which one that waits does not hold up
+        self.assertEqual(
+            other.page(1, 10).data, log.page_at(1, 10)
+        )  # by the same thread, which one that waits does not hold up
         pages.add(log.blocks[10:15], log.chains[15])
         thread.join(PATIENCE)
         self.assertEqual(found, [log.page_at(1, 15)])
@@ -238,13 +273,18 @@ class Pages(Paged):
 
     def test_requests_are_refused_as_by_the_service(self) -> None:
         log = Log(30, 7)
-        table = TABLE.read_text() + '\n[[row]]\nverdict = "allow"\nwho = 5\nrole = "secondary"\nop = ["get", "pull"]\nthrough = 12\n'
+        table = (
+            TABLE.read_text()
+            + '\n[[row]]\nverdict = "allow"\nwho = 5\nrole = "secondary"\nop = ["get", "pull"]\nthrough = 12\n'
+        )
         with Service(table=table) as served:
             with closing(served.primary()) as primary:
                 list(primary.harden(log.made))
             pages = self.start(table=table, *("--wait", "1"))
             self.feed(pages, log, 30)
-            with closing(socket.create_connection(self.split(served.address))) as one, closing(socket.create_connection(self.split(pages.address))) as two:
+            with closing(socket.create_connection(self.split(served.address))) as one, closing(
+                socket.create_connection(self.split(pages.address))
+            ) as two:
                 for n in range(3000):
                     body = self.some_request(log.random)
                     replies = [self.asked(each, body) for each in (one, two)]
@@ -261,16 +301,39 @@ class Pages(Paged):
         who = random.choice((3, 3, 4, 5, 1, 9))
         secret = bytes.fromhex(token(who if random.random() < 0.95 else 7))
         op = random.choice((4, 4, 5, 7))
-        body = struct.pack(">I16sBIIB", who, secret, random.choice((2, 2, 3)), 0, random.choice((1, 1, 1, 1, 0, 2)), op)
+        body = struct.pack(
+            ">I16sBIIB",
+            who,
+            secret,
+            random.choice((2, 2, 3)),
+            0,
+            random.choice((1, 1, 1, 1, 0, 2)),
+            op,
+        )
         partitions = sorted((random.choice((0, 1, 7, 65535)), random.choice((0, 1, 7, 65535))))
         if op == 4:
             page = random.choice((0, 1, 65536, 7 * 65536, 2**32 - 1))
-            body += struct.pack(">IQB", page, random.choice((0, 1, 12, 13, 30, 31, 2**48, 2**48 + 1)), random.choice((1, 1, 2)))
+            body += struct.pack(
+                ">IQB",
+                page,
+                random.choice((0, 1, 12, 13, 30, 31, 2**48, 2**48 + 1)),
+                random.choice((1, 1, 2)),
+            )
         if op == 5:
-            body += struct.pack(">HHQH", *random.choice((partitions, partitions[::-1])), random.choice((0, 1, 12, 13, 30, 31, 2**48 + 1)),
-                                random.choice((0, 1, 16, 17)))  # fmt: skip
+            body += struct.pack(
+                ">HHQH",
+                *random.choice((partitions, partitions[::-1])),
+                random.choice((0, 1, 12, 13, 30, 31, 2**48 + 1)),
+                random.choice((0, 1, 16, 17)),
+            )
         cut = random.random()
-        return body[: random.randint(0, len(body))] if cut < 0.05 else body + b"x" if cut < 0.1 else body
+        return (
+            body[: random.randint(0, len(body))]
+            if cut < 0.05
+            else body + b"x"
+            if cut < 0.1
+            else body
+        )
 
     @staticmethod
     def asked(line: socket.socket, body: bytes) -> bytes:
@@ -278,7 +341,9 @@ class Pages(Paged):
         found = b""
         while len(found) < 4 or len(found) < 4 + int.from_bytes(found[:4], "big"):
             found += line.recv(65536) or exit("it ended")
-        return found[:9] + found[13:21] if found[4] == 4 else found  # of a status: without its primary, and where blocks came from
+        return (
+            found[:9] + found[13:21] if found[4] == 4 else found
+        )  # of a status: without its primary, and where blocks came from
 
     def test_nobody_is_answered_without_a_table_and_connections_are_bounded(self) -> None:
         log = Log(5, 8)
@@ -318,7 +383,9 @@ class Served(unittest.TestCase):
     def setUp(self) -> None:
         self.keeping = self.enterContext(self.new_keeping())
         self.keeping.referee.prepare()
-        self.assertTrue(self.keeping.referee.create("shop", self.keeping.table.read_text(), b"s" * 16))
+        self.assertTrue(
+            self.keeping.referee.create("shop", self.keeping.table.read_text(), b"s" * 16)
+        )
         self.keeping.start("a")
         self.said: list[str] = []
 
@@ -331,8 +398,19 @@ class Served(unittest.TestCase):
         return self.keeping.folder / "stores"
 
     def servers(self) -> PageServers:
-        settings = Settings(pages_program.program(), self.folder, "127.0.0.1", "here", ("--cache", "8", "--memtable", "1"))
-        self.made = made = PageServers(settings, lambda me: Referee(self.keeping.url, me), ["shop"], lambda name, said: self.said.append(f"{name}: {said}"))
+        settings = Settings(
+            pages_program.program(),
+            self.folder,
+            "127.0.0.1",
+            "here",
+            ("--cache", "8", "--memtable", "1"),
+        )
+        self.made = made = PageServers(
+            settings,
+            lambda me: Referee(self.keeping.url, me),
+            ["shop"],
+            lambda name, said: self.said.append(f"{name}: {said}"),
+        )
         thread = threading.Thread(target=made.run)
         thread.start()
 
@@ -345,11 +423,16 @@ class Served(unittest.TestCase):
 
     def entries(self) -> list[tuple[str, str, int]]:
         with psycopg.connect(self.keeping.url, autocommit=True) as session:
-            return session.execute("SELECT run, address, position FROM pagelog_pages WHERE log = %s ORDER BY beat DESC", (self.keeping.row().id,)).fetchall()
+            return session.execute(
+                "SELECT run, address, position FROM pagelog_pages WHERE log = %s ORDER BY beat DESC",
+                (self.keeping.row().id,),
+            ).fetchall()
 
     def reader(self, run: str, address: str) -> Reader:
         credentials = Credentials(3, token_of(bytes.fromhex(token(3)), "shop", run))
-        return self.enterContext(closing(Reader(Connection(address, timeout=PATIENCE), credentials)))
+        return self.enterContext(
+            closing(Reader(Connection(address, timeout=PATIENCE), credentials))
+        )
 
     def follows_to(self, position: int) -> tuple[str, str]:
         def is_there() -> bool:
@@ -370,7 +453,6 @@ class Served(unittest.TestCase):
 
 
 class Kept(Served):
-
     def test_it_follows_over_a_succession_a_kill_and_a_new_table(self) -> None:
         with self.keeping.primary() as primary:
             positions = [self.commit(primary, n) for n in range(10)]
@@ -414,17 +496,24 @@ class Kept(Served):
             row = self.keeping.row()
             base = make_base(self.keeping.referee, row.id, row.archived, row.chain)
             with psycopg.connect(self.keeping.url, autocommit=True) as session:
-                session.execute("DELETE FROM pagelog_block WHERE log = %s AND lsn <= %s", (row.id, base.position))
+                session.execute(
+                    "DELETE FROM pagelog_block WHERE log = %s AND lsn <= %s",
+                    (row.id, base.position),
+                )
             generation = self.keeping.place().generation
             os.kill(self.keeping.pid(), signal.SIGKILL)
             self.assertEqual(self.keeping.place(least=generation + 1).base, base.position)
             positions += [self.commit(primary, n) for n in range(10, 20)]
-        with self.keeping.reader(durable_only=True) as reader, self.keeping.reader(pages="only") as only, self.keeping.reader(pages="never") as never:
+        with self.keeping.reader(durable_only=True) as reader, self.keeping.reader(
+            pages="only"
+        ) as only, self.keeping.reader(pages="never") as never:
             eventually(lambda: only.end() == positions[-1], "all that is durable")
             self.assertEqual(reader.end(), positions[-1])
             for n, position in enumerate(positions):
                 for each in (reader, only):
-                    self.assertEqual(each.page(n % 4, position).data[:8], b"%08d" % n)  # also from before the generation
+                    self.assertEqual(
+                        each.page(n % 4, position).data[:8], b"%08d" % n
+                    )  # also from before the generation
             self.assertEqual([each._copies.asked_of > 0 for each in (reader, only)], [True, True])  # type: ignore[union-attr]
             with self.assertRaises(BelowBase):
                 never.page(0, positions[0])
@@ -443,9 +532,16 @@ class Kept(Served):
             for n in range(12):
                 position = self.commit(primary, n)
         row = self.keeping.row()
-        base = make_base(self.keeping.referee, row.id, position - 2, digest(b"", self.keeping.archive()[: position - 2]))
+        base = make_base(
+            self.keeping.referee,
+            row.id,
+            position - 2,
+            digest(b"", self.keeping.archive()[: position - 2]),
+        )
         with psycopg.connect(self.keeping.url, autocommit=True) as session:
-            session.execute("DELETE FROM pagelog_block WHERE log = %s AND lsn <= %s", (row.id, base.position))
+            session.execute(
+                "DELETE FROM pagelog_block WHERE log = %s AND lsn <= %s", (row.id, base.position)
+            )
         servers = self.servers()
         run, address = self.follows_to(position)
         reader = self.reader(run, address)
@@ -454,12 +550,21 @@ class Kept(Served):
         # PostgreSQL goes back by two blocks, and another history goes on there.
         follower = servers._running[row.identity][0]
         with psycopg.connect(self.keeping.url, autocommit=True) as session:
-            [[chain]] = session.execute("SELECT chain FROM pagelog_base WHERE log = %s", (row.id,)).fetchall()
-            session.execute("UPDATE pagelog_log SET archived = %s, chain = %s WHERE id = %s", (base.position, chain, row.id))
-        eventually(lambda: any("it begins anew" in each for each in self.said), "that it begins anew")
+            [[chain]] = session.execute(
+                "SELECT chain FROM pagelog_base WHERE log = %s", (row.id,)
+            ).fetchall()
+            session.execute(
+                "UPDATE pagelog_log SET archived = %s, chain = %s WHERE id = %s",
+                (base.position, chain, row.id),
+            )
+        eventually(
+            lambda: any("it begins anew" in each for each in self.said), "that it begins anew"
+        )
         eventually(lambda: follower.address not in (None, address), "another one")
         self.assertNotEqual(self.follows_to(base.position)[0], run)
-        self.assertEqual([(each.oldest, each.last) for each in self.asides()], [(base.position, position)])
+        self.assertEqual(
+            [(each.oldest, each.last) for each in self.asides()], [(base.position, position)]
+        )
 
     def test_of_a_database_that_was_dropped_nobody_is_answered(self) -> None:
         with self.keeping.primary() as primary:
@@ -470,11 +575,19 @@ class Kept(Served):
         self.assertEqual(reader.status().hard, position)
         self.keeping.referee.close()
         self.assertTrue(self.keeping.referee.drop("shop"))
-        self.assertTrue(self.keeping.referee.create("shop", self.keeping.table.read_text(), b"t" * 16))
-        eventually(lambda: any("no database shop of this identity" in each for each in self.said), "that it is gone")
+        self.assertTrue(
+            self.keeping.referee.create("shop", self.keeping.table.read_text(), b"t" * 16)
+        )
+        eventually(
+            lambda: any("no database shop of this identity" in each for each in self.said),
+            "that it is gone",
+        )
         with self.assertRaises((ConnectionLost, Unreachable)):
             reader.status()
-        self.assertIn(f"of a database that is gone: store {run} of shop", self.keeping.word("pages", "--folder", self.folder, "--list"))
+        self.assertIn(
+            f"of a database that is gone: store {run} of shop",
+            self.keeping.word("pages", "--folder", self.folder, "--list"),
+        )
 
 
 class Begun(Served):
@@ -537,31 +650,64 @@ class Told(Served):
             self.assertEqual(reader.page(n % 4, last - 201 + n).data[:8], b"%08d" % n)
 
     def test_what_a_keeper_says_is_taken_where_the_blocks_have_that_digest(self) -> None:
-        settings = Settings(pages_program.program(), self.folder, "127.0.0.1", "here", ("--cache", "8", "--memtable", "1"))
+        settings = Settings(
+            pages_program.program(),
+            self.folder,
+            "127.0.0.1",
+            "here",
+            ("--cache", "8", "--memtable", "1"),
+        )
         self.folder.mkdir()
         with self.keeping.primary() as primary, closing(Referee(self.keeping.url)) as referee:
             first = self.commit(primary, 0)
-            follower = Follower(settings, referee, "shop", self.keeping.row().identity, lambda *_: None)
+            follower = Follower(
+                settings, referee, "shop", self.keeping.row().identity, lambda *_: None
+            )
             follower._begin()
             follower._bell.end()
             self.addCleanup(follower._stop)
             second = self.commit(primary, 1)
             process, row = follower._process, self.keeping.row()
             assert process is not None
-            for position, chain, is_taken in ((second, b"x" * 16, False), (first, b"x" * 16, True), (second, row.chain, True)):
+            for position, chain, is_taken in (
+                (second, b"x" * 16, False),
+                (first, b"x" * 16, True),
+                (second, row.chain, True),
+            ):
                 self.assertIs(follower._take(Word(position, chain)), is_taken)
-                self.assertEqual(process.ask().confirmed, second if is_taken and position == second else first)
+                self.assertEqual(
+                    process.ask().confirmed, second if is_taken and position == second else first
+                )
+            with patch.object(referee, "turn_hosts") as turned:  # an older leader may lack it
+                with self.assertRaisesRegex(BrokenArchive, "5 of the archived blocks"):
+                    follower._take(Word(second + 5, b"x" * 16))
+                turned.assert_called_once()
+            self.assertIsNone(referee.descriptor, "another connection comes next")
 
     def test_it_says_where_it_is_while_it_catches_up(self) -> None:
-        settings = Settings(pages_program.program(), self.folder, "127.0.0.1", "here", ("--cache", "8", "--memtable", "1"))
+        settings = Settings(
+            pages_program.program(),
+            self.folder,
+            "127.0.0.1",
+            "here",
+            ("--cache", "8", "--memtable", "1"),
+        )
         self.folder.mkdir()
         with self.keeping.primary() as primary:
             for n in range(10):
                 self.commit(primary, n)
         blocks = self.keeping.archive()
-        one_by_one = patch.object(Referee, "blocks", lambda _, log, first, last: ([block] for block in blocks[first - 1 : last]))
-        with one_by_one, patch("pagelog.pages.following._LOOK", 0.0), closing(Referee(self.keeping.url)) as referee:
-            follower = Follower(settings, referee, "shop", self.keeping.row().identity, lambda *_: None)
+        one_by_one = patch.object(
+            Referee,
+            "blocks",
+            lambda _, log, first, last: ([block] for block in blocks[first - 1 : last]),
+        )
+        with one_by_one, patch("pagelog.pages.following._LOOK", 0.0), closing(
+            Referee(self.keeping.url)
+        ) as referee:
+            follower = Follower(
+                settings, referee, "shop", self.keeping.row().identity, lambda *_: None
+            )
             self.addCleanup(follower._stop)
             follower._begin()
             follower._bell.end()
@@ -579,14 +725,19 @@ class Told(Served):
             asked("hello 2")
             chain = self.keeping.row().chain.hex()
             run = f"{of}/{self.keeping.place().run}"
-            self.assertEqual(asked(f"confirmed shop {position - 1} {of}"), ["confirmed", "shop", str(position), chain, run])
+            self.assertEqual(
+                asked(f"confirmed shop {position - 1} {of}"),
+                ["confirmed", "shop", str(position), chain, run],
+            )
             began = time.monotonic()
             line.write(f"confirmed shop {position} {of}\n")
             line.flush()
             with self.keeping.line() as beside:  # another page server's question answers nobody
                 beside.write(f"hello 2\nconfirmed shop {position} {of}\n")
                 beside.flush()
-                self.assertEqual(line.readline().split(), ["confirmed", "shop", str(position), chain, run])
+                self.assertEqual(
+                    line.readline().split(), ["confirmed", "shop", str(position), chain, run]
+                )
                 self.assertGreater(time.monotonic() - began, 0.9)
             other = f"of={'0' * 8}-{'0' * 4}-4{'0' * 3}-8{'0' * 3}-{'0' * 12}"
             self.assertEqual(asked(f"confirmed shop 0 {other}"), ["elsewhere", "shop", "0", other])
@@ -594,7 +745,9 @@ class Told(Served):
             line.write(f"confirmed shop {position} {of}\nconfirmed shop {position} {of}\n")
             line.flush()
             began = time.monotonic()
-            self.assertEqual(line.readline().split()[:3], ["confirmed", "shop", str(position)])  # the first, as there is a second
+            self.assertEqual(
+                line.readline().split()[:3], ["confirmed", "shop", str(position)]
+            )  # the first, as there is a second
             self.assertLess(time.monotonic() - began, 0.9)
             after = self.commit(primary, 1)
             self.assertEqual(line.readline().split()[:3], ["confirmed", "shop", str(after)])
@@ -604,9 +757,29 @@ class Apart(Served):
     """One of two page servers is a process of its own, on another machine."""
 
     def apart(self) -> subprocess.Popen[str]:
-        words = [sys.executable, "-m", "pagelog", "pages", "shop", "--folder", self.keeping.folder / "apart", "--program", pages_program.program(),
-                 "--machine", "there", "--cache", "8", "--credentials", self.keeping.file]  # fmt: skip
-        process = subprocess.Popen(list(map(str, words)), stderr=subprocess.DEVNULL, text=True, env=self.keeping.environment)
+        words = [
+            sys.executable,
+            "-m",
+            "pagelog",
+            "pages",
+            "shop",
+            "--folder",
+            self.keeping.folder / "apart",
+            "--program",
+            pages_program.program(),
+            "--machine",
+            "there",
+            "--cache",
+            "8",
+            "--credentials",
+            self.keeping.file,
+        ]
+        process = subprocess.Popen(
+            list(map(str, words)),
+            stderr=subprocess.DEVNULL,
+            text=True,
+            env=self.keeping.environment,
+        )
 
         def ended() -> None:
             process.kill()
@@ -621,14 +794,22 @@ class Apart(Served):
 
         def is_there() -> bool:
             look = self.keeping.referee.everything()
-            found[:] = [each for row in look.rows if row.name == "shop" for each in look.pages_of(row.id) if each.machine == machine and each.table_number]
+            found[:] = [
+                each
+                for row in look.rows
+                if row.name == "shop"
+                for each in look.pages_of(row.id)
+                if each.machine == machine and each.table_number
+            ]
             return bool(found)
 
         eventually(is_there, f"a page server at {machine}")
         return found[0]
 
     def run_word(self, *words: object) -> tuple[int, str]:
-        done = CliRunner().invoke(pagelogctl, [*map(str, words), "--credentials", str(self.keeping.file)])
+        done = CliRunner().invoke(
+            pagelogctl, [*map(str, words), "--credentials", str(self.keeping.file)]
+        )
         return done.exit_code, done.output
 
 
@@ -659,7 +840,9 @@ class Tables(Apart):
     def is_denied(self, pages: PagesRow, used: str) -> bool:
         credentials = Credentials(3, token_of(bytes.fromhex(used), "shop", pages.run))
         try:
-            with closing(Reader(Connection(pages.address, timeout=PATIENCE), credentials)) as reader:
+            with closing(
+                Reader(Connection(pages.address, timeout=PATIENCE), credentials)
+            ) as reader:
                 reader.status()
             return False
         except UnknownPrincipal:
@@ -678,9 +861,14 @@ class Tables(Apart):
         process.send_signal(signal.SIGSTOP)  # its program goes on answering
         status, said = self.renewed(*tokens[1:3])
         self.assertEqual(status, 3)
-        self.assertIn("table 3 of shop is in force, but at 1 of its page servers:\n"
-                      f"page server {there.run} at there does not answer", said)  # fmt: skip
-        self.assertEqual([self.is_denied(pages, tokens[1]) for pages in (here, there)], [True, False])
+        self.assertIn(
+            "table 3 of shop is in force, but at 1 of its page servers:\n"
+            f"page server {there.run} at there does not answer",
+            said,
+        )
+        self.assertEqual(
+            [self.is_denied(pages, tokens[1]) for pages in (here, there)], [True, False]
+        )
         process.send_signal(signal.SIGCONT)
         self.assertEqual(self.run_word("table", "shop"), (0, "table 3 of shop is in force\n"))
         self.assertTrue(self.is_denied(there, tokens[1]))
@@ -688,14 +876,22 @@ class Tables(Apart):
         process.wait()
         self.assertEqual(self.renewed(*tokens[2:4])[0], 0)  # it has ended in order
         process = self.apart()
-        eventually(lambda: self.at("there").table_number == 4 and not self.at("there").has_ended, "it again")
+        eventually(
+            lambda: self.at("there").table_number == 4 and not self.at("there").has_ended,
+            "it again",
+        )
         process.kill()
         self.assertEqual(self.renewed(*tokens[3:5])[0], 3)
         with psycopg.connect(self.keeping.url, autocommit=True) as session:
-            session.execute("UPDATE pagelog_pages SET seen = seen - interval '1 minute' WHERE run = %s", (there.run,))
+            session.execute(
+                "UPDATE pagelog_pages SET seen = seen - interval '1 minute' WHERE run = %s",
+                (there.run,),
+            )
         began = time.monotonic()
         self.assertEqual(self.run_word("table", "shop", "--within", 20)[0], 3)
-        self.assertLess(time.monotonic() - began, 2.5)  # one that has been silent for long is not waited for
+        self.assertLess(
+            time.monotonic() - began, 2.5
+        )  # one that has been silent for long is not waited for
         self.assertEqual(self.run_word("forget", there.run, "--yes")[0], 0)
         self.assertEqual(self.run_word("table", "shop"), (0, "table 5 of shop is in force\n"))
 
@@ -708,7 +904,10 @@ class Gone(Apart):
 
     def known(self) -> list[float | None]:
         found = self.keeping.metrics()
-        return [found.get((f"pagelog_keeper_pages{what}", "shop")) for what in ("", "_gone", "_behind", "_aside")]
+        return [
+            found.get((f"pagelog_keeper_pages{what}", "shop"))
+            for what in ("", "_gone", "_behind", "_aside")
+        ]
 
     def test_it_is_shown_until_it_is_forgotten(self) -> None:
         with self.keeping.primary() as primary:
@@ -720,30 +919,48 @@ class Gone(Apart):
             eventually(lambda: self.known() == [2, 0, 0, 0], f"two that live: {self.said}")
             gone = self.at("there").run
             other.terminate()
-            eventually(lambda: self.known() == [1, 0, 0, 0], "one of them, as the other has ended in order")
+            eventually(
+                lambda: self.known() == [1, 0, 0, 0], "one of them, as the other has ended in order"
+            )
             self.assertIn("there ended", self.keeping.word("kept", "--wide"))
             other = self.apart()
             eventually(lambda: self.known() == [2, 0, 0, 0], "both")
             other.kill()
             eventually(lambda: self.known() == [1, 1, 0, 0], "one of them")
-            for words, why in ((("forget", left, "--yes"), "was heard"), (("forget", "nobody"), "there is no keeper nobody, and no page server")):
+            for words, why in (
+                (("forget", left, "--yes"), "was heard"),
+                (("forget", "nobody"), "there is no keeper nobody, and no page server"),
+            ):
                 status, said = self.run_word(*words)
                 self.assertEqual((status, why in said), (1, True), said)
             board, source = Board(), self.enterContext(closing(Source(self.keeping.url)))
             board.take(source.look(), 1.0)
             with psycopg.connect(self.keeping.url, autocommit=True) as session:
-                session.execute("UPDATE pagelog_pages SET seen = seen - interval '1 minute' WHERE log = %s", (self.keeping.row().id,))
+                session.execute(
+                    "UPDATE pagelog_pages SET seen = seen - interval '1 minute' WHERE log = %s",
+                    (self.keeping.row().id,),
+                )
             eventually(lambda: not self.at("here").is_gone, "one that is heard again")
             board.take(source.look(), 2.0)
-            self.assertIn("its page server at there is not heard of", [event.text for _, event in board._events])
-            self.assertEqual(sorted(each["gone"] for each in board._rows["shop"].fields["pages"]), [False, True])
+            self.assertIn(
+                "its page server at there is not heard of",
+                [event.text for _, event in board._events],
+            )
+            self.assertEqual(
+                sorted(each["gone"] for each in board._rows["shop"].fields["pages"]), [False, True]
+            )
             kept = self.keeping.word("kept", "--wide")
             self.assertIn(f"gone: page server {gone} of shop at there, not heard for ", kept)
             self.assertIn(f"here at {position}", kept)
             self.assertIn("there gone", kept)
             facts = json.loads(self.keeping.word("kept", "--json"))["page_servers"]
-            self.assertEqual({each["run"]: each["gone"] for each in facts}, {left: False, gone: True})
-            self.assertIn(f"the entry of page server {gone} of shop", self.keeping.word("forget", gone, "--yes"))
+            self.assertEqual(
+                {each["run"]: each["gone"] for each in facts}, {left: False, gone: True}
+            )
+            self.assertIn(
+                f"the entry of page server {gone} of shop",
+                self.keeping.word("forget", gone, "--yes"),
+            )
             eventually(lambda: self.known() == [1, 0, 0, 0], "that it is forgotten")
             self.apart()  # and it comes back
             eventually(lambda: {each[0] for each in self.entries()} == {left, gone}, "both")
@@ -755,19 +972,30 @@ class WentBack(Served):
     def archived(self, position: int, chain: bytes) -> None:
         """PostgreSQL has positions up to this one alone, all at once."""
         with psycopg.connect(self.keeping.url, autocommit=True) as session:
-            session.execute("UPDATE pagelog_log SET archived = %s, chain = %s WHERE id = %s", (position, chain, self.keeping.row().id))
+            session.execute(
+                "UPDATE pagelog_log SET archived = %s, chain = %s WHERE id = %s",
+                (position, chain, self.keeping.row().id),
+            )
 
     def goes_back(self, chains: list[bytes], position: int) -> None:
         """PostgreSQL goes back to there, and another store is made."""
         before = self.entries()[0][0]
         self.archived(position, chains[position])
-        eventually(lambda: [each for each in self.entries() if each[0] != before and each[2] == position] != [], f"{position}: {self.said}")
+        eventually(
+            lambda: [each for each in self.entries() if each[0] != before and each[2] == position]
+            != [],
+            f"{position}: {self.said}",
+        )
 
     def written(self) -> tuple[list[int], list[bytes]]:
         """Some commits, whose keeper stands still then; and the digests of all blocks up to each."""
         with self.keeping.primary() as primary:
             positions = [self.commit(primary, n) for n in range(12)]
-        chains = list(accumulate(self.keeping.archive(), lambda chain, block: digest(chain, [block]), initial=b""))
+        chains = list(
+            accumulate(
+                self.keeping.archive(), lambda chain, block: digest(chain, [block]), initial=b""
+            )
+        )
         self.keeping.kill("a", signal.SIGSTOP)
         return positions, chains
 
@@ -776,7 +1004,9 @@ class WentBack(Served):
         servers = self.servers()
         found = self.follows_to(position)
         servers.end()
-        eventually(lambda: not any(thread.is_alive() for _, thread in servers._running.values()), "its end")
+        eventually(
+            lambda: not any(thread.is_alive() for _, thread in servers._running.values()), "its end"
+        )
         return found
 
     def test_no_more_are_kept_than_the_bound_and_none_that_is_empty(self) -> None:
@@ -785,7 +1015,9 @@ class WentBack(Served):
         self.follows_to(positions[-1])
         for position in (*positions[8:3:-1], 0):
             self.goes_back(chains, position)
-        self.assertEqual([each.last for each in self.asides()], [positions[6], positions[5], positions[4]])
+        self.assertEqual(
+            [each.last for each in self.asides()], [positions[6], positions[5], positions[4]]
+        )
         self.assertEqual(sum("deleted, as 3 others" in each for each in self.said), 3)
         run = self.entries()[0][0]
         self.archived(positions[-1], chains[-1])  # one that has nothing only follows
@@ -793,7 +1025,9 @@ class WentBack(Served):
         self.assertEqual(len(self.asides()), MOST_ASIDE)
 
     def test_what_is_in_memory_alone_is_set_aside_too(self) -> None:
-        with self.keeping.primary() as primary, patch("pagelog.pages.following._FLUSH", float("inf")):
+        with self.keeping.primary() as primary, patch(
+            "pagelog.pages.following._FLUSH", float("inf")
+        ):
             first = self.commit(primary, 0)
             self.servers()
             self.follows_to(first)
@@ -804,11 +1038,16 @@ class WentBack(Served):
             self.keeping.kill("a", signal.SIGSTOP)
             self.assertEqual(self.persisted(), first)
             self.archived(first, chain)
-            eventually(lambda: [each.last for each in self.asides()] == [positions[-1]], f"what is set aside: {self.said}")
+            eventually(
+                lambda: [each.last for each in self.asides()] == [positions[-1]],
+                f"what is set aside: {self.said}",
+            )
 
     def persisted(self) -> int:
         with psycopg.connect(self.keeping.url, autocommit=True) as session:
-            [[found]] = session.execute("SELECT persisted FROM pagelog_pages WHERE log = %s", (self.keeping.row().id,)).fetchall()
+            [[found]] = session.execute(
+                "SELECT persisted FROM pagelog_pages WHERE log = %s", (self.keeping.row().id,)
+            ).fetchall()
             return int(found)
 
     def test_what_was_cut_off_is_set_aside_the_next_time(self) -> None:
@@ -819,12 +1058,17 @@ class WentBack(Served):
         (folder / f"{store.stem}.oldest").write_text("0\n")
         Store("shop", identity, "1" * 16).save(folder)
         (folder / "aside").mkdir()
-        (folder / f"{store.stem}.oldest").rename(folder / "aside" / f"{store.stem}.oldest")  # and was killed then
+        (folder / f"{store.stem}.oldest").rename(
+            folder / "aside" / f"{store.stem}.oldest"
+        )  # and was killed then
         (folder / Store("shop", identity, "2" * 16).stem).mkdir()
         (folder / "aside" / Store("shop", identity, "3" * 16).stem).mkdir()
         self.servers()
         wanted = [store.stem], [Store("shop", identity, "1" * 16).stem]
-        eventually(lambda: (self.folders(folder / "aside"), self.folders(folder)) == wanted, f"that it alone is set aside: {self.said}")
+        eventually(
+            lambda: (self.folders(folder / "aside"), self.folders(folder)) == wanted,
+            f"that it alone is set aside: {self.said}",
+        )
         self.assertEqual([(each.run, each.last) for each in self.asides()], [(run, positions[-1])])
 
     @staticmethod
@@ -837,7 +1081,9 @@ class WentBack(Served):
         row = self.keeping.row()
         make_base(self.keeping.referee, row.id, positions[5], chains[positions[5]])
         with psycopg.connect(self.keeping.url, autocommit=True) as session:
-            session.execute("DELETE FROM pagelog_block WHERE log = %s AND lsn <= %s", (row.id, positions[5]))
+            session.execute(
+                "DELETE FROM pagelog_block WHERE log = %s AND lsn <= %s", (row.id, positions[5])
+            )
         self.archived(positions[-1], digest(b"", [b"another"]))  # PostgreSQL does not fit itself
         tables: list[int] = []
         set_table = PagesProcess.set_table
@@ -884,7 +1130,10 @@ class Lost(Served):
         self.keeping.kill("a")
         os.kill(pid, signal.SIGKILL)
         with psycopg.connect(self.keeping.url) as session:
-            [[transaction]] = session.execute("SELECT xid::text FROM noted WHERE number > %s AND what = 'batch' ORDER BY number LIMIT 1", (noted,)).fetchall()
+            [[transaction]] = session.execute(
+                "SELECT xid::text FROM noted WHERE number > %s AND what = 'batch' ORDER BY number LIMIT 1",
+                (noted,),
+            ).fetchall()
         self.keeping.referee.close()
         self.server.set_back(transaction, is_behind=False)
         eventually(lambda: len(self.asides()) == 1, f"what is set aside: {self.said}")
@@ -897,22 +1146,49 @@ class Lost(Served):
         said = f"store {old} of shop at here, {aside.path(self.folder)}: positions 0 to {positions[-1]}"
         eventually(lambda: f"set aside: {said}" in self.keeping.word("kept"), "that it is named")
         self.assertIn(said, self.keeping.word("rescue", "shop"))
-        self.assertIn(said, self.keeping.word("pages", "--folder", self.folder, "--machine", "here", "--list"))
+        self.assertIn(
+            said, self.keeping.word("pages", "--folder", self.folder, "--machine", "here", "--list")
+        )
         self.is_read(old, positions, blocks)
 
     def is_read(self, run: str, positions: list[int], blocks: list[bytes]) -> None:
         """All that it has, by the words of docs/PAGES.md."""
-        keys, archive = self.keeping.folder / "saved.toml", f"sqlite:///{self.keeping.folder / 'saved.db'}"
-        words = [sys.executable, "-m", "pagelog", "pages", "--folder", self.folder, "--program", pages_program.program(), "--open", run, "--keys", keys]
-        with subprocess.Popen(list(map(str, words)), stdout=subprocess.PIPE, text=True, env=self.keeping.environment) as opened:
+        keys, archive = (
+            self.keeping.folder / "saved.toml",
+            f"sqlite:///{self.keeping.folder / 'saved.db'}",
+        )
+        words = [
+            sys.executable,
+            "-m",
+            "pagelog",
+            "pages",
+            "--folder",
+            self.folder,
+            "--program",
+            pages_program.program(),
+            "--open",
+            run,
+            "--keys",
+            keys,
+        ]
+        with subprocess.Popen(
+            list(map(str, words)), stdout=subprocess.PIPE, text=True, env=self.keeping.environment
+        ) as opened:
             assert opened.stdout is not None
             self.assertIn(f"positions 0 to {positions[-1]} at ", opened.stdout.readline())
             account = load(str(keys)).account(Role.SECONDARY)
-            with closing(Reader(Connection(account.to, timeout=PATIENCE), account.credentials)) as reader:
+            with closing(
+                Reader(Connection(account.to, timeout=PATIENCE), account.credentials)
+            ) as reader:
                 for n, position in enumerate(positions):
                     self.assertEqual(reader.page(n % 4, position).data[:8], b"%08d" % n)
-            done = CliRunner().invoke(pagelogctl, ["archive", "--credentials", str(keys), "--url", archive, "--log", "saved"])
-            self.assertEqual((done.exit_code, done.output), (0, f"archived {len(blocks)} of {len(blocks)}\n"))
+            done = CliRunner().invoke(
+                pagelogctl,
+                ["archive", "--credentials", str(keys), "--url", archive, "--log", "saved"],
+            )
+            self.assertEqual(
+                (done.exit_code, done.output), (0, f"archived {len(blocks)} of {len(blocks)}\n")
+            )
             opened.terminate()
         with Archive(archive, "saved") as saved:
             self.assertEqual([block.data for block in saved.blocks(1)], blocks)

@@ -62,27 +62,50 @@ class Secure(Paged):
         fresh.chmod(0o600)
         fresh.replace(self.file)
 
-    def secure(self, *options: str, host: str = "127.0.0.1", clients: Path | None = None, listen: str = "-") -> PagesProcess:
+    def secure(
+        self, *options: str, host: str = "127.0.0.1", clients: Path | None = None, listen: str = "-"
+    ) -> PagesProcess:
         serving = Serving(self.file, clients)
-        made = PagesProcess(pages_program.program(), self.folder / "store", listen, *serving.options(host, IDENTITY), "--cache", "8", *options)
+        made = PagesProcess(
+            pages_program.program(),
+            self.folder / "store",
+            listen,
+            *serving.options(host, IDENTITY),
+            "--cache",
+            "8",
+            *options,
+        )
         self.running.append(made)
         made.set_table(TABLE.read_text())
         return made
 
     def by(self, trust: Trust | None, address: str) -> Reader:
-        return self.enterContext(closing(Reader(Connection(address, timeout=PATIENCE, attempts=1, trust=trust), Credentials.of(3, token(3)))))
+        return self.enterContext(
+            closing(
+                Reader(
+                    Connection(address, timeout=PATIENCE, attempts=1, trust=trust),
+                    Credentials.of(3, token(3)),
+                )
+            )
+        )
 
     def dialed(self, address: str, client: Path | None = None) -> ssl.SSLSocket:
         """By Python's `ssl` alone."""
         host, _, port = address.rpartition(":")
         plain = socket.create_connection((host, int(port)), PATIENCE)
-        return self.enterContext(self.certificates.context(client).wrap_socket(plain, server_hostname=host))
+        return self.enterContext(
+            self.certificates.context(client).wrap_socket(plain, server_hostname=host)
+        )
 
     def taken(self, line: socket.socket) -> bytes:
         """The next reply."""
         found = b""
         while len(found) < 4 or len(found) < 4 + int.from_bytes(found[:4], "big"):
-            found += line.recv(4 + int.from_bytes(found[:4], "big") - len(found) if len(found) >= 4 else 4 - len(found)) or self.fail("it ended")
+            found += line.recv(
+                4 + int.from_bytes(found[:4], "big") - len(found)
+                if len(found) >= 4
+                else 4 - len(found)
+            ) or self.fail("it ended")
         return found[4:]
 
 
@@ -94,13 +117,20 @@ class Alone(Secure):
         assert pages.secure is not None
         plain, secure = self.by(None, pages.address), self.by(self.trust, pages.secure.address)
         self.assertFalse(pages.secure.is_only)
-        numbers = [log.random.choice((0, 1, 2, 3, 5, 8)) for _ in range(3000)]  # more than its socket takes at once
+        numbers = [
+            log.random.choice((0, 1, 2, 3, 5, 8)) for _ in range(3000)
+        ]  # more than its socket takes at once
         self.assertEqual(secure.pages(numbers, 60), plain.pages(numbers, 60))
         self.assertEqual(list(secure.blocks(1, follow=False)), list(plain.blocks(1, follow=False)))
         for trust, address in ((None, pages.secure.address), (self.trust, pages.address)):
             with self.assertRaises((ConnectionLost, Unreachable)):
                 self.by(trust, address).status()
-        only = PagesProcess(pages_program.program(), self.folder / "other", "-", *Serving(self.file).options("127.0.0.1", IDENTITY))
+        only = PagesProcess(
+            pages_program.program(),
+            self.folder / "other",
+            "-",
+            *Serving(self.file).options("127.0.0.1", IDENTITY),
+        )
         self.running.append(only)
         assert only.secure is not None
         self.assertEqual((only.secure.is_only, only.secure.address), (True, only.address))
@@ -108,7 +138,9 @@ class Alone(Secure):
     def test_who_is_not_who_he_should_be_is_not_believed(self) -> None:
         pages = self.secure()
         other = Trust(self.certificates.folder / "other-ca.pem")
-        with self.assertRaisesRegex(Unreachable, "unable to get local issuer|self.signed|unable to get issuer"):
+        with self.assertRaisesRegex(
+            Unreachable, "unable to get local issuer|self.signed|unable to get issuer"
+        ):
             self.by(other, pages.address).status()
         pages.kill()
         elsewhere = self.secure(host="127.0.0.2")
@@ -137,7 +169,9 @@ class Alone(Secure):
         log = Log(5, 23)
         pages = self.secure(clients=self.certificates.ca)
         self.feed(pages, log, 5)
-        own, other = self.certificates.client(IDENTITY), self.certificates.client(IDENTITY.replace("1", "9"))
+        own, other = self.certificates.client(IDENTITY), self.certificates.client(
+            IDENTITY.replace("1", "9")
+        )
         server = self.certificates["good"]  # which is for no client
         line = self.dialed(pages.address, own)
         line.sendall(frame_of(5))
@@ -161,7 +195,9 @@ class Alone(Secure):
         with self.assertRaises(ssl.SSLWantReadError):
             half.do_handshake()
         hello = outgoing.read()
-        lines = [self.enterContext(socket.create_connection(self.split(pages.address))) for _ in range(3)]
+        lines = [
+            self.enterContext(socket.create_connection(self.split(pages.address))) for _ in range(3)
+        ]
         for line, bytes_of in zip(lines, (hello[:50], b"GET / HTTP/1.1\r\n\r\n", hello)):
             line.sendall(bytes_of)
         reader = self.by(self.trust, pages.address)
@@ -183,7 +219,9 @@ class Alone(Secure):
         pages = self.secure("--workers", "1", "--wait", "60000")
         self.feed(pages, log, 10)
         line, other = self.dialed(pages.address), self.dialed(pages.address)
-        line.sendall(frame_of(15) + frame_of(10) * 2000)  # the first waits; the others are with OpenSSL and in the socket
+        line.sendall(
+            frame_of(15) + frame_of(10) * 2000
+        )  # the first waits; the others are with OpenSSL and in the socket
         for byte in frame_of(9):  # a record each
             other.sendall(bytes([byte]))
         self.assertEqual(self.taken(other)[9:], log.page_at(1, 9))
@@ -207,14 +245,21 @@ class Told(unittest.TestCase):
     def setUp(self) -> None:
         self.keeping = self.enterContext(Secured(ttl=1.0, standby=False, also=self.also))
         self.keeping.referee.prepare()
-        self.assertTrue(self.keeping.referee.create("shop", self.keeping.table.read_text(), b"s" * 16))
+        self.assertTrue(
+            self.keeping.referee.create("shop", self.keeping.table.read_text(), b"s" * 16)
+        )
         self.keeping.start("a")
         self.trust = Trust(self.keeping.certificates.ca)
         self.said: list[str] = []
 
     @property
     def options(self) -> dict[str, object]:
-        return {"keepers": self.keeping.secure_addresses, "trust": self.trust, "patience": PATIENCE, "timeout": PATIENCE}
+        return {
+            "keepers": self.keeping.secure_addresses,
+            "trust": self.trust,
+            "patience": PATIENCE,
+            "timeout": PATIENCE,
+        }
 
     def committed(self, count: int) -> int:
         from pagelog import Primary
@@ -226,8 +271,21 @@ class Told(unittest.TestCase):
         return position
 
     def servers(self, serving: Serving | None, name: str = "stores") -> PageServers:
-        settings = Settings(pages_program.program(), self.keeping.folder / name, "127.0.0.1", "here", ("--cache", "8", "--memtable", "1"), serving, self.trust)
-        made = PageServers(settings, lambda me: Referee(self.keeping.url, me), ["shop"], lambda name, said: self.said.append(f"{name}: {said}"))
+        settings = Settings(
+            pages_program.program(),
+            self.keeping.folder / name,
+            "127.0.0.1",
+            "here",
+            ("--cache", "8", "--memtable", "1"),
+            serving,
+            self.trust,
+        )
+        made = PageServers(
+            settings,
+            lambda me: Referee(self.keeping.url, me),
+            ["shop"],
+            lambda name, said: self.said.append(f"{name}: {said}"),
+        )
         thread = threading.Thread(target=made.run)
         thread.start()
 
@@ -239,7 +297,14 @@ class Told(unittest.TestCase):
         return made
 
     def known(self, trust: Trust | None) -> list[PageServerPlace]:
-        with closing(Keepers("shop", self.keeping.secure_addresses if trust else self.keeping.addresses, PATIENCE, trust)) as keepers:
+        with closing(
+            Keepers(
+                "shop",
+                self.keeping.secure_addresses if trust else self.keeping.addresses,
+                PATIENCE,
+                trust,
+            )
+        ) as keepers:
             return keepers.page_servers() or []
 
     def reader(self, **options: object) -> Reader:
@@ -250,7 +315,9 @@ class Only(Told):
     def test_a_reader_by_tls_is_led_there_by_tls(self) -> None:
         position = self.committed(10)
         servers = self.servers(Serving(self.keeping.pair, None, True))
-        eventually(lambda: len(self.known(self.trust)) == 1, f"one that is told by TLS: {self.said}")
+        eventually(
+            lambda: len(self.known(self.trust)) == 1, f"one that is told by TLS: {self.said}"
+        )
         [follower] = [each for each, _ in servers._running.values()]
         eventually(lambda: follower._bell.hears, "the keeper, by TLS")
         for options in ({"durable_only": True}, {"pages": "only"}):
@@ -259,22 +326,40 @@ class Only(Told):
             for page, n in ((0, 8), (1, 9), (2, 6), (3, 7)):
                 self.assertEqual(reader.page(page, position).data[:8], b"%08d" % n)
             copies = reader._copies  # type: ignore[attr-defined]
-            eventually(lambda: bool(reader.page(0, position)) and copies.asked_of > 0, "that the page server is asked")
+            eventually(
+                lambda: bool(reader.page(0, position)) and copies.asked_of > 0,
+                "that the page server is asked",
+            )
         [place] = self.known(self.trust)
-        self.assertEqual([each.told(False) for each in self.keeping.referee.everything().pages if each.run == place.run], [None])
+        self.assertEqual(
+            [
+                each.told(False)
+                for each in self.keeping.referee.everything().pages
+                if each.run == place.run
+            ],
+            [None],
+        )
         with self.assertRaises((ConnectionLost, Unreachable, TimedOut)):  # it speaks nothing else
-            Reader(Connection(place.address, timeout=PATIENCE, attempts=1), Credentials.of(3, token(3))).status()
+            Reader(
+                Connection(place.address, timeout=PATIENCE, attempts=1), Credentials.of(3, token(3))
+            ).status()
         self.is_compared(position)
 
     def is_compared(self, position: int) -> None:
         """By `verify --pages`, of which services and page servers are told by TLS alone."""
         words = ["verify", "shop", "--pages", "--json", "--credentials", str(self.keeping.file)]
         done = CliRunner().invoke(pagelogctl, words)
-        self.assertEqual((done.exit_code, "is reached by TLS alone" in done.output), (1, True), done.output)
-        done = CliRunner().invoke(pagelogctl, ["--sslrootcert", str(self.keeping.certificates.ca), *words])
+        self.assertEqual(
+            (done.exit_code, "is reached by TLS alone" in done.output), (1, True), done.output
+        )
+        done = CliRunner().invoke(
+            pagelogctl, ["--sslrootcert", str(self.keeping.certificates.ca), *words]
+        )
         self.assertEqual(done.exit_code, 0, done.output)
-        self.assertEqual({key: json.loads(done.output)[key] for key in ("position", "pages")}, {"position": position, "pages": 4})
-
+        self.assertEqual(
+            {key: json.loads(done.output)[key] for key in ("position", "pages")},
+            {"position": position, "pages": 4},
+        )
 
     def test_sqlite_reads_there_by_tls(self) -> None:
         trust = {"sslrootcert": self.keeping.certificates.ca}
@@ -282,46 +367,95 @@ class Only(Told):
             writer.execute("create table t(n)")
             writer.execute("insert into t values(1)")
         self.servers(Serving(self.keeping.pair, None, True))
-        eventually(lambda: len(self.known(self.trust)) == 1, f"one that is told by TLS: {self.said}")
-        with closing(connected(self.keeping.secure_addresses, id=3, mode="ro", page_servers="only", **trust)) as reader:
-            eventually(lambda: reader.execute("select n from t").fetchall() == [(1,)], "what is durable")
+        eventually(
+            lambda: len(self.known(self.trust)) == 1, f"one that is told by TLS: {self.said}"
+        )
+        with closing(
+            connected(self.keeping.secure_addresses, id=3, mode="ro", page_servers="only", **trust)
+        ) as reader:
+            eventually(
+                lambda: reader.execute("select n from t").fetchall() == [(1,)], "what is durable"
+            )
             self.keeping.kill("a", signal.SIGSTOP)  # nor is its service needed
             self.assertEqual(reader.execute("select count(*) from t").fetchall(), [(1,)])
             self.keeping.kill("a", signal.SIGCONT)
 
     def word(self, *words: object) -> list[str]:
-        found = [sys.executable, "-m", "pagelog", "--sslrootcert", self.keeping.certificates.ca, "pages", "--program", pages_program.program(),
-                 "--folder", self.keeping.folder / "stores", "--credentials", self.keeping.file_of("a"), *words]  # fmt: skip
+        found = [
+            sys.executable,
+            "-m",
+            "pagelog",
+            "--sslrootcert",
+            self.keeping.certificates.ca,
+            "pages",
+            "--program",
+            pages_program.program(),
+            "--folder",
+            self.keeping.folder / "stores",
+            "--credentials",
+            self.keeping.file_of("a"),
+            *words,
+        ]
         return list(map(str, found))
 
     def test_the_word_serves_as_the_keepers_file_says(self) -> None:
         position = self.committed(6)
-        with subprocess.Popen(self.word("shop"), stderr=subprocess.DEVNULL, env=self.keeping.environment) as process:
+        with subprocess.Popen(
+            self.word("shop"), stderr=subprocess.DEVNULL, env=self.keeping.environment
+        ) as process:
             self.addCleanup(process.kill)
-            eventually(lambda: [each.position for each in self.known(self.trust)] == [position], "one that is told by TLS")
+            eventually(
+                lambda: [each.position for each in self.known(self.trust)] == [position],
+                "one that is told by TLS",
+            )
             [place] = self.known(self.trust)
             self.assertEqual(self.reader(pages="only").page(1, position).data[:8], b"%08d" % 5)
             process.terminate()
         keys = self.keeping.folder / "saved.toml"
-        with subprocess.Popen(self.word("--open", place.run, "--keys", keys), stdout=subprocess.PIPE, text=True, env=self.keeping.environment) as opened:
+        with subprocess.Popen(
+            self.word("--open", place.run, "--keys", keys),
+            stdout=subprocess.PIPE,
+            text=True,
+            env=self.keeping.environment,
+        ) as opened:
             self.addCleanup(opened.kill)
             assert opened.stdout is not None
             self.assertIn(f"positions 0 to {position} at ", opened.stdout.readline())
             account = load(str(keys)).account(Role.SECONDARY)
-            with closing(Reader(Connection(account.to, timeout=PATIENCE, trust=self.trust), account.credentials)) as reader:
+            with closing(
+                Reader(
+                    Connection(account.to, timeout=PATIENCE, trust=self.trust), account.credentials
+                )
+            ) as reader:
                 self.assertEqual(reader.page(1, position).data[:8], b"%08d" % 5)
             with self.assertRaises((ConnectionLost, Unreachable)):
-                Reader(Connection(account.to, timeout=PATIENCE, attempts=1), account.credentials).status()
+                Reader(
+                    Connection(account.to, timeout=PATIENCE, attempts=1), account.credentials
+                ).status()
             opened.terminate()
 
     def test_what_the_file_says_amiss_is_said(self) -> None:
         file, pair = self.keeping.folder / "wrong.toml", self.keeping.pair
         file.touch(mode=0o600)
-        for section, host, why in ((f'tls = "{pair}"', "127.0.0.9", "is not for 127.0.0.9, which nobody would believe"),
-                                   ("plain = false", "127.0.0.1", "[keeper] has tls_clients or plain without tls"),
-                                   (f'tls = "{pair}"\ntls_clients = "{file}"', "127.0.0.1", "no certificates of authorities")):  # fmt: skip
+        for section, host, why in (
+            (f'tls = "{pair}"', "127.0.0.9", "is not for 127.0.0.9, which nobody would believe"),
+            ("plain = false", "127.0.0.1", "[keeper] has tls_clients or plain without tls"),
+            (
+                f'tls = "{pair}"\ntls_clients = "{file}"',
+                "127.0.0.1",
+                "no certificates of authorities",
+            ),
+        ):
             file.write_text(f'[archive]\nurl = "{self.keeping.url}"\n[keeper]\n{section}\n')
-            words = ["pages", "--folder", str(self.keeping.folder / "none"), "--program", str(pages_program.program()), "--listen", host]
+            words = [
+                "pages",
+                "--folder",
+                str(self.keeping.folder / "none"),
+                "--program",
+                str(pages_program.program()),
+                "--listen",
+                host,
+            ]
             done = CliRunner().invoke(pagelogctl, [*words, "--credentials", str(file)])
             self.assertEqual((done.exit_code, why in done.output), (1, True), done.output)
 
@@ -340,7 +474,10 @@ class Beside(Told):
         self.assertEqual(reader.page(0, position).data[:8], b"%08d" % 4)
         self.assertEqual(reader._copies.asked_of, 0)  # type: ignore[attr-defined]
         self.servers(Serving(self.keeping.pair), "both")
-        eventually(lambda: (len(self.known(None)), len(self.known(self.trust))) == (2, 1), "the other one, which has both")
+        eventually(
+            lambda: (len(self.known(None)), len(self.known(self.trust))) == (2, 1),
+            "the other one, which has both",
+        )
 
     def test_where_a_keeper_names_a_plain_one_nothing_is_said_to_it(self) -> None:
         position, heard = self.committed(5), bytearray()
@@ -362,7 +499,9 @@ class Beside(Told):
             self.assertIsNone(reader._copies.pages([0], position))  # type: ignore[attr-defined]
             self.assertEqual(reader.page(0, position).data[:8], b"%08d" % 4)
         eventually(lambda: bool(heard), "what it heard")
-        self.assertEqual(heard[:1], b"\x16")  # the beginning of a handshake, and nothing of a request
+        self.assertEqual(
+            heard[:1], b"\x16"
+        )  # the beginning of a handshake, and nothing of a request
         self.assertNotIn(reader._account.in_run(place.run).token, heard)  # type: ignore[attr-defined]
 
 

@@ -33,7 +33,9 @@ class Read(Apart):
         return int(connection.execute("pragma pagelog_position").fetchone()[0])
 
     def reading(self, **options: object) -> sqlite3.Connection:
-        return self.enterContext(closing(connected(self.keeping.addresses, id=3, mode="ro", **options)))
+        return self.enterContext(
+            closing(connected(self.keeping.addresses, id=3, mode="ro", **options))
+        )
 
     @staticmethod
     def numbers(connection: sqlite3.Connection) -> list[int]:
@@ -45,7 +47,9 @@ class Read(Apart):
         base = make_base(self.keeping.referee, row.id, row.archived, row.chain).position
         if is_pruned:
             with psycopg.connect(self.keeping.url, autocommit=True) as session:
-                session.execute("DELETE FROM pagelog_block WHERE log = %s AND lsn <= %s", (row.id, base))
+                session.execute(
+                    "DELETE FROM pagelog_block WHERE log = %s AND lsn <= %s", (row.id, base)
+                )
         generation = self.keeping.place().generation
         os.kill(self.keeping.pid(), signal.SIGKILL)
         self.assertEqual(self.keeping.place(least=generation + 1).base, base)
@@ -73,13 +77,18 @@ class Alone(Read):
         eventually(lambda: self.numbers(reader) == [1, 2, 3, 4], "what is durable since")
         self.superseded()
         self.enter(5)
-        eventually(lambda: self.numbers(reader) == [1, 2, 3, 4, 5], "what is durable in the next generation")
+        eventually(
+            lambda: self.numbers(reader) == [1, 2, 3, 4, 5],
+            "what is durable in the next generation",
+        )
         for follower, _ in self.made._running.values():
             assert follower._process is not None
             os.kill(follower._process.pid, signal.SIGKILL)
         self.assertEqual(self.numbers(reader), [1, 2, 3, 4, 5])
         self.enter(6)
-        eventually(lambda: self.numbers(reader) == [1, 2, 3, 4, 5, 6], "what is durable after a death")
+        eventually(
+            lambda: self.numbers(reader) == [1, 2, 3, 4, 5, 6], "what is durable after a death"
+        )
 
     def test_one_that_stands_still_is_left(self) -> None:
         still, position = self.apart(), self.enter(1)
@@ -91,7 +100,6 @@ class Alone(Read):
         still.send_signal(signal.SIGSTOP)  # its program goes on answering
         self.enter(2)
         eventually(lambda: self.numbers(reader) == [1, 2], "what is durable since")
-
 
     def test_of_a_database_that_was_dropped_nothing_is_read(self) -> None:
         position = self.enter(1)
@@ -152,7 +160,9 @@ class Behind(Read):
 class Older(Read):
     def test_what_is_from_before_the_base_is_read_at_a_page_server(self) -> None:
         self.writer.execute("create table far(b)")
-        self.writer.execute("insert into far values(hex(zeroblob(1500000)) || 'end')")  # more than is fetched with the other table
+        self.writer.execute(
+            "insert into far values(hex(zeroblob(1500000)) || 'end')"
+        )  # more than is fetched with the other table
         first = self.enter(1, 2)
         self.both(self.enter(3, 4))
         held = {word: self.reading(page_servers=word) for word in ("older", "never")}
@@ -168,7 +178,9 @@ class Older(Read):
             self.numbers(self.reading(at=first, page_servers="never"))
         with self.assertRaises(sqlite3.OperationalError):
             self.far(held["never"])
-        self.assertEqual(self.far(held["older"]), "end")  # a transaction goes on where its positions are
+        self.assertEqual(
+            self.far(held["older"]), "end"
+        )  # a transaction goes on where its positions are
         self.assertEqual(self.numbers(held["older"]), [1, 2, 3, 4])
         held["older"].execute("commit")
         self.assertEqual(self.numbers(held["older"]), [1, 2, 3, 4, 5, 6])

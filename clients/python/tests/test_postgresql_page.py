@@ -21,6 +21,7 @@ from keepers import Keeping, eventually
 from pagelog import NamedPrimary, Put
 from pagelog.keeper.bases import make_base
 from pagelog.keeper.referee import Referee
+from pagelog.keeper.run import kept_in
 from postgres import Postgres, programs
 from service import PATIENCE, TOP
 from small_disk import SmallDisks
@@ -33,13 +34,24 @@ PAGE = (TOP / "docs" / "POSTGRESQL.md").read_text()
 def commands() -> dict[str, list[str]]:
     """The blocks of commands of each section, in the order of the page."""
     sections = dict(zip(*[iter(re.split(r"^## (.*)$", PAGE, flags=re.M)[1:])] * 2))
-    return {heading: re.findall(r"^```sh\n(.*?)^```", text, flags=re.M | re.S) for heading, text in sections.items()}
+    return {
+        heading: re.findall(r"^```sh\n(.*?)^```", text, flags=re.M | re.S)
+        for heading, text in sections.items()
+    }
 
 
 class Page(unittest.TestCase):
     def test_each_block_of_it_is_run_below(self) -> None:
-        run = {"Back it up": 1, "Restore it": 2, "It was restored": 2, "Move to another PostgreSQL": 1, "Its disk is full": 1}
-        self.assertEqual({heading: len(found) for heading, found in commands().items() if found}, run)
+        run = {
+            "Back it up": 1,
+            "Restore it": 2,
+            "It was restored": 2,
+            "Move to another PostgreSQL": 1,
+            "Its disk is full": 1,
+        }
+        self.assertEqual(
+            {heading: len(found) for heading, found in commands().items() if found}, run
+        )
 
 
 class Paged(unittest.TestCase):
@@ -48,14 +60,22 @@ class Paged(unittest.TestCase):
     def setUp(self) -> None:
         self.server = self.made()
         self.url = self.of_keepers(self.server)
-        self.keeping = self.enterContext(Keeping(ttl=TTL, url=self.url, more='metrics = "127.0.0.1:0"\n'))
+        self.keeping = self.enterContext(
+            Keeping(ttl=TTL, url=self.url, more='metrics = "127.0.0.1:0"\n')
+        )
         self.keeping.referee.prepare()
-        self.assertTrue(self.keeping.referee.create("shop", self.keeping.table.read_text(), b"s" * 16))
+        self.assertTrue(
+            self.keeping.referee.create("shop", self.keeping.table.read_text(), b"s" * 16)
+        )
         self.row = self.keeping.row()
         self.keeping.file.rename(self.folder / "keeper.toml")
         self.keeping.file = self.folder / "keeper.toml"
-        self.environment = {**os.environ, "PATH": f"{self.folder}:{programs()}:{os.environ['PATH']}", "URL": self.url,
-                            "PYTHONPATH": self.keeping.environment.get("PYTHONPATH", "")}  # fmt: skip
+        self.environment = {
+            **os.environ,
+            "PATH": f"{self.folder}:{programs()}:{os.environ['PATH']}",
+            "URL": self.url,
+            "PYTHONPATH": self.keeping.environment.get("PYTHONPATH", ""),
+        }
         self.program("pagelogctl", f'exec {sys.executable} -B -m pagelog "$@"')
 
     def made(self) -> Postgres:
@@ -67,7 +87,9 @@ class Paged(unittest.TestCase):
         """The URL of a new database, as of a role that owns it and may nothing else."""
         url = server.url("pagelog")
         with psycopg.connect(url) as session:
-            session.execute("CREATE ROLE keeper LOGIN; CREATE ROLE stranger LOGIN; ALTER DATABASE pagelog OWNER TO keeper")
+            session.execute(
+                "CREATE ROLE keeper LOGIN; CREATE ROLE stranger LOGIN; ALTER DATABASE pagelog OWNER TO keeper"
+            )
         return url.replace("//pagelog@", "//keeper@")
 
     @property
@@ -83,11 +105,23 @@ class Paged(unittest.TestCase):
     def run_printed(self, block: str, answer: str = "", **variables: object) -> str:
         """Runs a block at a terminal where this is typed, and returns what it says. Ends the test where it fails."""
         terminal, side = pty.openpty()
-        environment = {**self.environment, **{name: str(value) for name, value in variables.items()}, "COLUMNS": "250"}
+        environment = {
+            **self.environment,
+            **{name: str(value) for name, value in variables.items()},
+            "COLUMNS": "250",
+        }
         try:
             os.write(terminal, f"{answer}\n".encode())
-            done = subprocess.run(["sh", "-ec", block], cwd=self.folder, env=environment, stdin=side, stdout=subprocess.PIPE,
-                                  stderr=subprocess.STDOUT, text=True, timeout=PATIENCE)  # fmt: skip
+            done = subprocess.run(
+                ["sh", "-ec", block],
+                cwd=self.folder,
+                env=environment,
+                stdin=side,
+                stdout=subprocess.PIPE,
+                stderr=subprocess.STDOUT,
+                text=True,
+                timeout=PATIENCE,
+            )
         finally:
             os.close(terminal)
             os.close(side)
@@ -104,7 +138,9 @@ class Paged(unittest.TestCase):
     def pages(self, name: str = "shop") -> set[int]:
         """Those of the first ten that were changed."""
         with self.keeping.reader(name) as reader:
-            return {page for page in range(1, 11) if reader.page(page).data.startswith(b"%d" % page)}
+            return {
+                page for page in range(1, 11) if reader.page(page).data.startswith(b"%d" % page)
+            }
 
     def asides(self) -> list[dict[str, Any]]:
         lines = map(json.loads, self.keeping.word("kept", "--json").splitlines())
@@ -148,28 +184,48 @@ class Backups(Paged):
         self.write(1, 2, 3)
         self.run_printed(dump)
         self.write(4, 5)
-        self.assertTrue(self.keeping.referee.create("late", self.keeping.table.read_text(), b"l" * 16))
+        self.assertTrue(
+            self.keeping.referee.create("late", self.keeping.table.read_text(), b"l" * 16)
+        )
         eventually(lambda: self.keeping.knows("late"), "the later database")
         self.write(8, name="late")
         of_late = str(self.keeping.row("late").holder)
         place = self.keeping.place()
         holder = self.set_aside(lambda: self.write(6))
         self.assertEqual(self.pages(), {1, 2, 3, 6})
-        asides = 1 + (of_late == holder)
-        eventually(lambda: self.keeping.metrics(holder)["pagelog_keeper_set_aside", ""] == asides, "the metric")
+        self.assertIn(place.run, self.set_aside_by(holder))
+        eventually(lambda: self.counts_asides(holder), "the metric")
         see, save, end = commands()["It was restored"][0].splitlines()
         self.assertIn(f"run {place.run} of keeper {holder}", said := self.run_printed(see))
-        self.assertIn("ends at position 5, which is LSN 5: PostgreSQL has it up to 3, and lacks 2 blocks of it", said)
-        self.assertIn("saved positions up to 5 as database shop-saved, and compared them", self.run_printed(save))
+        self.assertIn(
+            "ends at position 5, which is LSN 5: PostgreSQL has it up to 3, and lacks 2 blocks of it",
+            said,
+        )
+        self.assertIn(
+            "saved positions up to 5 as database shop-saved, and compared them",
+            self.run_printed(save),
+        )
         eventually(lambda: self.keeping.knows("shop-saved"), "what was saved")
         self.assertEqual(self.pages("shop-saved"), {1, 2, 3, 4, 5})
         said = self.run_printed(end, "y", RUN=place.run, FOLDER=self.folder / holder)
         self.assertIn("end it [y/N]", said)
-        self.assertIn("saved positions up to 5 as database shop-saved2, and compared them\nended process", said)
-        eventually(lambda: not self.asides() and self.keeping.metrics(holder)["pagelog_keeper_set_aside", ""] == asides - 1, "the end of it")
+        self.assertIn(
+            "saved positions up to 5 as database shop-saved2, and compared them\nended process",
+            said,
+        )
+        eventually(lambda: not self.asides() and self.counts_asides(holder), "the end of it")
+        self.assertNotIn(place.run, self.set_aside_by(holder))
         self.run_printed(commands()["It was restored"][1], FOLDER=self.folder / of_late)
         eventually(lambda: self.keeping.knows("late-saved"), "what was saved of the later database")
         self.assertEqual(self.pages("late-saved"), {8})
+
+    def set_aside_by(self, keeper: str) -> list[str]:
+        """The runs that lie there; one of a standby of the later database may be among them."""
+        return [facts.run for facts in kept_in(self.folder / keeper)]
+
+    def counts_asides(self, keeper: str) -> bool:
+        count = self.keeping.metrics(keeper)["pagelog_keeper_set_aside", ""]
+        return count == len(self.set_aside_by(keeper))
 
     def test_sqlite_opens_what_was_saved_of_a_run_that_began_with_images(self) -> None:
         dump, _ = self.backed_up()
@@ -192,12 +248,18 @@ class Backups(Paged):
         end = int(re.findall(r"ends at position (\d+)", self.keeping.word("rescue", "shop"))[0])
         self.run_printed(commands()["It was restored"][0].splitlines()[1])
         eventually(lambda: self.keeping.knows("shop-saved"), "what was saved")
-        with closing(connected(self.keeping.addresses, name="shop-saved", id=3, mode="ro")) as saved:
-            self.assertEqual(saved.execute("SELECT n FROM t").fetchall(), [(n,) for n in (1, 2, 3, 4, 5, 6)])
+        with closing(
+            connected(self.keeping.addresses, name="shop-saved", id=3, mode="ro")
+        ) as saved:
+            self.assertEqual(
+                saved.execute("SELECT n FROM t").fetchall(), [(n,) for n in (1, 2, 3, 4, 5, 6)]
+            )
         with self.keeping.reader("shop-saved") as reader:
             self.assertEqual(reader.end(), end)
         with closing(connected(self.keeping.addresses, id=3, mode="ro")) as shop:
-            self.assertEqual(shop.execute("SELECT n FROM t").fetchall(), [(n,) for n in (1, 2, 3, 4, 7)])
+            self.assertEqual(
+                shop.execute("SELECT n FROM t").fetchall(), [(n,) for n in (1, 2, 3, 4, 7)]
+            )
 
     def insert(self, writer: sqlite3.Connection, *numbers: int) -> None:
         for number in numbers:
@@ -217,14 +279,18 @@ class Backups(Paged):
         self.keeping.place(least=place.generation + 1)
         write()
         self.keeping.start(holder)
-        eventually(lambda: [each["run"] for each in self.asides()] == [place.run], "what is set aside")
+        eventually(
+            lambda: [each["run"] for each in self.asides()] == [place.run], "what is set aside"
+        )
         return holder
 
     def backed_up(self) -> list[str]:
         return commands()["Back it up"][0].splitlines()
 
     def services(self, keeper: str) -> list[tuple[int, str]]:
-        found = [json.loads(file.read_text()) for file in (self.folder / keeper).glob("shop.*.json")]
+        found = [
+            json.loads(file.read_text()) for file in (self.folder / keeper).glob("shop.*.json")
+        ]
         return [(each["pid"], each["run"]) for each in found]
 
     def end_services(self) -> None:
@@ -242,18 +308,32 @@ class Backups(Paged):
         self.as_postgres(backup, BACKUP=copy)
         self.write(4, 5)
         self.keeping.referee.close()
-        with (copy / "postgresql.conf").open("a") as file:  # what the test's server is told at its start
-            file.write(f"unix_socket_directories = '{self.server.folder}'\nlisten_addresses = ''\nfsync = off\n")
+        with (copy / "postgresql.conf").open(
+            "a"
+        ) as file:  # what the test's server is told at its start
+            file.write(
+                f"unix_socket_directories = '{self.server.folder}'\nlisten_addresses = ''\nfsync = off\n"
+            )
         self.as_postgres(commands()["Restore it"][1], BACKUP=copy, PGDATA=self.server.data)
         self.write(6)
         self.assertEqual(self.pages(), {1, 2, 3, 4, 5, 6})
 
     def as_postgres(self, block: str, **variables: object) -> None:
         """Runs a block as PostgreSQL's user, in its folder."""
-        environment = {**self.environment, "PGHOST": str(self.server.folder), "PGUSER": "pagelog",
-                       **{name: str(value) for name, value in variables.items()}}  # fmt: skip
+        environment = {
+            **self.environment,
+            "PGHOST": str(self.server.folder),
+            "PGUSER": "pagelog",
+            **{name: str(value) for name, value in variables.items()},
+        }
         with (self.server.folder / "said").open("a+") as said:
-            done = self.server.call(["sh", "-ec", block], cwd=self.server.folder, env=environment, stdout=said, stderr=said)
+            done = self.server.call(
+                ["sh", "-ec", block],
+                cwd=self.server.folder,
+                env=environment,
+                stdout=said,
+                stderr=said,
+            )
             said.seek(0)
             self.assertEqual(done.returncode, 0, said.read())
 
@@ -314,7 +394,9 @@ class Disks(Paged):
             primary.commit(durable=True)
             row = self.keeping.row()
             make_base(self.keeping.referee, row.id, row.archived, row.chain)
-            with psycopg.connect(self.url.replace("//keeper@", "//pagelog@"), autocommit=True) as session:
+            with psycopg.connect(
+                self.url.replace("//keeper@", "//pagelog@"), autocommit=True
+            ) as session:
                 for table in ("pagelog_block", "pagelog_image"):
                     session.execute(f"ALTER TABLE {table} SET TABLESPACE small")
                     session.execute(f"VACUUM {table}")  # as PostgreSQL does by itself
@@ -326,7 +408,9 @@ class Disks(Paged):
             self.assertEqual(primary.durable_end, row.archived)
             kept, prune, vacuum = commands()["Its disk is full"][0].splitlines()
             self.assertRegex(self.run_printed(kept), "entries left")
-            self.assertIn(f"positions from {row.archived} on are kept", self.run_printed(prune, "y", KEEP=1))
+            self.assertIn(
+                f"positions from {row.archived} on are kept", self.run_printed(prune, "y", KEEP=1)
+            )
             self.run_printed(vacuum)
             primary.durable(last)
         [size] = re.findall(r"`(SELECT pg_size_pretty.*?)`", PAGE)

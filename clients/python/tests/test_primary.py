@@ -32,15 +32,22 @@ class Commits(unittest.TestCase):
 
     def test_records_fill_blocks_to_the_brim(self) -> None:
         # A block of Puts of 8,180 bytes on one page has room for four: 14 + 4 * 8,189 = 32,770 is two bytes too many.
-        self.assertEqual(self.primary.append(*[put(0, bytes([at]) * 8179) for at in range(1, 9)]), 2)
+        self.assertEqual(
+            self.primary.append(*[put(0, bytes([at]) * 8179) for at in range(1, 9)]), 2
+        )
         self.assertEqual(self.primary.commit(), 2)
         blocks = list(self.reader.blocks(1, follow=False))
-        self.assertEqual([(block.lsn, len(block.records), len(block.data)) for block in blocks], [(1, 4, 32766), (2, 4, 32766)])
+        self.assertEqual(
+            [(block.lsn, len(block.records), len(block.data)) for block in blocks],
+            [(1, 4, 32766), (2, 4, 32766)],
+        )
         self.primary.append(*[put(0, bytes([at]) * 8180) for at in range(1, 5)])
         self.assertEqual(self.primary.commit(), 4)
         self.primary.append(*[Zero(at * 65536) for at in range(4684)])
         self.assertEqual(self.primary.commit(), 6)
-        self.assertEqual([len(block.records) for block in self.reader.blocks(5, follow=False)], [4679, 5])
+        self.assertEqual(
+            [len(block.records) for block in self.reader.blocks(5, follow=False)], [4679, 5]
+        )
 
     def test_more_than_a_window_is_hardened_group_by_group(self) -> None:
         self.primary.append(*[put(at, bytes([at % 256]) * 8179) for at in range(4 * 70)])
@@ -49,7 +56,11 @@ class Commits(unittest.TestCase):
         self.assertEqual(self.reader.page(279, 70).data[:1], bytes([279 % 256]))
 
     def test_a_faulty_record_is_not_taken(self) -> None:
-        for record, kind in ((put(0, b""), faults.EmptyPut), (put(0, b"ab", 8191), faults.PutPastPage), (Zero(-1), ValueError)):
+        for record, kind in (
+            (put(0, b""), faults.EmptyPut),
+            (put(0, b"ab", 8191), faults.PutPastPage),
+            (Zero(-1), ValueError),
+        ):
             with self.assertRaises(kind):
                 self.primary.append(record)
         for record in (put(0, b"x", 1.5), Zero(1.5)):  # type: ignore[arg-type]
@@ -83,7 +94,10 @@ class Commits(unittest.TestCase):
         self.assertEqual(list(self.primary.harden(blocks)), [64, 128, 130])
         with self.assertRaises(ValueError):
             list(self.primary.harden([Block.of(132)]))
-        self.assertEqual([block.lsn for block in self.reader.blocks(1, follow=False)], [lsn for lsn in range(1, 131) if lsn % 4])
+        self.assertEqual(
+            [block.lsn for block in self.reader.blocks(1, follow=False)],
+            [lsn for lsn in range(1, 131) if lsn % 4],
+        )
 
     def test_none_in_flight_and_none_in_a_group_are_refused(self) -> None:
         blocks = [Block.of(1, [Zero(1)])]
@@ -100,15 +114,28 @@ class Commits(unittest.TestCase):
             three.append(put(0, b"thrice"))
             self.assertEqual(three.commit(), 1)
         with self.service.operator() as operator:
-            writes = [entry.b for entry in operator.audit(1) if entry.operation == pagelog.Operation.WRITE]
+            writes = [
+                entry.b for entry in operator.audit(1) if entry.operation == pagelog.Operation.WRITE
+            ]
         self.assertEqual(writes, [2, 0, 1])
 
     def test_which_copies_there_are(self) -> None:
-        for options in ({"copies": (0,)}, {"copies": (0, 0)}, {"copies": (0, 3)}, {"quorum": 3}, {"quorum": 4, "copies": (0, 1, 2)},
-                        {"quorum": 4, "copies": (0, 1, 2, 6)}, {"quorum": 4, "copies": (0, 1, 2, 2)}):  # fmt: skip
+        for options in (
+            {"copies": (0,)},
+            {"copies": (0, 0)},
+            {"copies": (0, 3)},
+            {"quorum": 3},
+            {"quorum": 4, "copies": (0, 1, 2)},
+            {"quorum": 4, "copies": (0, 1, 2, 6)},
+            {"quorum": 4, "copies": (0, 1, 2, 2)},
+        ):
             with self.subTest(options), self.assertRaises(ValueError):
                 self.service.primary(**options)  # type: ignore[arg-type]
-        for options, copies in (({}, (0, 1)), ({"quorum": 4}, (0, 1, 2, 3)), ({"quorum": 4, "copies": range(1, 6)}, (1, 2, 3, 4, 5))):
+        for options, copies in (
+            ({}, (0, 1)),
+            ({"quorum": 4}, (0, 1, 2, 3)),
+            ({"quorum": 4, "copies": range(1, 6)}, (1, 2, 3, 4, 5)),
+        ):
             self.assertEqual(self.service.primary(**options).copies, copies)  # type: ignore[arg-type]
 
     def test_a_quorum_that_is_too_large_is_told(self) -> None:
@@ -123,7 +150,12 @@ class Commits(unittest.TestCase):
 
 def end_mark(lsn: int, name: bytes = b"shop") -> bytes:
     """Page 0 as SQLite's VFS leaves it: magic, LSN, size, session, transaction, and the name."""
-    return b"plfile01" + b"".join(number.to_bytes(8, "big") for number in (lsn, 8192, 7, 1)) + bytes((len(name),)) + name
+    return (
+        b"plfile01"
+        + b"".join(number.to_bytes(8, "big") for number in (lsn, 8192, 7, 1))
+        + bytes((len(name),))
+        + name
+    )
 
 
 class OverSqlite(unittest.TestCase):
@@ -138,15 +170,25 @@ class OverSqlite(unittest.TestCase):
 
     def requests(self) -> list[str]:
         """What principal 2 has asked so far."""
-        return [entry.operation.name for entry in self.operator.entries(follow=False) if entry.principal == 2]
+        return [
+            entry.operation.name
+            for entry in self.operator.entries(follow=False)
+            if entry.principal == 2
+        ]
 
     def test_nothing_is_written_unless_asked(self) -> None:
-        ways = (lambda primary: (primary.append(put(5, b"x")), primary.commit()), lambda primary: list(primary.stream([[put(5, b"x")]])),
-                lambda primary: list(primary.harden([Block.of(2, [put(5, b"x")])])))  # fmt: skip
+        ways = (
+            lambda primary: (primary.append(put(5, b"x")), primary.commit()),
+            lambda primary: list(primary.stream([[put(5, b"x")]])),
+            lambda primary: list(primary.harden([Block.of(2, [put(5, b"x")])])),
+        )
         for way in ways:
             with self.service.primary() as primary:
                 for _ in range(2):
-                    with self.assertRaisesRegex(pagelog.HoldsSqlite, "SQLite database 'shop' at LSN 1.*overwrite_sqlite=True") as raised:
+                    with self.assertRaisesRegex(
+                        pagelog.HoldsSqlite,
+                        "SQLite database 'shop' at LSN 1.*overwrite_sqlite=True",
+                    ) as raised:
                         way(primary)
                         primary.commit()
                     self.assertEqual((raised.exception.lsn, raised.exception.name), (1, "shop"))
@@ -209,7 +251,12 @@ class Epochs(unittest.TestCase):
         self.primary.commit()
         self.assertEqual(self.operator.failover(5), 2)
         self.primary.append(put(0, b"lost"))
-        for asks in (self.primary.commit, self.primary.commit, lambda: self.primary.append(put(0, b"more")), self.primary.begin):
+        for asks in (
+            self.primary.commit,
+            self.primary.commit,
+            lambda: self.primary.append(put(0, b"more")),
+            self.primary.begin,
+        ):
             with self.assertRaises(pagelog.OlderEpoch) as raised:
                 asks()
             self.assertEqual(raised.exception.epoch, 2)
@@ -259,14 +306,18 @@ class Epochs(unittest.TestCase):
     def test_what_a_report_hardens_of_another_is_not_taken_for_ones_own(self) -> None:
         """Another process of the principal has written LSN 1 to two copies: the report of LSN 1 is Done, and hardens that."""
         for is_hardened in (False, True):
-            with Service(table=WIDE_TABLE) as service, service.primary() as first, service.primary() as second, service.reader() as reader:
+            with Service(
+                table=WIDE_TABLE
+            ) as service, service.primary() as first, service.primary() as second, service.reader() as reader:
                 second.begin()
                 for copy in (0, 1):
                     first._ask(Write(copy, Block.of(1, [put(0, b"first")])))
                 if is_hardened:
                     first._ask(Report(1))
                 lsns = []
-                with self.assertRaises(pagelog.HardenedAlready if is_hardened else pagelog.OtherContent):
+                with self.assertRaises(
+                    pagelog.HardenedAlready if is_hardened else pagelog.OtherContent
+                ):
                     for lsn in second.stream([[put(0, b"second")], [put(0, b"third")]]):
                         lsns.append(lsn)
                 self.assertEqual((lsns, reader.page(0, 1).data[:5]), ([], b"first"))
@@ -291,7 +342,9 @@ class Epochs(unittest.TestCase):
         self.primary.append(put(0, b"kept"))
         self.primary._prepare()
         self.primary._close_block()
-        lsns = list(self.primary._harden([[sent.block for sent in self.primary._unhardened]], in_flight=1))
+        lsns = list(
+            self.primary._harden([[sent.block for sent in self.primary._unhardened]], in_flight=1)
+        )
         self.assertEqual(lsns, [2])
         self.assertEqual(self.reader.page(0, 2).data[:4], b"kept")
         with self.assertRaises(pagelog.OlderEpoch):
@@ -310,7 +363,9 @@ class Epochs(unittest.TestCase):
         self.primary._requests = with_a_failover  # type: ignore[method-assign]
         lsns = []
         with self.assertRaises(pagelog.OlderEpoch):
-            for lsn in self.primary.stream(([put(0, bytes([at]))] for at in range(1, 9)), in_flight=1):
+            for lsn in self.primary.stream(
+                ([put(0, bytes([at]))] for at in range(1, 9)), in_flight=1
+            ):
                 lsns.append(lsn)
         self.assertEqual((lsns, self.primary.durable, self.reader.status().hard), ([1, 2, 3], 3, 3))
 
@@ -325,7 +380,9 @@ class Epochs(unittest.TestCase):
                         primary.append(put(0, b"kept"))
                         primary._prepare()
                         primary._close_block()
-                        harden = primary._harden([[sent.block for sent in primary._unhardened]], in_flight=1)
+                        harden = primary._harden(
+                            [[sent.block for sent in primary._unhardened]], in_flight=1
+                        )
                         if reader is None:
                             with self.assertRaises(pagelog.InDoubt):
                                 list(harden)
@@ -359,7 +416,11 @@ class Epochs(unittest.TestCase):
         self.primary._prepare()
         self.primary._close_block()
         with self.assertRaises(pagelog.OlderEpoch):
-            list(self.primary._harden([[sent.block for sent in self.primary._unhardened]], in_flight=1))
+            list(
+                self.primary._harden(
+                    [[sent.block for sent in self.primary._unhardened]], in_flight=1
+                )
+            )
         self.assertEqual((self.primary.durable, self.reader.status().hard), (0, 0))
 
     def test_a_service_that_was_started_anew(self) -> None:
@@ -370,7 +431,12 @@ class Epochs(unittest.TestCase):
                 fresh = service.primary()
                 self.assertEqual(fresh.append(put(0, b"y")), count + 1)
                 service.restart()
-                for asks in (fresh.commit, reader.status, lambda: reader.span(count + 1), operator.status):
+                for asks in (
+                    fresh.commit,
+                    reader.status,
+                    lambda: reader.span(count + 1),
+                    operator.status,
+                ):
                     with self.assertRaises(pagelog.LogWentBack):
                         asks()
                 fresh.close()
@@ -387,7 +453,11 @@ class Epochs(unittest.TestCase):
 
 def count_of_writes(operator: pagelog.Operator) -> int:
     """How many writes the audit list has."""
-    return sum(1 for entry in operator.audit(1) if entry.operation == pagelog.Operation.WRITE and entry.is_allowed)
+    return sum(
+        1
+        for entry in operator.audit(1)
+        if entry.operation == pagelog.Operation.WRITE and entry.is_allowed
+    )
 
 
 if __name__ == "__main__":

@@ -37,7 +37,10 @@ class Pulls(unittest.TestCase):
             found = self.pull(position)
             assert found is not None
             self.assertEqual(len(found), 20 - position)
-            self.assertEqual([found[lsn - position - 1] for lsn in wanted if lsn > position], [wanted[lsn] for lsn in wanted if lsn > position])
+            self.assertEqual(
+                [found[lsn - position - 1] for lsn in wanted if lsn > position],
+                [wanted[lsn] for lsn in wanted if lsn > position],
+            )
         self.assertEqual([self.pull(0), self.pull(20), self.pull(19, epoch=7)], [None, None, None])
         self.assertIsNotNone(self.pull(19))
 
@@ -75,7 +78,9 @@ class Library(unittest.TestCase):
     def said(self, library: object, **section: object) -> list[str]:
         """What a keeper says at its start that finds this one."""
         settings = Settings.of("a", "", "", Path("."), "", "postgresql://nobody@/none", section)
-        with patch.object(quick_calls, "library", return_value=library), patch.object(Keeper, "_say") as say:
+        with patch.object(quick_calls, "library", return_value=library), patch.object(
+            Keeper, "_say"
+        ) as say:
             Keeper(settings)
         return [call.args[1] for call in say.call_args_list]
 
@@ -86,6 +91,9 @@ class Library(unittest.TestCase):
 
     def test_a_keeper_says_that_it_is_not_there(self) -> None:
         for section in ({}, {"require_standby": True}):
-            self.assertEqual(self.said(None, **section), ["the quick way is not built: durable commits take longer"])
+            self.assertEqual(
+                self.said(None, **section),
+                ["the quick way is not built: durable commits take longer"],
+            )
         self.assertEqual(self.said(Mock()), [])
         self.assertEqual(len(self.said(None, trail=3)), 1)

@@ -6,6 +6,7 @@ import asyncio
 import gc
 import os
 import random
+import resource
 import signal
 import socket
 import tempfile
@@ -51,6 +52,11 @@ READY = b"Z\0\0\0\5I"
 """What PostgreSQL says last."""
 
 
+def memory_now() -> int:
+    """The address space of this process, in bytes."""
+    return int(Path("/proc/self/statm").read_text().split()[0]) * resource.getpagesize()
+
+
 class Client:
     """A line to the keeper."""
 
@@ -78,7 +84,9 @@ class Client:
     async def answer(self) -> str:
         """The next line; an empty one where the keeper has ended it."""
         while b"\n" not in self._left:
-            data = await asyncio.wait_for(asyncio.get_running_loop().sock_recv(self.socket, 4096), PATIENCE)
+            data = await asyncio.wait_for(
+                asyncio.get_running_loop().sock_recv(self.socket, 4096), PATIENCE
+            )
             if not data:
                 return ""
             self._left += data
@@ -108,12 +116,19 @@ class Hot(Referees, unittest.IsolatedAsyncioTestCase):
         self.folder = Path(self.enterContext(tempfile.TemporaryDirectory()))
         self.enterContext(patch("pagelog.keeper.keeping.Folder"))
         section = {"standby": False, "ttl": PATIENCE, **self.section}
-        self.keeper = Keeper(Settings.of("one", "127.0.0.1:0", "127.0.0.1", self.folder, PROGRAM, self.url, section))
+        self.keeper = Keeper(
+            Settings.of("one", "127.0.0.1:0", "127.0.0.1", self.folder, PROGRAM, self.url, section)
+        )
         self.shared = self.keeper._shared
         if self.goes_through_line:
             self.line = Line(stalls=self.stalls)
             self.addCleanup(self.line.close)
-            self.shared.ways = QuickPlane(lambda: QuickReferee(self.line.url(self.url), "one", "life of one"), idle=PATIENCE, deadline=PATIENCE, most=1)
+            self.shared.ways = QuickPlane(
+                lambda: QuickReferee(self.line.url(self.url), "one", "life of one"),
+                idle=PATIENCE,
+                deadline=PATIENCE,
+                most=1,
+            )
         kept = self.taken()
         self.served = Served("shop", "r1", WIDE_TABLE, b"s" * 16, timeout=PATIENCE)
         self.served.start(Program(PROGRAM, "127.0.0.1", self.folder, 1_000_000))
@@ -192,7 +207,9 @@ class Hot(Referees, unittest.IsolatedAsyncioTestCase):
         lsn = first - self.served.shift
         if self.loader is None:
             self.loader = self.enterContext(self.served.loader())
-        self.loader.load(lsn, [[(lsn + at).to_bytes(8, "big") + block[8:] for at, block in enumerate(made)]])
+        self.loader.load(
+            lsn, [[(lsn + at).to_bytes(8, "big") + block[8:] for at, block in enumerate(made)]]
+        )
         self.written += made
         return len(self.written)
 
@@ -227,12 +244,19 @@ class Hot(Referees, unittest.IsolatedAsyncioTestCase):
     def assert_whole(self) -> None:
         """The archive has the blocks of the service, under its digest, and no other."""
         with psycopg.connect(self.url) as connection:
-            [(archived, chain)] = connection.execute("SELECT archived, chain FROM pagelog_log WHERE id = %s", (self.row.id,)).fetchall()
-            rows = connection.execute("SELECT lsn, data FROM pagelog_block WHERE log = %s ORDER BY lsn", (self.row.id,)).fetchall()
+            [(archived, chain)] = connection.execute(
+                "SELECT archived, chain FROM pagelog_log WHERE id = %s", (self.row.id,)
+            ).fetchall()
+            rows = connection.execute(
+                "SELECT lsn, data FROM pagelog_block WHERE log = %s ORDER BY lsn", (self.row.id,)
+            ).fetchall()
         self.assertEqual([lsn for lsn, _ in rows], list(range(1, archived + 1)))
         self.assertEqual([bytes(data) for _, data in rows], self.written[:archived])
         self.assertEqual(bytes(chain), digest(b"", self.written[:archived]))
-        self.assertEqual([block for piece in self.referee.blocks(self.row.id, 1, archived) for block in piece], self.written[:archived])
+        self.assertEqual(
+            [block for piece in self.referee.blocks(self.row.id, 1, archived) for block in piece],
+            self.written[:archived],
+        )
 
     def archived(self) -> int:
         with psycopg.connect(self.url) as connection:
@@ -244,7 +268,13 @@ class Hot(Referees, unittest.IsolatedAsyncioTestCase):
 
     def keep_block(self, lsn: int, block: bytes) -> None:
         """As somebody else would."""
-        self.execute("INSERT INTO pagelog_block (log, lsn, crc, data) VALUES (%s, %s, %s, %s)", self.row.id, lsn, zlib.crc32(block), block)
+        self.execute(
+            "INSERT INTO pagelog_block (log, lsn, crc, data) VALUES (%s, %s, %s, %s)",
+            self.row.id,
+            lsn,
+            zlib.crc32(block),
+            block,
+        )
 
 
 class Tells(Hot):
@@ -266,7 +296,9 @@ class Tells(Hot):
         self.assertEqual(self.ends, [])
         self.assert_whole()
 
-    async def test_how_far_it_has_acknowledged_is_known_to_the_next_life_of_the_keeper(self) -> None:
+    async def test_how_far_it_has_acknowledged_is_known_to_the_next_life_of_the_keeper(
+        self,
+    ) -> None:
         client = await self.hot()
         for _ in range(3):
             position = await self.commit_quickly(client)
@@ -281,7 +313,12 @@ class Tells(Hot):
             await self.commit_quickly(client, count)
         for count in (1, 9, 20):  # of 32 KiB, or nearly so: a batch ends with its bytes
             first = len(self.written) + 1
-            made = [Block.of(first + at, [Put(page, 0, chance.randbytes(8140)) for page in range(4)]).data for at in range(count)]
+            made = [
+                Block.of(
+                    first + at, [Put(page, 0, chance.randbytes(8140)) for page in range(4)]
+                ).data
+                for at in range(count)
+            ]
             self.assertGreater(len(made[0]), 32_500)
             position = self.write(made=made)
             self.assertEqual(await client.ask(self.durable(position)), self.durable(position))
@@ -292,12 +329,18 @@ class Tells(Hot):
     async def test_what_is_behind_is_archived_though_nobody_waits(self) -> None:
         await self.hot()
         self.archiver._end_way()
-        is_at_rest = lambda: not (self.is_hot or self.archiver._doorbell.is_set() or self.archiver.turn.locked())
-        await self.until(is_at_rest, "its end, and the pull of nothing that somebody rang for meanwhile")
+        is_at_rest = lambda: not (
+            self.is_hot or self.archiver._doorbell.is_set() or self.archiver.turn.locked()
+        )
+        await self.until(
+            is_at_rest, "its end, and the pull of nothing that somebody rang for meanwhile"
+        )
         with patch.object(Served, "pulled", autospec=True, side_effect=Served.pulled) as pulled:
             self.served.hard = position = self.write(5000)
             self.archiver.ring()
-            await self.until(lambda: self.is_hot and self.way.reached[0] == position, "what is behind")
+            await self.until(
+                lambda: self.is_hot and self.way.reached[0] == position, "what is behind"
+            )
             self.assertEqual((pulled.call_count, self.archived()), (1, position))
         self.assert_whole()
 
@@ -306,7 +349,9 @@ class Tells(Hot):
         position = await self.commit_quickly(client)
         with patch.object(Served, "pulled_at_once", side_effect=AssertionError("it was pulled")):
             self.assertEqual(await client.ask(self.durable(1)), self.durable(position))
-            self.assertEqual(await other.ask(self.durable(position)), self.durable(position))  # of which the keeper's path knows nothing
+            self.assertEqual(
+                await other.ask(self.durable(position)), self.durable(position)
+            )  # of which the keeper's path knows nothing
             self.assertEqual(await other.ask(self.durable(position - 1)), self.durable(position))
         self.assertEqual((self.ends, len(self.way._lent)), ([], 2))
         await self.commit_quickly(other)
@@ -331,7 +376,9 @@ class Tells(Hot):
         client.send(f"ring shop {self.served.generation}")
         await self.until(lambda: self.way.reached[0] == position, "what was rung for")
         self.assertEqual(await client.ask(self.durable(position)), self.durable(position))
-        client.send(f"ring shop {self.served.generation}", f"ring shop {self.served.generation}")  # there is nothing
+        client.send(
+            f"ring shop {self.served.generation}", f"ring shop {self.served.generation}"
+        )  # there is nothing
         await self.commit_quickly(client)
         client.send(f"ring shop {self.served.generation}", self.durable(position := self.write()))
         self.assertEqual(await client.answer(), self.durable(position))
@@ -349,7 +396,10 @@ class Tells(Hot):
     async def test_what_is_not_there_is_said_by_the_keepers_path(self) -> None:
         client = await self.hot()
         position = await self.commit_quickly(client)
-        self.assertEqual(await client.ask(self.durable(position + 1)), f"above shop {self.served.generation} {position}")
+        self.assertEqual(
+            await client.ask(self.durable(position + 1)),
+            f"above shop {self.served.generation} {position}",
+        )
         self.assertEqual(self.ends, [End.STOPPED])
         await self.hot(client)
         await self.commit_quickly(client)
@@ -357,14 +407,19 @@ class Tells(Hot):
     async def test_a_position_that_is_no_number_of_64_bits_is_above_too(self) -> None:
         client = await self.hot()
         for position in (1 << 63, 1 << 64, (1 << 64) + 1, 10**30):
-            self.assertEqual(await client.ask(self.durable(position)), f"above shop {self.served.generation} {len(self.written)}")
+            self.assertEqual(
+                await client.ask(self.durable(position)),
+                f"above shop {self.served.generation} {len(self.written)}",
+            )
             await self.hot(client)
 
     async def test_the_keeper_knows_how_far_it_is(self) -> None:
         client = await self.hot()
         position = await self.commit_quickly(client)
         self.assertEqual(self.keeper.where("shop")[5], position)
-        self.assertEqual((self.served.reached, self.served.chain), (position, digest(b"", self.written)))
+        self.assertEqual(
+            (self.served.reached, self.served.chain), (position, digest(b"", self.written))
+        )
         position = self.write()
         self.assertTrue(await asyncio.wait_for(self.archiver.reached(position), PATIENCE))
         self.assertEqual((self.served.reached, self.ends), (position, []))
@@ -373,7 +428,10 @@ class Tells(Hot):
         self.plane.idle = 0.3
         client = await self.hot()
         await self.until(lambda: self.ends == [End.IDLE], "its end")
-        self.assertEqual(await client.ask("where nothing"), "unknown nothing" if self.keeper.look.keepers else "nowhere nothing")
+        self.assertEqual(
+            await client.ask("where nothing"),
+            "unknown nothing" if self.keeper.look.keepers else "nowhere nothing",
+        )
         await self.until(lambda: not self.session.statements, "the end of its connection")
         await self.commit(client)
         self.assert_whole()
@@ -386,16 +444,28 @@ class Shifted(Hot):
         made = list(blocks(1, 40))
         for lsn, block in enumerate(made, 1):
             self.keep_block(lsn, block)
-        self.execute("UPDATE pagelog_log SET archived = 40, chain = %s WHERE id = %s", digest(b"", made), self.row.id)
+        self.execute(
+            "UPDATE pagelog_log SET archived = 40, chain = %s WHERE id = %s",
+            digest(b"", made),
+            self.row.id,
+        )
         self.written = made
-        self.served.shift, self.served.reached, self.served.hard, self.served.chain = 40, 40, 40, digest(b"", made)
+        self.served.shift, self.served.reached, self.served.hard, self.served.chain = (
+            40,
+            40,
+            40,
+            digest(b"", made),
+        )
         super().begin()
 
     async def test_positions_are_those_of_the_archive(self) -> None:
         client = await self.hot()
         for count in (1, 2, 20, 300):
             await self.commit_quickly(client, count)
-        self.assertEqual(await client.ask(self.durable(len(self.written) + 1)), f"above shop {self.served.generation} {len(self.written)}")
+        self.assertEqual(
+            await client.ask(self.durable(len(self.written) + 1)),
+            f"above shop {self.served.generation} {len(self.written)}",
+        )
         self.assertEqual(self.ends, [End.STOPPED])
         self.assert_whole()
 
@@ -405,14 +475,26 @@ class Lines(Hot):
         client = await self.hot()
         g = self.served.generation
         for words, answer in (
-            ("where nobody", "nowhere nobody"), ("turn shop", "turn shop other"), ("nonsense", "what nonsense"), ("", "what"),
-            ("standby shop", "standby shop - - - - -"), (f"durable ship {g} 1", "unknown ship"), ("block shop 1", None), ("\0", "what \0"),
-            (f"durable  shop {g}  1 ", None), (f"durable shop 0{g} 1", None), (f"durable shop {g} 0", None),
-            ("x" * 1000, f"what {'x' * 1000}"), (f"durable shop {g} 1\r", None), ("durable shop 77 1", "elsewhere shop 77"),
-        ):  # fmt: skip
+            ("where nobody", "nowhere nobody"),
+            ("turn shop", "turn shop other"),
+            ("nonsense", "what nonsense"),
+            ("", "what"),
+            ("standby shop", "standby shop - - - - -"),
+            (f"durable ship {g} 1", "unknown ship"),
+            ("block shop 1", None),
+            ("\0", "what \0"),
+            (f"durable  shop {g}  1 ", None),
+            (f"durable shop 0{g} 1", None),
+            (f"durable shop {g} 0", None),
+            ("x" * 1000, f"what {'x' * 1000}"),
+            (f"durable shop {g} 1\r", None),
+            ("durable shop 77 1", "elsewhere shop 77"),
+        ):
             await self.hot(client)
             found = await client.ask(words)
-            self.assertIn(found.split()[:1], (["durable"], ["block"])) if answer is None else self.assertEqual(found, answer)
+            self.assertIn(
+                found.split()[:1], (["durable"], ["block"])
+            ) if answer is None else self.assertEqual(found, answer)
         self.assertEqual(await client.ask("back shop\nwhere nobody"), "nowhere nobody")
         self.assertEqual(set(self.ends) - {End.STOPPED}, set())
         await self.hot(client)
@@ -426,16 +508,22 @@ class Lines(Hot):
         before = len(self.ends)
         while not self.is_hot or not self.way._lent:
             position = self.write()
-            self.assertEqual(await client.ask(self.durable(position) + of), self.durable(position) + of)
+            self.assertEqual(
+                await client.ask(self.durable(position) + of), self.durable(position) + of
+            )
             await asyncio.sleep(0.001)
         for _ in range(3):
             position = self.write()
-            self.assertEqual(await client.ask(self.durable(position) + of), self.durable(position) + of)
+            self.assertEqual(
+                await client.ask(self.durable(position) + of), self.durable(position) + of
+            )
         self.assert_quick(position)
         self.assertEqual(len(self.ends), before)
         other = f" of={self.database.row.identity}/r2"
         found = await client.ask(self.durable(1) + other)
-        self.assertEqual(found.split()[:4], ["lost", "shop", str(self.served.generation), "superseded"])
+        self.assertEqual(
+            found.split()[:4], ["lost", "shop", str(self.served.generation), "superseded"]
+        )
         self.assertTrue(found.endswith(other))
 
     def others(self) -> list[str]:
@@ -447,8 +535,12 @@ class Lines(Hot):
         client, g = self.client(), self.served.generation
         self.write()
         with patch.object(self.database.work, "ring", wraps=self.database.work.ring) as ring:
-            client.send(*(f"{word} shop {g} {of}" for word in ("ring", "full") for of in self.others()))
-            self.assertEqual(await client.ask("where nobody"), "nowhere nobody")  # which comes behind them
+            client.send(
+                *(f"{word} shop {g} {of}" for word in ("ring", "full") for of in self.others())
+            )
+            self.assertEqual(
+                await client.ask("where nobody"), "nowhere nobody"
+            )  # which comes behind them
             self.assertEqual((ring.call_count, self.served.is_full), (0, False))
             client.send(f"ring shop {g} of={self.database.row.identity}/r1")
             await self.until(lambda: ring.called, "a ring of its own")
@@ -464,16 +556,30 @@ class Lines(Hot):
 
     async def test_a_number_that_two_runs_had_says_nothing_to_an_older_client(self) -> None:
         client = await self.hot()
-        self.database.see(replace(self.database.row, doubted=self.served.generation), 1, (), is_noted=False, began=float("inf"))
+        self.database.see(
+            replace(self.database.row, doubted=self.served.generation),
+            1,
+            (),
+            is_noted=False,
+            began=float("inf"),
+        )
         position = self.write()
-        self.assertEqual(await client.ask(self.durable(position)), f"elsewhere shop {self.served.generation}")
+        self.assertEqual(
+            await client.ask(self.durable(position)), f"elsewhere shop {self.served.generation}"
+        )
         self.assertTrue((await client.ask("hello 2")).startswith("hello 2 nonce="))
         of = f" of={self.database.row.identity}/r1"
         self.assertEqual(await client.ask(self.durable(position) + of), self.durable(position) + of)
 
     async def test_lines_that_end_the_connection_do_so(self) -> None:
         g = self.served.generation
-        for data in (b"x" * 1100, b"durable shop x 1\n", b"\xff\n", f"durable shop {g} x\n".encode(), f"durable shop {g} +1\n".encode()):
+        for data in (
+            b"x" * 1100,
+            b"durable shop x 1\n",
+            b"\xff\n",
+            f"durable shop {g} x\n".encode(),
+            f"durable shop {g} +1\n".encode(),
+        ):
             client = await self.hot(self.client())
             client.raw(data)
             self.assertEqual(await client.answer(), "")
@@ -492,7 +598,9 @@ class Lines(Hot):
         self.assertEqual(await client.answer(), self.durable(position))
         self.assert_quick(position)
         position = self.write(2)
-        client.send(self.durable(position - 1), self.durable(position))  # a second question over one line is the keeper's
+        client.send(
+            self.durable(position - 1), self.durable(position)
+        )  # a second question over one line is the keeper's
         told = [await client.answer()]
         if told[0] != self.durable(position):
             told.append(await client.answer())
@@ -515,7 +623,10 @@ class Lines(Hot):
         self.assertEqual(await other.answer(), self.durable(position))
         self.assertEqual(await other.answer(), f"above shop {self.served.generation} {position}")
         await self.hot(client)
-        for refused in (patch("os.dup", side_effect=OSError(24, "too many")), patch.object(self.way._library, "way_add", return_value=0)):
+        for refused in (
+            patch("os.dup", side_effect=OSError(24, "too many")),
+            patch.object(self.way._library, "way_add", return_value=0),
+        ):
             await self.hot(client)
             third = self.client()
             with refused:
@@ -525,7 +636,12 @@ class Lines(Hot):
         self.assert_whole()
 
     async def test_what_has_rung_as_it_begins_is_seen_to(self) -> None:
-        client, other, is_held, goes_on = self.client(), self.client(), asyncio.Event(), asyncio.Event()
+        client, other, is_held, goes_on = (
+            self.client(),
+            self.client(),
+            asyncio.Event(),
+            asyncio.Event(),
+        )
         pulling_line = Served.pulling_line
 
         async def held(served: Served) -> tuple[int, bytes, bytes]:
@@ -544,7 +660,9 @@ class Lines(Hot):
                 if rings:
                     client.send(f"ring shop {self.served.generation}")
                 else:
-                    other.send(self.durable(position), self.durable(position + 5))  # which cannot be lent
+                    other.send(
+                        self.durable(position), self.durable(position + 5)
+                    )  # which cannot be lent
                 await self.until(self.archiver._doorbell.is_set, "its ring")
                 await asyncio.sleep(0.01)
                 goes_on.set()
@@ -573,7 +691,9 @@ class Lines(Hot):
                 each.send(self.durable(position))
             gone[2].raw(b"durable sh")
             await asyncio.sleep(0.05)
-            gone[0].socket.setsockopt(socket.SOL_SOCKET, socket.SO_LINGER, b"\1\0\0\0\0\0\0\0")  # it is reset
+            gone[0].socket.setsockopt(
+                socket.SOL_SOCKET, socket.SO_LINGER, b"\1\0\0\0\0\0\0\0"
+            )  # it is reset
             for each in gone:
                 self.clients.remove(each)
                 each.socket.close()
@@ -581,7 +701,9 @@ class Lines(Hot):
         finally:
             await asyncio.to_thread(gate.open)
         self.assertEqual(await client.answer(), self.durable(position))
-        await self.until(lambda: len(self.keeper._server._open._lines) == 1, "the end of their connections")
+        await self.until(
+            lambda: len(self.keeper._server._open._lines) == 1, "the end of their connections"
+        )
         self.assertEqual((self.ends, len(self.database.waits)), ([], 0))
         await self.commit_quickly(client)
 
@@ -597,7 +719,9 @@ class Lines(Hot):
         await self.hot(client)
         self.assert_whole()
 
-    async def test_what_else_is_said_to_a_client_that_reads_nothing_is_whole_or_the_last(self) -> None:
+    async def test_what_else_is_said_to_a_client_that_reads_nothing_is_whole_or_the_last(
+        self,
+    ) -> None:
         client, deaf = await self.hot(), self.client()
         before = set(self.way._lent.values())
         await self.commit(deaf)
@@ -616,7 +740,12 @@ class Lines(Hot):
 class Statements(Hot):
     async def test_one_that_is_refused_is_made_again_by_the_keepers_path(self) -> None:
         client = await self.hot()
-        trigger = Trigger(self.url, "pagelog_block", "INSERT ON pagelog_block FOR EACH ROW", "RAISE EXCEPTION 'no room'")
+        trigger = Trigger(
+            self.url,
+            "pagelog_block",
+            "INSERT ON pagelog_block FOR EACH ROW",
+            "RAISE EXCEPTION 'no room'",
+        )
         position = self.write(2)
         client.send(self.durable(position))
         await self.until(lambda: End.DOUBT in self.ends, "its end")
@@ -629,9 +758,11 @@ class Statements(Hot):
 
     def deferred(self, body: str) -> None:
         """What is done as a statement is committed, behind its result."""
-        self.execute(f"CREATE OR REPLACE FUNCTION at_commit() RETURNS trigger LANGUAGE plpgsql AS $$ BEGIN {body}; RETURN NULL; END $$; "
-                     "CREATE CONSTRAINT TRIGGER at_commit AFTER UPDATE ON pagelog_log DEFERRABLE INITIALLY DEFERRED FOR EACH ROW "
-                     "EXECUTE FUNCTION at_commit()")  # fmt: skip
+        self.execute(
+            f"CREATE OR REPLACE FUNCTION at_commit() RETURNS trigger LANGUAGE plpgsql AS $$ BEGIN {body}; RETURN NULL; END $$; "
+            "CREATE CONSTRAINT TRIGGER at_commit AFTER UPDATE ON pagelog_log DEFERRABLE INITIALLY DEFERRED FOR EACH ROW "
+            "EXECUTE FUNCTION at_commit()"
+        )
 
     def undeferred(self) -> None:
         self.execute("DROP TRIGGER at_commit ON pagelog_log")
@@ -653,7 +784,9 @@ class Statements(Hot):
         await self.commit_quickly(client)
         self.assert_whole()
 
-    async def test_a_commit_with_a_warning_is_looked_up_before_it_is_told_and_a_notice_is_none(self) -> None:
+    async def test_a_commit_with_a_warning_is_looked_up_before_it_is_told_and_a_notice_is_none(
+        self,
+    ) -> None:
         client, looked = await self.hot(), list[bool]()
         look_up = Committer.look_up
 
@@ -677,7 +810,9 @@ class Statements(Hot):
         self.assertEqual((self.ends, looked), ([End.DOUBT], [False]))
         self.assert_whole()
 
-    async def test_a_turn_that_is_wanted_waits_until_it_is_known_what_became_of_the_statement(self) -> None:
+    async def test_a_turn_that_is_wanted_waits_until_it_is_known_what_became_of_the_statement(
+        self,
+    ) -> None:
         client, gate = await self.hot(), Gate(self.url, "true")
         try:
             position = self.write()
@@ -689,13 +824,17 @@ class Statements(Hot):
         finally:
             await asyncio.to_thread(gate.open)
         await asyncio.wait_for(turn, PATIENCE)
-        self.assertEqual((self.ends, self.served.reached, self.archived()), ([End.STOPPED], position, position))
+        self.assertEqual(
+            (self.ends, self.served.reached, self.archived()), ([End.STOPPED], position, position)
+        )
         self.assertEqual(self.served.chain, digest(b"", self.written))
         self.assertEqual(await client.answer(), self.durable(position))
         more = self.write()
         client.send(self.durable(more))
         await asyncio.sleep(0.05)
-        self.assertEqual((client.has_answer(), self.archived()), (False, position))  # who has the turn has it alone
+        self.assertEqual(
+            (client.has_answer(), self.archived()), (False, position)
+        )  # who has the turn has it alone
         self.archiver.turn.release()
         self.assertEqual(await client.answer(), self.durable(more))
         self.assert_whole()
@@ -774,15 +913,22 @@ class Fences(Hot):
         self.assertEqual(await client.answer(), self.durable(len(self.written)))
 
     async def test_the_archive_has_something_else(self) -> None:
-        await self.ended("archived = archived - 1, chain = 'otherotherother!'", is_over=True, is_told=True)
-        self.assertTrue(self.was.is_stuck and self.served.went_back)  # it was let go of, and its service is set aside
+        await self.ended(
+            "archived = archived - 1, chain = 'otherotherother!'", is_over=True, is_told=True
+        )
+        self.assertTrue(
+            self.was.is_stuck and self.served.went_back
+        )  # it was let go of, and its service is set aside
 
     async def test_the_archive_went_back(self) -> None:
         client = await self.hot()
         position = await self.commit_quickly(client, 5)
         back = position - 3
         with psycopg.connect(self.url) as connection:
-            connection.execute("UPDATE pagelog_log SET archived = %s, chain = %s", (back, digest(b"", self.written[:back])))
+            connection.execute(
+                "UPDATE pagelog_log SET archived = %s, chain = %s",
+                (back, digest(b"", self.written[:back])),
+            )
             connection.execute("DELETE FROM pagelog_block WHERE lsn > %s", (back,))
         position = self.write()
         self.assertEqual(await client.ask(self.durable(position)), self.durable(position))
@@ -794,7 +940,9 @@ class Fences(Hot):
         position = self.write(2)
         for lsn, block in zip((position - 1, position), self.written[-2:]):
             self.keep_block(lsn, block)
-        self.execute("UPDATE pagelog_log SET archived = %s, chain = %s", position, digest(b"", self.written))
+        self.execute(
+            "UPDATE pagelog_log SET archived = %s, chain = %s", position, digest(b"", self.written)
+        )
         self.assertEqual(await client.ask(self.durable(position)), self.durable(position))
         await self.hot(client)
         await self.commit_quickly(client)
@@ -807,7 +955,9 @@ class Cut(Hot):
 
     goes_through_line = True
 
-    async def test_one_that_is_cut_anywhere_is_whole_or_not_at_all_and_told_in_the_end(self) -> None:
+    async def test_one_that_is_cut_anywhere_is_whole_or_not_at_all_and_told_in_the_end(
+        self,
+    ) -> None:
         client, early, found = await self.hot(), list[bool](), set[tuple[str, int]]()
         look_up = Committer.look_up
 
@@ -822,7 +972,11 @@ class Cut(Hot):
         self.line.count_from_now(1 << 40, 1 << 40)
         await self.commit_quickly(client)
         to, back = (1 << 40) - self.line.left["to"], (1 << 40) - self.line.left["back"]
-        cuts = [("to", at) for at in (0, to // 2, to - 6, to - 1)] + [("back", at) for at in range(0, back, 5)] + [("back", back - 1)]
+        cuts = (
+            [("to", at) for at in (0, to // 2, to - 6, to - 1)]
+            + [("back", at) for at in range(0, back, 5)]
+            + [("back", back - 1)]
+        )
         for way, at in cuts:
             self.line.count_from_now()
             await self.hot(client)
@@ -850,7 +1004,9 @@ class Stalled(Hot):
         client.send(self.durable(position))
         await self.until(lambda: self.archived() == position, "its commit")
         await asyncio.sleep(0.1)
-        self.assertEqual((client.has_answer(), self.way.reached[0], self.ends), (False, position - 1, []))
+        self.assertEqual(
+            (client.has_answer(), self.way.reached[0], self.ends), (False, position - 1, [])
+        )
         self.session.referee.cut()
         self.assertEqual(await client.answer(), self.durable(position))
         self.assertEqual(self.ends, [End.DOUBT])
@@ -879,7 +1035,9 @@ class Stalled(Hot):
             await self.hot(client)
         self.assert_whole()
 
-    async def test_one_that_hangs_is_in_doubt_after_its_time_whatever_lines_say_meanwhile(self) -> None:
+    async def test_one_that_hangs_is_in_doubt_after_its_time_whatever_lines_say_meanwhile(
+        self,
+    ) -> None:
         client, other = await self.hot(), self.client()
         self.plane.deadline = 0.5
         self.archiver._end_way()
@@ -998,14 +1156,22 @@ class CutAsItIsConfirmed(Confirming):
         self.line.count_from_now(1 << 40, 1 << 40)
         await self.commit_quickly(client)
         to, back = (1 << 40) - self.line.left["to"], (1 << 40) - self.line.left["back"]
-        for way, at in (("to", to - 6), ("to", to - 1), *(("back", at) for at in range(0, back, 5)), ("back", back - 1)):
+        for way, at in (
+            ("to", to - 6),
+            ("to", to - 1),
+            *(("back", at) for at in range(0, back, 5)),
+            ("back", back - 1),
+        ):
             await self.hot(client)
             self.ends.clear()
             self.line.count_from_now(**{way: at})
             position = self.write()
             client.send(self.durable(position))
             await self.until(lambda: self.ends, "its end")
-            self.assertEqual((self.ends[0], way, at, await client.answer()), (End.DOUBT, way, at, self.durable(position)))
+            self.assertEqual(
+                (self.ends[0], way, at, await client.answer()),
+                (End.DOUBT, way, at, self.durable(position)),
+            )
             self.assertEqual(set(early), {False}, (way, at))
         self.assert_whole()
 
@@ -1017,10 +1183,16 @@ class Services(Hot):
         body = bytes([kind]) + b"".join(fields)
         return len(body).to_bytes(4, "big") + body
 
-    def blocks_reply(self, first: int, made: list[bytes], next: int | None = None, count: int | None = None) -> bytes:
+    def blocks_reply(
+        self, first: int, made: list[bytes], next: int | None = None, count: int | None = None
+    ) -> bytes:
         next = first + len(made) if next is None else next
-        return self.reply(1, next.to_bytes(8, "big"), (len(made) if count is None else count).to_bytes(2, "big"),
-                          *(len(block).to_bytes(4, "big") + block for block in made))  # fmt: skip
+        return self.reply(
+            1,
+            next.to_bytes(8, "big"),
+            (len(made) if count is None else count).to_bytes(2, "big"),
+            *(len(block).to_bytes(4, "big") + block for block in made),
+        )
 
     async def pretended(self, reply: Callable[[int, bytes], bytes | None]) -> tuple[Client, int]:
         """A client of a database whose service answers the pulls of the quick way so, once there is a block at the position."""
@@ -1030,7 +1202,11 @@ class Services(Hot):
         pulling_line = Served.pulling_line
 
         async def line(served: Served) -> tuple[int, bytes, bytes]:
-            return (theirs.detach(), frame, b"") if theirs.fileno() >= 0 else await pulling_line(served)
+            return (
+                (theirs.detach(), frame, b"")
+                if theirs.fileno() >= 0
+                else await pulling_line(served)
+            )
 
         def serve() -> None:
             with ours, suppress(OSError):
@@ -1057,12 +1233,22 @@ class Services(Hot):
             "another kind": lambda lsn, block: self.reply(0),
             "nothing": lambda lsn, block: b"\0\0\0\0",
             "too long": lambda lsn, block: b"\xff\xff\xff\xff",
-            "another rule": lambda lsn, block: self.reply(5, b"\3\0\2", (lsn - 1).to_bytes(8, "big")),
-            "another section": lambda lsn, block: self.reply(5, b"\2\0\1", (lsn - 1).to_bytes(8, "big")),
-            "another end": lambda lsn, block: self.reply(5, b"\3\0\1", (lsn - 2).to_bytes(8, "big")),
-            "a longer denial": lambda lsn, block: self.reply(5, b"\3\0\1", (lsn - 1).to_bytes(8, "big"), b"x"),
+            "another rule": lambda lsn, block: self.reply(
+                5, b"\3\0\2", (lsn - 1).to_bytes(8, "big")
+            ),
+            "another section": lambda lsn, block: self.reply(
+                5, b"\2\0\1", (lsn - 1).to_bytes(8, "big")
+            ),
+            "another end": lambda lsn, block: self.reply(
+                5, b"\3\0\1", (lsn - 2).to_bytes(8, "big")
+            ),
+            "a longer denial": lambda lsn, block: self.reply(
+                5, b"\3\0\1", (lsn - 1).to_bytes(8, "big"), b"x"
+            ),
             "an epoch": lambda lsn, block: self.reply(5, b"\1\0\1", (9).to_bytes(8, "big")),
-            "another block": lambda lsn, block: self.blocks_reply(lsn, [(lsn + 1).to_bytes(8, "big") + block[8:]]),
+            "another block": lambda lsn, block: self.blocks_reply(
+                lsn, [(lsn + 1).to_bytes(8, "big") + block[8:]]
+            ),
             "another next": lambda lsn, block: self.blocks_reply(lsn, [block], lsn + 2),
             "none, and another next": lambda lsn, block: self.blocks_reply(lsn, [], lsn + 1),
             "fewer blocks": lambda lsn, block: self.blocks_reply(lsn, [block], count=2),
@@ -1074,7 +1260,9 @@ class Services(Hot):
         for what, reply in replies.items():
             with self.subTest(what):
                 self.ends.clear()
-                client, _ = await self.pretended(lambda lsn, block: reply(lsn, block) if block else end(lsn))
+                client, _ = await self.pretended(
+                    lambda lsn, block: reply(lsn, block) if block else end(lsn)
+                )
                 if not self.ends:
                     await self.commit(client)
                 await self.until(lambda: self.ends, "its end")
@@ -1082,6 +1270,32 @@ class Services(Hot):
                 await self.hot(client)
                 self.archiver._end_way()
                 await self.until(lambda: not self.is_hot, "the end of the next one")
+        self.assert_whole()
+
+    async def test_the_length_of_a_reply_behind_others_takes_no_memory(self) -> None:
+        full: list[int] = []
+
+        def reply(lsn: int, block: bytes) -> bytes | None:
+            first = lsn if not full else full[-1] + PULL_MAX  # of the pulls that it asks at once
+            made = self.written[first - 1 : first - 1 + PULL_MAX]
+            if len(made) < PULL_MAX:
+                return (
+                    self.reply(5, b"\3\0\1", (lsn - 1).to_bytes(8, "big"))
+                    if not made
+                    else self.blocks_reply(first, made)
+                )
+            full.append(first)
+            return self.blocks_reply(first, made) + (b"\xff\xff\xff\xff" if len(full) > 1 else b"")
+
+        client, _ = await self.pretended(reply)
+        most, hard = resource.getrlimit(resource.RLIMIT_AS)
+        resource.setrlimit(resource.RLIMIT_AS, (memory_now() + (1 << 30), hard))
+        self.addCleanup(resource.setrlimit, resource.RLIMIT_AS, (most, hard))
+        position = self.write(2 * PULL_MAX)
+        client.send(self.durable(position))
+        await self.until(lambda: self.ends, "its end")
+        self.assertEqual((self.ends[0], len(full)), (End.SERVICE, 2))
+        self.assertEqual(await client.answer(), self.durable(position))
         self.assert_whole()
 
     async def test_a_reply_that_comes_byte_by_byte_is_taken(self) -> None:
@@ -1097,7 +1311,11 @@ class Services(Hot):
                 while asked := ours.recv(4096):
                     lsn = int.from_bytes(asked[-10:-2], "big")
                     rest = self.written[lsn - 1 :]
-                    answer = self.blocks_reply(lsn, rest) if rest else self.reply(5, b"\3\0\1", (lsn - 1).to_bytes(8, "big"))
+                    answer = (
+                        self.blocks_reply(lsn, rest)
+                        if rest
+                        else self.reply(5, b"\3\0\1", (lsn - 1).to_bytes(8, "big"))
+                    )
                     for at in range(len(answer)):
                         ours.sendall(answer[at : at + 1])
                         time.sleep(0.0005)
@@ -1144,13 +1362,23 @@ class Services(Hot):
         await asyncio.to_thread(self.served.close)  # a fence begins an epoch of its own
         await asyncio.to_thread(self.served.open)
         before = len(self.written)
-        self.assertEqual(await client.ask(self.durable(before + 1)), f"above shop {self.served.generation} {before}")
+        self.assertEqual(
+            await client.ask(self.durable(before + 1)),
+            f"above shop {self.served.generation} {before}",
+        )
         self.assertEqual(self.ends, [End.SERVICE])
 
     async def test_blocks_without_records_are_left_to_the_keepers_path(self) -> None:
         client = await self.hot()
         first = len(self.written) + 1
-        position = self.write(made=[blocks(first, 1)[0], Block.of(first + 1, []).data, blocks(first + 2, 1)[0], Block.of(first + 3, []).data])
+        position = self.write(
+            made=[
+                blocks(first, 1)[0],
+                Block.of(first + 1, []).data,
+                blocks(first + 2, 1)[0],
+                Block.of(first + 3, []).data,
+            ]
+        )
         self.assertEqual(await client.ask(self.durable(position)), self.durable(position))
         self.assertEqual(self.ends[0], End.SERVICE)
         await self.hot(client)
@@ -1187,9 +1415,13 @@ class Trails(Hot):
     async def assert_with_lines(self, position: int) -> None:
         """The block up to there was hardened by a line that is kept."""
         found = await self.trail()
-        self.assertGreaterEqual(max(entry.a for entry in found if entry.operation is Operation.REPORT), position)
+        self.assertGreaterEqual(
+            max(entry.a for entry in found if entry.operation is Operation.REPORT), position
+        )
 
-    async def test_lines_are_kept_with_their_blocks_and_gone_on_with_by_the_keepers_path(self) -> None:
+    async def test_lines_are_kept_with_their_blocks_and_gone_on_with_by_the_keepers_path(
+        self,
+    ) -> None:
         client = await self.hot()
         for count in (1, 3, 20, 300):
             await self.assert_with_lines(await self.commit_quickly(client, count))
@@ -1221,7 +1453,12 @@ class Trails(Hot):
 
     async def test_lines_in_doubt_are_asked_of_the_trail(self) -> None:
         client = await self.hot()
-        trigger = Trigger(self.url, "pagelog_log", "UPDATE ON pagelog_log FOR EACH ROW", "RAISE WARNING 'cancelled'")
+        trigger = Trigger(
+            self.url,
+            "pagelog_log",
+            "UPDATE ON pagelog_log FOR EACH ROW",
+            "RAISE WARNING 'cancelled'",
+        )
         position = self.write()
         client.send(self.durable(position))
         await self.until(lambda: End.DOUBT in self.ends, "its end")
@@ -1256,7 +1493,10 @@ class Ends(Hot):
         return len(os.listdir("/proc/self/fd")), len(os.listdir("/proc/self/task"))
 
     async def few_more_are_open_than(self, before: tuple[int, int]) -> None:
-        await self.until(lambda: all(now < then + self.FEW for now, then in zip(self.open(), before)), f"few more than {before} are open")
+        await self.until(
+            lambda: all(now < then + self.FEW for now, then in zip(self.open(), before)),
+            f"few more than {before} are open",
+        )
 
     async def test_many_of_them_leave_nothing(self) -> None:
         client = await self.hot()
@@ -1280,8 +1520,10 @@ class Ends(Hot):
 
     async def test_one_that_cannot_begin_leaves_nothing(self) -> None:
         client = await self.hot()
-        for refused in (patch.object(self.way._library, "way_new", return_value=None),
-                        patch.object(Served, "pulling_line", side_effect=OSError(111, "refused"))):  # fmt: skip
+        for refused in (
+            patch.object(self.way._library, "way_new", return_value=None),
+            patch.object(Served, "pulling_line", side_effect=OSError(111, "refused")),
+        ):
             before = self.open()
             with refused as call:
                 self.archiver._end_way()
@@ -1305,6 +1547,7 @@ class Ends(Hot):
         assert self.plane._running is not None
         self.assertTrue(self.plane._running.done())
 
+
 class Without(Hot):
     """Where there is no quick way all goes on by the other path."""
 
@@ -1312,7 +1555,9 @@ class Without(Hot):
 
     async def goes_on(self) -> None:
         client = self.client()
-        with patch.object(QuickPlane, "way_of", side_effect=AssertionError("a quick way")) if self.shared.ways is None else suppress():
+        with patch.object(
+            QuickPlane, "way_of", side_effect=AssertionError("a quick way")
+        ) if self.shared.ways is None else suppress():
             for _ in range(8):
                 await self.commit(client)
                 client.send(f"ring shop {self.served.generation}")
@@ -1322,7 +1567,11 @@ class Without(Hot):
 
     async def test_it_was_not_built(self) -> None:
         with patch("importlib.util.find_spec", return_value=None):
-            self.shared.ways = QuickPlane(lambda: QuickReferee(self.url, "one", "life of one"), idle=PATIENCE, deadline=PATIENCE)
+            self.shared.ways = QuickPlane(
+                lambda: QuickReferee(self.url, "one", "life of one"),
+                idle=PATIENCE,
+                deadline=PATIENCE,
+            )
         self.assertFalse(self.shared.ways.is_there)
         self.archiver._ways = self.shared.ways
         await self.goes_on()
@@ -1344,10 +1593,17 @@ class Without(Hot):
         sections: tuple[dict[str, Any], ...] = ({"trail": 7}, {"require_standby": True}, {})
         for section in sections:
             with patch("pagelog.keeper.keeping.Folder"):
-                made = Keeper(Settings.of("one", "127.0.0.1:0", "127.0.0.1", Path("."), PROGRAM, self.url, section))
+                made = Keeper(
+                    Settings.of(
+                        "one", "127.0.0.1:0", "127.0.0.1", Path("."), PROGRAM, self.url, section
+                    )
+                )
             ways = made._shared.ways
             assert ways is not None
-            self.assertEqual((ways.confirms, len(ways.values)), ("require_standby" in section, 4 if "trail" in section else 3))
+            self.assertEqual(
+                (ways.confirms, len(ways.values)),
+                ("require_standby" in section, 4 if "trail" in section else 3),
+            )
 
 
 @unittest.skipUnless(IS_BUILT, "the quick way is not built")
@@ -1389,7 +1645,9 @@ class Moves(KeptService):
     def test_databases_that_commit_at_once_all_go_the_quick_way(self) -> None:
         names, stops = ("shop", "ship", "shed"), threading.Event()
         for name in names[1:]:
-            self.assertTrue(self.keeping.referee.create(name, self.keeping.table.read_text(), b"s" * 16))
+            self.assertTrue(
+                self.keeping.referee.create(name, self.keeping.table.read_text(), b"s" * 16)
+            )
         self.keeping.ring()
         eventually(lambda: all(self.is_known(name) for name in names), "keepers that know them")
 
@@ -1417,7 +1675,12 @@ class Moves(KeptService):
     def quick(self) -> set[str]:
         """The databases that have it, by the metrics of all keepers."""
         found = [self.keeping.metrics(keeper) for keeper in self.keepers]
-        return {label for metrics in found for (name, label), value in metrics.items() if name == "pagelog_keeper_quick" and value}
+        return {
+            label
+            for metrics in found
+            for (name, label), value in metrics.items()
+            if name == "pagelog_keeper_quick" and value
+        }
 
     def until_it_is_quick(self) -> None:
         """Until the statement of one block, which nobody else makes, was asked from now on."""
@@ -1425,7 +1688,9 @@ class Moves(KeptService):
             [(now,)] = session.execute("SELECT clock_timestamp()").fetchall()
             asked = "SELECT 1 FROM pg_stat_activity WHERE application_name LIKE %s AND query LIKE %s AND query_start > %s"
             values = ("pagelog keeper%", "%FROM fence RETURNING log%", now)
-            eventually(lambda: session.execute(asked, values).fetchone() is not None, "the quick way")
+            eventually(
+                lambda: session.execute(asked, values).fetchone() is not None, "the quick way"
+            )
 
 
 def load_tests(loader: unittest.TestLoader, *_: object) -> unittest.TestSuite:
@@ -1433,4 +1698,19 @@ def load_tests(loader: unittest.TestLoader, *_: object) -> unittest.TestSuite:
 
 
 def _cases() -> Iterator[type[unittest.TestCase]]:
-    yield from (Tells, Shifted, Lines, Statements, Fences, Cut, Stalled, Confirmed, CutAsItIsConfirmed, Services, Trails, Ends, Without, Moves)
+    yield from (
+        Tells,
+        Shifted,
+        Lines,
+        Statements,
+        Fences,
+        Cut,
+        Stalled,
+        Confirmed,
+        CutAsItIsConfirmed,
+        Services,
+        Trails,
+        Ends,
+        Without,
+        Moves,
+    )

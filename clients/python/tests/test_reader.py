@@ -28,7 +28,10 @@ class Reading(unittest.TestCase):
         for lsn in range(1, 6):
             self.primary.append(put(lsn, bytes([lsn])), put(1, bytes([lsn]), 100))
             self.primary.commit()
-        self.assertEqual([page.data[:1] for page in self.reader.pages(range(1, 6), 3)], [b"\x01", b"\x02", b"\x03", b"\0", b"\0"])
+        self.assertEqual(
+            [page.data[:1] for page in self.reader.pages(range(1, 6), 3)],
+            [b"\x01", b"\x02", b"\x03", b"\0", b"\0"],
+        )
         self.assertEqual(self.reader.page(1, 4).data[100:101], b"\x04")
         with self.assertRaises(pagelog.AboveTheEnd) as raised:
             self.reader.page(1, 6)
@@ -41,7 +44,12 @@ class Reading(unittest.TestCase):
     def test_all_blocks_once_whatever_the_gaps(self) -> None:
         fill(self.primary, 500)
         blocks = list(self.reader.blocks(1, follow=False))
-        one_by_one = [block for lsn in range(1, 501) for block in self.reader.pull(lsn, max=1).blocks if block.lsn == lsn]
+        one_by_one = [
+            block
+            for lsn in range(1, 501)
+            for block in self.reader.pull(lsn, max=1).blocks
+            if block.lsn == lsn
+        ]
         self.assertEqual(blocks, one_by_one)
         self.assertLess(len(blocks), 500)
         for pulls in (1, 2, 5):
@@ -61,7 +69,9 @@ class Reading(unittest.TestCase):
                 span = reader.span(1, pulls=pulls)
                 self.assertEqual((span.last, len(span.blocks)), (wanted, wanted))
                 entries = list(operator.entries(before + 1))
-                self.assertEqual(sum(entry.operation is Operation.PULL for entry in entries), -(-wanted // 16))
+                self.assertEqual(
+                    sum(entry.operation is Operation.PULL for entry in entries), -(-wanted // 16)
+                )
 
     def test_a_log_that_went_back_to_where_it_goes_on_is_noticed(self) -> None:
         list(self.primary.stream([put(0, b"x")] for _ in range(100)))
@@ -78,8 +88,12 @@ class Reading(unittest.TestCase):
         list(self.primary.stream([put(0, b"x")] for _ in range(3)))
         self.reader.status()
         self.reader.connection.exchange = lambda requests, *_: (  # type: ignore[method-assign]
-            pagelog.reply.Blocks(request.act.lsn, ()) for request in requests)  # type: ignore[union-attr]
-        for asks in (lambda: self.reader.span(1), lambda: list(self.reader.blocks(1, follow=False))):
+            pagelog.reply.Blocks(request.act.lsn, ()) for request in requests
+        )  # type: ignore[union-attr]
+        for asks in (
+            lambda: self.reader.span(1),
+            lambda: list(self.reader.blocks(1, follow=False)),
+        ):
             with self.assertRaises(pagelog.UnexpectedReply):
                 asks()
 
@@ -127,7 +141,9 @@ class Reading(unittest.TestCase):
 
     def test_following_costs_little_while_nothing_comes(self) -> None:
         done = time.monotonic() + 1.0
-        self.assertEqual(list(self.reader.blocks(1, idle=0.25, stop=lambda: time.monotonic() > done)), [])
+        self.assertEqual(
+            list(self.reader.blocks(1, idle=0.25, stop=lambda: time.monotonic() > done)), []
+        )
         with self.service.operator() as operator:
             self.assertIn(len(operator.audit(1)), range(1, 14))
 
@@ -138,7 +154,9 @@ class Reading(unittest.TestCase):
                     primary.append(put(0, b"x"))
                     lsn = primary.commit()
                 operator.failover(2)
-                self.assertEqual([block.lsn for block in self.reader.blocks(lsn, follow=False)], [lsn])
+                self.assertEqual(
+                    [block.lsn for block in self.reader.blocks(lsn, follow=False)], [lsn]
+                )
                 self.assertEqual(self.reader.status().epoch, epoch)
 
 
@@ -146,11 +164,18 @@ class Pages(unittest.TestCase):
     def test_the_lines_of_the_readme_and_of_the_package_run(self) -> None:
         readme = (SOURCE.parent / "README.md").read_text()
         lines = re.findall(r"^```python\n(.*?)^```", readme, flags=re.S | re.M)[0]
-        docstring = textwrap.dedent((pagelog.__doc__ or "").split("\n\n", 1)[1].split("\n\n`Primary`")[0])
+        docstring = textwrap.dedent(
+            (pagelog.__doc__ or "").split("\n\n", 1)[1].split("\n\n`Primary`")[0]
+        )
         self.assertEqual(docstring.strip(), lines.strip())
         with Service() as service:
             code = lines.replace("127.0.0.1:7403", service.address)
-            done = subprocess.run([sys.executable, "-B", "-c", code], env={"PYTHONPATH": str(SOURCE)}, capture_output=True, text=True)
+            done = subprocess.run(
+                [sys.executable, "-B", "-c", code],
+                env={"PYTHONPATH": str(SOURCE)},
+                capture_output=True,
+                text=True,
+            )
         self.assertEqual((done.stdout, done.stderr), ("b'hello'\n1 (Put(page=0, offset=0),)\n", ""))
 
 
@@ -161,16 +186,24 @@ class PageServers(unittest.TestCase):
             self.assertEqual(server.step(), 0)
             list(primary.stream([Put(0, 0, bytes([at % 256]))] for at in range(1100)))
             self.assertEqual((reader.applied(0), server.step(), server.step()), (0, 1100, 0))
-            self.assertEqual((reader.applied(0), reader.applied(1), reader.applied(2)), (1100, 0, 1100))
+            self.assertEqual(
+                (reader.applied(0), reader.applied(1), reader.applied(2)), (1100, 0, 1100)
+            )
             self.assertEqual(reader.page(0, 5, exact=False).at, 1100)
-            steps = [(entry.a, entry.b) for entry in operator.entries(1) if entry.operation == Operation.ADVANCE]
+            steps = [
+                (entry.a, entry.b)
+                for entry in operator.entries(1)
+                if entry.operation == Operation.ADVANCE
+            ]
             self.assertEqual(steps, [(0, 1024), (0, 76), (2, 1024), (2, 76)])
             before, began = operator.count_of_entries(), time.monotonic()
             done = threading.Event()
             thread = threading.Thread(target=server.run, kwargs={"idle": 0.2, "stop": done.is_set})
             thread.start()
             time.sleep(0.8)
-            self.assertLess(operator.count_of_entries() - before, 50 + 2 * (time.monotonic() - began) / 0.2)
+            self.assertLess(
+                operator.count_of_entries() - before, 50 + 2 * (time.monotonic() - began) / 0.2
+            )
             primary.append(put(0, b"new"))
             lsn = primary.commit()
             deadline = time.monotonic() + PATIENCE
@@ -204,7 +237,9 @@ class PageServers(unittest.TestCase):
 class Operators(unittest.TestCase):
     def test_failovers(self) -> None:
         with Service() as service, service.operator() as operator, service.operator() as second:
-            self.assertEqual((operator.failover(5), operator.failover(2), second.failover(5)), (2, 3, 4))
+            self.assertEqual(
+                (operator.failover(5), operator.failover(2), second.failover(5)), (2, 3, 4)
+            )
             with self.assertRaises(pagelog.OlderEpoch) as raised:
                 operator.failover(2, epoch=3)
             self.assertEqual((raised.exception.epoch, operator.epoch), (4, 4))
@@ -228,13 +263,17 @@ class Operators(unittest.TestCase):
 
     def test_a_fence_lets_nobody_write_also_where_a_failover_comes_between(self) -> None:
         closed = TableText(WIDE_TABLE).without_writes()
-        with Service(table=WIDE_TABLE) as service, service.operator() as operator, service.operator() as second:
+        with Service(
+            table=WIDE_TABLE
+        ) as service, service.operator() as operator, service.operator() as second:
             self.assertEqual(operator.status().epoch, 1)
             with service.primary(5) as writer:
                 self.assertEqual(second.failover(5), 2)
                 fill(writer, 3)
                 state = operator.fence(closed, 2)
-                self.assertEqual((state.epoch, state.primary, state.hard, operator.epoch), (3, 2, 3, 3))
+                self.assertEqual(
+                    (state.epoch, state.primary, state.hard, operator.epoch), (3, 2, 3, 3)
+                )
                 writer.append(put(0, b"x"))
                 with self.assertRaises((pagelog.OlderEpoch, pagelog.TableRow)):
                     writer.commit()
@@ -247,16 +286,24 @@ class Operators(unittest.TestCase):
             self.assertEqual(operator.count_of_entries(), 0)
             primary.append(put(70000, b"x"))
             primary.commit()
-            for operation in (one for one, act in WITHOUT_ARGUMENTS.items() if Role.OPERATOR in act.roles):
+            for operation in (
+                one for one, act in WITHOUT_ARGUMENTS.items() if Role.OPERATOR in act.roles
+            ):
                 getattr(operator, operation.word)()
             with self.assertRaises(pagelog.BelowQuorum):
                 pagelog.reply.expect(pagelog.reply.Done, primary._ask(pagelog.request.Report(9)))
             entries = list(operator.entries(1))
             self.assertEqual([entry.number for entry in entries], list(range(1, len(entries) + 1)))
             last = entries[-1]
-            self.assertEqual((last.operation, last.place, last.rule, last.value, last.a), (Operation.REPORT, "C6", "BelowQuorum", 1, 9))
+            self.assertEqual(
+                (last.operation, last.place, last.rule, last.value, last.a),
+                (Operation.REPORT, "C6", "BelowQuorum", 1, 9),
+            )
             write = next(entry for entry in entries if entry.operation is Operation.WRITE)
-            self.assertEqual((write.a, write.b, write.principal, write.is_allowed, write.place), (1, 0, 2, True, ""))
+            self.assertEqual(
+                (write.a, write.b, write.principal, write.is_allowed, write.place),
+                (1, 0, 2, True, ""),
+            )
 
     def test_its_length_is_found(self) -> None:
         with Service() as service, service.operator() as operator, service.reader() as reader:

@@ -63,7 +63,9 @@ class Superseded(Named):
                 pass
 
     def reader(self) -> NamedReader:
-        return self.enterContext(NamedReader("shop", self.addresses, 3, token(3), patience=PATIENCE, timeout=PATIENCE))
+        return self.enterContext(
+            NamedReader("shop", self.addresses, 3, token(3), patience=PATIENCE, timeout=PATIENCE)
+        )
 
     def superseded(self) -> None:
         self.stands_still = True
@@ -85,7 +87,10 @@ class Superseded(Named):
         self.commit(2)
         reader = self.reader()
         self.assertEqual((reader.end(), reader.end()), (2, 2))
-        eventually(lambda: reader._poll is not None and reader._poll._thread is None, "the end of the poll of an idle reader")
+        eventually(
+            lambda: reader._poll is not None and reader._poll._thread is None,
+            "the end of the poll of an idle reader",
+        )
         return reader
 
     def test_one_that_has_not_read_for_a_while_asks_before_it_reads(self) -> None:
@@ -100,9 +105,13 @@ class Superseded(Named):
         self.commit(2)
         reader = self.reader()
         late = [0.0]
-        with patch("pagelog.polling.time.monotonic", lambda now=time.monotonic: now() + late[0]), patch("pagelog.polling.EACH", PATIENCE):
+        with patch(
+            "pagelog.polling.time.monotonic", lambda now=time.monotonic: now() + late[0]
+        ), patch("pagelog.polling.EACH", PATIENCE):
             self.assertEqual((reader.end(), reader.end()), (2, 2))
-            eventually(lambda: reader._poll is not None and reader._poll._asked > 0, "the first round")
+            eventually(
+                lambda: reader._poll is not None and reader._poll._asked > 0, "the first round"
+            )
             self.superseded()
             late[0] = 60.0
             with patch("pagelog.polling._ANSWER", PATIENCE):
@@ -111,7 +120,9 @@ class Superseded(Named):
     def test_a_drop_that_postgresql_has_undone_is_told_no_more(self) -> None:
         place = Place(1, "r", "127.0.0.1:1", 0, "127.0.0.1:2", 0, 0)
         poll = HolderPoll("shop", ["127.0.0.1:2"], place)
-        poll._keepers = Mock(where=Mock(side_effect=[Dropped("shop", "the database was dropped"), *[place] * 1000]))
+        poll._keepers = Mock(
+            where=Mock(side_effect=[Dropped("shop", "the database was dropped"), *[place] * 1000])
+        )
 
         def is_told() -> bool:
             try:
@@ -132,7 +143,9 @@ class Superseded(Named):
             late[0] += 60.0 if thread.name == "pagelog-holder" else 0.0
             start(thread)
 
-        with patch("pagelog.polling.time.monotonic", lambda now=time.monotonic: now() + late[0]), patch.object(threading.Thread, "start", started):
+        with patch(
+            "pagelog.polling.time.monotonic", lambda now=time.monotonic: now() + late[0]
+        ), patch.object(threading.Thread, "start", started):
             with patch("pagelog.polling._ANSWER", 10.0):
                 self.assertEqual(reader.end(), 7)
 
@@ -215,7 +228,9 @@ class Durable(Named):
     def test_keepers_that_do_not_answer_are_not_asked_each_time(self) -> None:
         self.begin()
         self.commit(9)
-        with patch("pagelog.named_reader._LEAST_PAUSE", PATIENCE), patch("pagelog.named_reader._LONGEST_PAUSE", PATIENCE):
+        with patch("pagelog.named_reader._LEAST_PAUSE", PATIENCE), patch(
+            "pagelog.named_reader._LONGEST_PAUSE", PATIENCE
+        ):
             reader = self.reader()
         self.archived = 4
         self.assertEqual([reader.end() for _ in range(10)], [4] * 10)
@@ -234,7 +249,9 @@ class Durable(Named):
     def test_a_standby_is_told_once_its_holder_has_archived(self) -> None:
         """What is archived meanwhile."""
         reader = self.at_standby()
-        self.keepers.archived_at_once.side_effect = lambda place, known, _: 4 if place.generation > 0 else None
+        self.keepers.archived_at_once.side_effect = (
+            lambda place, known, _: 4 if place.generation > 0 else None
+        )
         self.assertEqual((reader.end(), reader.place.generation), (4, 0))
         self.keepers.follow.assert_not_called()
         self.keepers.archived_at_once.side_effect = lambda place, known, _: 5
@@ -250,12 +267,18 @@ class Durable(Named):
         self.keepers.follow.assert_called_once()
 
     def of_run_at(self, place: Place) -> Any:
-        return self.enterContext(pagelog.Primary(pagelog.Connection(place.address, timeout=PATIENCE), pagelog.Credentials(2, self.token(2, place.run))))
+        return self.enterContext(
+            pagelog.Primary(
+                pagelog.Connection(place.address, timeout=PATIENCE),
+                pagelog.Credentials(2, self.token(2, place.run)),
+            )
+        )
 
     def test_a_standby_that_does_not_follow_is_not_waited_for_each_time(self) -> None:
         for archived in (9, None):  # nor a holder that does not answer
-            with self.subTest(archived=archived), patch("pagelog.named_reader._LEAST_PAUSE", PATIENCE), patch(
-                    "pagelog.named_reader._LONGEST_PAUSE", PATIENCE):  # fmt: skip
+            with self.subTest(archived=archived), patch(
+                "pagelog.named_reader._LEAST_PAUSE", PATIENCE
+            ), patch("pagelog.named_reader._LONGEST_PAUSE", PATIENCE):
                 reader = self.at_standby()
                 self.keepers.archived_at_once.reset_mock()
                 self.keepers.archived_at_once.return_value = archived
@@ -293,10 +316,15 @@ class Keepers(unittest.TestCase):
             primary.append(put(0, b"1"))
             self.assertEqual((primary.commit(durable=True), reader.end()), (1, 1))
             place = keeping.place()
-            holder = next(name for name, port in keeping.ports.items() if place.lines.endswith(f":{port}"))
+            holder = next(
+                name for name, port in keeping.ports.items() if place.lines.endswith(f":{port}")
+            )
             service = keeping.pid()
             keeping.kill(holder, signal.SIGSTOP)
-            for number in (2, 3):  # the first of them came into the log of the service that it has left, too
+            for number in (
+                2,
+                3,
+            ):  # the first of them came into the log of the service that it has left, too
                 primary.append(put(0, b"%d" % number))
                 self.assertEqual(primary.commit(durable=True), number)
             eventually(lambda: reader.end() == 3, "the end of the next generation")

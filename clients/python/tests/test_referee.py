@@ -46,7 +46,9 @@ class Referees(unittest.TestCase):
 
     def rows(self) -> list[int]:
         with psycopg.connect(self.url) as connection:
-            return [lsn for lsn, in connection.execute("SELECT lsn FROM pagelog_block ORDER BY lsn")]
+            return [
+                lsn for lsn, in connection.execute("SELECT lsn FROM pagelog_block ORDER BY lsn")
+            ]
 
 
 class Fences(Referees):
@@ -58,13 +60,20 @@ class Fences(Referees):
         kept = self.taken()
         self.assertEqual((kept.archived, kept.generation, kept.chain), (0, 1, b""))
         batch = batch_of(self.row, kept, "r1")
-        for wrong in (replace(batch, run="r2"), replace(batch, generation=2), replace(batch, old=1), replace(batch, log=99)):
+        for wrong in (
+            replace(batch, run="r2"),
+            replace(batch, generation=2),
+            replace(batch, old=1),
+            replace(batch, log=99),
+        ):
             self.assertEqual(self.kept_by_both(wrong), frozenset())
         self.assertEqual((self.rows(), self.seen().archived), ([], 0))
         self.assertEqual(self.referee.keep([batch]), {self.row.id})
         self.assertEqual(self.kept_by_both(batch), frozenset())
         seen = self.seen()
-        self.assertEqual((seen.archived, seen.chain, self.everything()), (3, batch.chain, list(batch.blocks)))
+        self.assertEqual(
+            (seen.archived, seen.chain, self.everything()), (3, batch.chain, list(batch.blocks))
+        )
         self.assertEqual(seen.chain, digest(b"", blocks(1, 3)))
 
     def test_it_is_known_whether_it_has_what_a_look_has_shown(self) -> None:
@@ -72,8 +81,15 @@ class Fences(Referees):
         self.referee.keep([batch_of(self.row, kept, "r1")])
         shown = self.seen()
         self.assertFalse(self.referee.lacks(shown))
-        self.assertFalse(self.referee.lacks(replace(shown, archived=1, chain=b"of 1")))  # it has gone on since
-        for other in (replace(shown, archived=4), replace(shown, chain=b"other"), replace(shown, identity="0" * 32), replace(shown, id=99)):
+        self.assertFalse(
+            self.referee.lacks(replace(shown, archived=1, chain=b"of 1"))
+        )  # it has gone on since
+        for other in (
+            replace(shown, archived=4),
+            replace(shown, chain=b"other"),
+            replace(shown, identity="0" * 32),
+            replace(shown, id=99),
+        ):
             self.assertTrue(self.referee.lacks(other))
 
     def test_after_a_take_the_old_run_keeps_nothing(self) -> None:
@@ -138,13 +154,20 @@ class Fences(Referees):
         other, seen = self.new("two"), self.seen()
         for chain in (b"", b"x" * 16):
             self.assertIsNone(other.take(seen, "r2", None, Where("y:1", 5, 2, chain)))
-        self.assertEqual(other.take(seen, "r2", None, Where("y:1", 5, 2, batch.chain)), Kept(3, batch.chain, 2))
+        self.assertEqual(
+            other.take(seen, "r2", None, Where("y:1", 5, 2, batch.chain)), Kept(3, batch.chain, 2)
+        )
         seen = self.seen()
-        self.assertEqual((seen.run, seen.holder, seen.address, seen.shift, seen.images, seen.base), ("r2", "two", "y:1", 5, 2, 3))
+        self.assertEqual(
+            (seen.run, seen.holder, seen.address, seen.shift, seen.images, seen.base),
+            ("r2", "two", "y:1", 5, 2, 3),
+        )
         self.taken("r3")
         self.assertIsNone(self.seen().address)
         with psycopg.connect(self.url) as connection:
-            found = connection.execute("SELECT shift, images FROM pagelog_generation ORDER BY generation").fetchall()
+            found = connection.execute(
+                "SELECT shift, images FROM pagelog_generation ORDER BY generation"
+            ).fetchall()
         self.assertEqual(found, [(0, 0), (5, 2), (5, 0)])
 
     def test_a_release_says_where_it_was(self) -> None:
@@ -164,9 +187,16 @@ class Fences(Referees):
         self.assertFalse(self.referee.wish("none", "a"))
         for wish in ("a", "*"):
             self.assertTrue(self.referee.wish("shop", wish))
-            self.assertEqual((self.referee.wish("shop", None, instead_of="b"), self.seen().wanted), (False, wish))
-            self.assertEqual((self.referee.wish("shop", None, instead_of=wish), self.seen().wanted), (True, None))
-        self.assertEqual((self.referee.wish("shop", None, instead_of="b"), self.referee.wish("shop", None)), (False, True))
+            self.assertEqual(
+                (self.referee.wish("shop", None, instead_of="b"), self.seen().wanted), (False, wish)
+            )
+            self.assertEqual(
+                (self.referee.wish("shop", None, instead_of=wish), self.seen().wanted), (True, None)
+            )
+        self.assertEqual(
+            (self.referee.wish("shop", None, instead_of="b"), self.referee.wish("shop", None)),
+            (False, True),
+        )
 
     def test_numbers_are_given_once_and_a_paused_database_is_taken_by_nobody(self) -> None:
         self.taken("r1")
@@ -185,7 +215,9 @@ class Fences(Referees):
         again = new_database(self.referee, "shop")
         self.assertNotEqual(again.identity, before)
         kept = self.referee.take(again, "r3")
-        self.assertEqual(kept and kept.generation, 4)  # to a client of version 1, 3 would say that 2 has ended there
+        self.assertEqual(
+            kept and kept.generation, 4
+        )  # to a client of version 1, 3 would say that 2 has ended there
 
     def test_a_server_that_went_back_gives_numbers_above_what_is_known(self) -> None:
         self.assertEqual(self.taken("r1").generation, 1)
@@ -201,13 +233,22 @@ class Fences(Referees):
         rows = [self.row, *(new_database(self.referee, f"other{number}") for number in range(4))]
         seen = {row.id: row for row in self.referee.look().rows}
         kept = [self.referee.take(seen[row.id], f"run {row.id}") for row in rows]
-        batches = [batch_of(row, one, f"run {row.id}", 2 + at) for at, (row, one) in enumerate(zip(rows, kept)) if one]
+        batches = [
+            batch_of(row, one, f"run {row.id}", 2 + at)
+            for at, (row, one) in enumerate(zip(rows, kept))
+            if one
+        ]
         batches[2] = replace(batches[2], run="another")
         self.assertEqual(self.referee.keep(batches), {row.id for row in rows} - {rows[2].id})
         for row in self.referee.look().rows:
             batch = next(batch for batch in batches if batch.log == row.id)
-            found = [block for piece in self.referee.blocks(row.id, 1, row.archived) for block in piece]
-            self.assertEqual((found, row.chain), ([], b"") if row.id == rows[2].id else (list(batch.blocks), batch.chain))
+            found = [
+                block for piece in self.referee.blocks(row.id, 1, row.archived) for block in piece
+            ]
+            self.assertEqual(
+                (found, row.chain),
+                ([], b"") if row.id == rows[2].id else (list(batch.blocks), batch.chain),
+            )
 
 
 class Fates(Referees):
@@ -222,7 +263,9 @@ class Fates(Referees):
         other.keep([batch_of(self.row, second, "r2", 2)])
         third = self.taken("r3")
         self.assertEqual([self.referee.fate("shop", number) for number in (1, 2, 3)], [5, 7, None])
-        self.assertEqual((third.archived, other.fate("shop", 9), other.fate("none", 1)), (7, None, None))
+        self.assertEqual(
+            (third.archived, other.fate("shop", 9), other.fate("none", 1)), (7, None, None)
+        )
 
     def test_a_twin_of_a_name_ends_the_first(self) -> None:
         twin = Referee(self.url, "one", "a later life")
@@ -235,7 +278,9 @@ class Fates(Referees):
     def life(self) -> tuple[object, ...] | None:
         """Which life of the keeper is noted."""
         with psycopg.connect(self.url) as session:
-            return session.execute("SELECT run, beat FROM pagelog_keeper WHERE name = 'one'").fetchone()
+            return session.execute(
+                "SELECT run, beat FROM pagelog_keeper WHERE name = 'one'"
+            ).fetchone()
 
     def put_back(self, statement: str) -> None:
         with psycopg.connect(self.url) as session:
@@ -251,7 +296,9 @@ class Fates(Referees):
                 self.referee.look()
             self.assertEqual(self.life(), (self.referee.run, beat))
             found = self.referee.look().keeper("one")
-            self.assertEqual((found and found.lines, self.life()), ("one:1", (self.referee.run, beat + 1)))
+            self.assertEqual(
+                (found and found.lines, self.life()), ("one:1", (self.referee.run, beat + 1))
+            )
 
     def test_a_twin_that_comes_amid_a_look_keeps_the_name(self) -> None:
         raised: list[BaseException] = []
@@ -263,20 +310,28 @@ class Fates(Referees):
                 raised.append(error)
 
         looks = threading.Thread(target=look)
-        with psycopg.connect(self.url) as session, psycopg.connect(self.url, autocommit=True) as other:
-            session.execute("UPDATE pagelog_keeper SET run = 'a later life', beat = beat + 1 WHERE name = 'one'")
+        with psycopg.connect(self.url) as session, psycopg.connect(
+            self.url, autocommit=True
+        ) as other:
+            session.execute(
+                "UPDATE pagelog_keeper SET run = 'a later life', beat = beat + 1 WHERE name = 'one'"
+            )
             looks.start()
             waits = "SELECT 1 FROM pg_stat_activity WHERE wait_event_type = 'Lock' AND application_name = 'pagelog keeper one'"
             eventually(lambda: other.execute(waits).fetchone() is not None, "a look that waits")
         looks.join(PATIENCE)
-        self.assertEqual(([type(error) for error in raised], self.life()), ([Doubt], ("a later life", 1)))
+        self.assertEqual(
+            ([type(error) for error in raised], self.life()), ([Doubt], ("a later life", 1))
+        )
         self.assertRaises(Superseded, self.referee.look)
 
     def test_standbys_are_seen_by_all(self) -> None:
         self.referee.stand_by(self.row.id, "z:1", "s1", 4)
         self.referee.look({self.row.id: 9})
         [found] = self.new("two").look().standbys_of(self.row.id)
-        self.assertEqual((found.keeper, found.address, found.run, found.reached), ("one", "z:1", "s1", 9))
+        self.assertEqual(
+            (found.keeper, found.address, found.run, found.reached), ("one", "z:1", "s1", 9)
+        )
         self.taken("s1")
         self.assertEqual(self.referee.look().standbys, ())
 
@@ -287,7 +342,9 @@ class Fates(Referees):
         self.assertFalse(self.referee.drop("shop"))
         self.assertEqual((self.rows(), self.referee.look().row("shop")), ([], None))
         self.assertEqual([row.dropped for row in self.referee.look().rows], [True])
-        self.assertEqual(self.referee.keep([batch_of(self.row, Kept(30, b"", 1), "r1")]), frozenset())
+        self.assertEqual(
+            self.referee.keep([batch_of(self.row, Kept(30, b"", 1), "r1")]), frozenset()
+        )
         self.assertTrue(self.referee.create("shop", "", b""))
         self.assertFalse(self.referee.create("shop", "", b""))
 
@@ -296,7 +353,9 @@ class Fates(Referees):
         self.referee.keep([batch_of(self.row, kept, "r1", 9)])
         self.assertEqual(self.everything(), list(blocks(1, 9)))
         with psycopg.connect(self.url) as connection:
-            connection.execute("UPDATE pagelog_block SET data = set_byte(data, 20, 255) WHERE lsn = 4")
+            connection.execute(
+                "UPDATE pagelog_block SET data = set_byte(data, 20, 255) WHERE lsn = 4"
+            )
         with self.assertRaisesRegex(BrokenArchive, "block 4 is not"):
             self.everything()
         with psycopg.connect(self.url) as connection:
@@ -315,7 +374,9 @@ class Lines(Referees):
         referee = self.new("measured", line.url(self.url))
         far = 1 << 40
         line.count_from_now(far, far)
-        with patch.object(referee, "turn_unless"):  # which closes the connection, with five bytes more
+        with patch.object(
+            referee, "turn_unless"
+        ):  # which closes the connection, with five bytes more
             referee.keep([batch_of(self.row, Kept(0, b"", 99), "nobody")])
         return far - line.left["to"], far - line.left["back"]
 
@@ -332,7 +393,9 @@ class Lines(Referees):
         line.count_from_now()
         told = referee.kept(self.row.id, run)
         assert told is not None
-        self.assertIn((told.archived, told.chain), ((kept.archived, kept.chain), (batch.new, batch.chain)))
+        self.assertIn(
+            (told.archived, told.chain), ((kept.archived, kept.chain), (batch.new, batch.chain))
+        )
         self.assertEqual(self.rows(), list(range(1, told.archived + 1)))
         referee.close()
         line.close()
@@ -356,7 +419,9 @@ class Lines(Referees):
             kept = replace(kept, generation=kept.generation + 1)
             line.count_from_now(to=at)
             batch = batch_of(self.row, kept, run)
-            thread = threading.Thread(target=lambda: self.assertRaises(Doubt, referee.keep, [batch]))
+            thread = threading.Thread(
+                target=lambda: self.assertRaises(Doubt, referee.keep, [batch])
+            )
             thread.start()
             while line.left["to"] > 0:
                 pass
@@ -373,7 +438,9 @@ class Lines(Referees):
             line.close()
 
     def test_a_keeper_of_its_name_of_another_database_there_keeps_its_session(self) -> None:
-        with psycopg.connect(new_url(), application_name="pagelog keeper one") as another, self.assertRaises(Doubt):
+        with psycopg.connect(
+            new_url(), application_name="pagelog keeper one"
+        ) as another, self.assertRaises(Doubt):
             self.new("two")._end_sessions("one")
             self.assertEqual(another.execute("SELECT 7").fetchone(), (7,))
             while True:
@@ -387,7 +454,10 @@ class Lines(Referees):
             batch = batch_of(self.row, kept, f"run {state}")
             with self.assertRaises(Doubt):
                 referee.keep([batch])
-            self.assertEqual(self.referee.kept(self.row.id, batch.run), Kept(batch.new, batch.chain, batch.generation))
+            self.assertEqual(
+                self.referee.kept(self.row.id, batch.run),
+                Kept(batch.new, batch.chain, batch.generation),
+            )
             line.close()
 
     def test_away(self) -> None:
@@ -397,7 +467,9 @@ class Lines(Referees):
     def test_hosts_are_turned_after_a_wait_that_was_cut(self) -> None:
         referee = Referee("postgresql://pagelog@/x?host=/a,/b,/c&port=1,2,3")
         referee.turn_hosts()
-        self.assertEqual((referee._options["host"], referee._options["port"]), ("/b,/c,/a", "2,3,1"))
+        self.assertEqual(
+            (referee._options["host"], referee._options["port"]), ("/b,/c,/a", "2,3,1")
+        )
 
     def test_a_silent_host_hides_none_behind_it(self) -> None:
         with SilentProxy(postgres()) as silent:
@@ -420,20 +492,29 @@ class Replication(Referees):
         self.boss.execute("SET synchronous_commit = local")
         self.boss.execute(f"ALTER SYSTEM SET synchronous_standby_names = '{names}'")
         self.boss.execute("SELECT pg_reload_conf()")
-        while self.boss.execute("SELECT current_setting('synchronous_standby_names')").fetchone() != (names,):
+        while self.boss.execute(
+            "SELECT current_setting('synchronous_standby_names')"
+        ).fetchone() != (names,):
             pass
         while names and not self.makes_wait():
             pass
 
     def makes_wait(self) -> bool:
         """Whether a commit of another session waits for a standby: PostgreSQL's checkpointer decides when that begins."""
-        with psycopg.connect(self.boss.info.dsn, password=self.boss.info.password or None, autocommit=True) as probe:
+        with psycopg.connect(
+            self.boss.info.dsn, password=self.boss.info.password or None, autocommit=True
+        ) as probe:
             pid = probe.info.backend_pid
-            thread = threading.Thread(target=probe.execute, args=("CREATE TABLE IF NOT EXISTS probe AS SELECT 1; DROP TABLE probe",))
+            thread = threading.Thread(
+                target=probe.execute,
+                args=("CREATE TABLE IF NOT EXISTS probe AS SELECT 1; DROP TABLE probe",),
+            )
             thread.start()
             waits = False
             while thread.is_alive() and not waits:
-                found = self.boss.execute("SELECT wait_event FROM pg_stat_activity WHERE pid = %s", (pid,)).fetchone()
+                found = self.boss.execute(
+                    "SELECT wait_event FROM pg_stat_activity WHERE pid = %s", (pid,)
+                ).fetchone()
                 waits = found == ("SyncRep",)
             self.boss.execute("SELECT pg_cancel_backend(%s)", (pid,))
             thread.join()
@@ -443,7 +524,9 @@ class Replication(Referees):
         """The process of a session that waits for the standby, as that of the thread has to."""
         while True:
             self.assertTrue(thread.is_alive(), "it did not wait for the standby")
-            found = self.boss.execute("SELECT pid FROM pg_stat_activity WHERE wait_event = 'SyncRep'").fetchone()
+            found = self.boss.execute(
+                "SELECT pid FROM pg_stat_activity WHERE wait_event = 'SyncRep'"
+            ).fetchone()
             if found is not None:
                 return int(found[0])
 
@@ -520,7 +603,9 @@ class Replication(Referees):
         self.assertEqual(len(told), 1)
 
     def test_a_session_that_is_ended_is_in_doubt_and_the_next_statement_has_another(self) -> None:
-        self.boss.execute("SELECT pg_terminate_backend(pid) FROM pg_stat_activity WHERE application_name = 'pagelog keeper one'")
+        self.boss.execute(
+            "SELECT pg_terminate_backend(pid) FROM pg_stat_activity WHERE application_name = 'pagelog keeper one'"
+        )
         with self.assertRaises(Doubt):
             while True:
                 self.referee.look()

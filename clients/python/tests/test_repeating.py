@@ -34,14 +34,19 @@ class Waits(unittest.TestCase):
 class Sentences(unittest.TestCase):
     def setUp(self) -> None:
         self.now, self.said = 0.0, list[tuple[str, str]]()
-        self.repeats = Repeats(lambda *said: self.said.append(said), every=60.0, clock=lambda: self.now)
+        self.repeats = Repeats(
+            lambda *said: self.said.append(said), every=60.0, clock=lambda: self.now
+        )
 
     def test_one_is_said_at_once_and_then_each_minute_with_a_count(self) -> None:
         for second in range(600):
             self.now = float(second)
             for _ in range(10):
                 self.repeats.say("shop", f"no room at block {second}")
-        self.assertEqual(self.said[:2], [("shop", "no room at block 0"), ("shop", "no room at block 60 (600 times in 60 s)")])
+        self.assertEqual(
+            self.said[:2],
+            [("shop", "no room at block 0"), ("shop", "no room at block 60 (600 times in 60 s)")],
+        )
         self.assertEqual(len(self.said), 10)
 
     def test_another_subject_and_another_sentence_are_said_for_themselves(self) -> None:
@@ -70,15 +75,27 @@ class Sentences(unittest.TestCase):
 class Decisions(unittest.TestCase):
     def test_one_is_said_where_action_or_reason_changes_and_shown_with_its_detail(self) -> None:
         said: list[str] = []
-        shared = Mock(settings=Mock(ttl=5.0), repeats=Repeats(lambda _, sentence: said.append(sentence)))
+        shared = Mock(
+            settings=Mock(ttl=5.0), repeats=Repeats(lambda _, sentence: said.append(sentence))
+        )
         database = Database(shared, Mock())
         for position in range(100):
             database._say(Decision(Action.NOTHING, "follows b at position {}", str(position)))
-        self.assertEqual((said, str(database.decision)), (["follows b at position 0"], "follows b at position 99"))
+        self.assertEqual(
+            (said, str(database.decision)),
+            (["follows b at position 0"], "follows b at position 99"),
+        )
         database._say(Decision(Action.TAKE, "the beat of b has stood still for {} s", "5.0"))
         database._say(Decision(Action.TAKE, "nobody has it"))
         database._say(Decision(Action.NOTHING, "follows b at position {}", "99"))
-        self.assertEqual(said[1:], ["take: the beat of b has stood still for 5.0 s", "take: nobody has it", "follows b at position 99"])
+        self.assertEqual(
+            said[1:],
+            [
+                "take: the beat of b has stood still for 5.0 s",
+                "take: nobody has it",
+                "follows b at position 99",
+            ],
+        )
         self.assertEqual(database.why, "follows b at position 99")
 
 
@@ -87,7 +104,15 @@ class OfPostgresql(unittest.IsolatedAsyncioTestCase):
         folder, said, now = Path(self.enterContext(tempfile.TemporaryDirectory())), list[str](), 0.0
         keeper = Keeper(Settings.of("a", "", "", folder, "", "", {}))
         keeper._repeats = Repeats(lambda _, sentence: said.append(sentence), clock=lambda: now)
-        for now, sentence in ((0.0, "away"), (1.0, "there"), (2.0, "away"), (30.0, "away"), (60.0, "away"), (90.0, "away"), (300.0, "away")):
+        for now, sentence in (
+            (0.0, "away"),
+            (1.0, "there"),
+            (2.0, "away"),
+            (30.0, "away"),
+            (60.0, "away"),
+            (90.0, "away"),
+            (300.0, "away"),
+        ):
             keeper._say_of_referee(sentence)
         self.assertEqual(said, ["away", "there", "away (3 times in 60 s)"])
 
@@ -100,7 +125,9 @@ class Standbys(Kept):
                 self.keeping.ring()
                 eventually(lambda: number in self.keeping.standbys().values(), "the standby")
         lines = re.findall(r"follows \w at position \d+", self.keeping.said())
-        self.assertLessEqual(len(lines), 3, self.keeping.said())  # one more each minute, on a slow machine
+        self.assertLessEqual(
+            len(lines), 3, self.keeping.said()
+        )  # one more each minute, on a slow machine
         self.assertIn("follows", self.keeping.word("kept", "--json"))
 
 
@@ -111,8 +138,10 @@ class NoProgram(Kept):
     def test_a_keeper_whose_program_is_not_there_tries_it_more_and_more_seldom(self) -> None:
         self.keeping.start("a", program="/nowhere/pagelog")
         eventually(lambda: self.keeping.row().generation >= 5, "the fifth try")
-        times = [datetime.fromisoformat(time.replace(",", ".")).timestamp()
-                 for time in re.findall(r"(?m)^(\S+ \S+) shop: take: ", self.keeping.said())]  # fmt: skip
+        times = [
+            datetime.fromisoformat(time.replace(",", ".")).timestamp()
+            for time in re.findall(r"(?m)^(\S+ \S+) shop: take: ", self.keeping.said())
+        ]
         gaps = [later - earlier for earlier, later in zip(times, times[1:])]
         for gap, least in zip(gaps, (0.3, 0.6, 1.2, 2.4)):
             self.assertGreater(gap, 0.9 * least, gaps)

@@ -16,15 +16,23 @@ from unittest import mock
 import pagelog
 from pagelog import Block, Zero
 from pagelog.archive import Archive, BrokenArchive
-from pagelog.archive_session import Row
+from pagelog.archive.session import Row
 from pagelog.keeping import Archiver, OtherLog
 from pagelog.reply import LINE_SIZE
 from pagelog.trail import BrokenTrail, Start, Trail, TrailKeeper, TrailList
 from pagelog.trail.logs import ArchivedLog
 from pagelog.trail.pages import compare_pages
 from pagelog.trail.replay import (
-    ANNULLED_BLOCK, DENIED_TEXT, UNARCHIVED_BLOCK, Difference, NotReplayable, Replay, Replayed, lines_of, replay,
-)  # fmt: skip
+    ANNULLED_BLOCK,
+    DENIED_TEXT,
+    UNARCHIVED_BLOCK,
+    Difference,
+    NotReplayable,
+    Replay,
+    Replayed,
+    lines_of,
+    replay,
+)
 from pagelog.trail.seal import seal
 from pagelog.trail.statements import NEW_PIECE
 from pagelog.trail.store import NO_DIGEST
@@ -41,7 +49,9 @@ import wire  # noqa: E402
 
 RANDOM_LINES = 100_000 if IS_LONG else 10_000
 # By its first row the block of a write decides.
-BY_BLOCKS = WIDE_TABLE.replace("[[row]]", '[[row]]\nverdict = "deny"\nop = ["write"]\nfrom = 4\nto = 4\n[[row]]', 1)
+BY_BLOCKS = WIDE_TABLE.replace(
+    "[[row]]", '[[row]]\nverdict = "deny"\nop = ["write"]\nfrom = 4\nto = 4\n[[row]]', 1
+)
 
 
 class Replays(unittest.TestCase):
@@ -54,7 +64,9 @@ class Replays(unittest.TestCase):
         self.archive = self.enterContext(Archive(self.url, "shop", create=True))
 
     def replay(self, **options: Any) -> Replayed:
-        return replay(self.trail, self.trail.lists()[-1], ArchivedLog(self.trail, self.archive), **options)
+        return replay(
+            self.trail, self.trail.lists()[-1], ArchivedLog(self.trail, self.archive), **options
+        )
 
     def run_sql(self, statement: str, **values: object) -> None:
         change(self.trail, statement, **values)
@@ -62,14 +74,27 @@ class Replays(unittest.TestCase):
     def change_piece(self, line: int, **values: object) -> None:
         """The piece with this first line gets these values."""
         for name, value in values.items():
-            self.run_sql(f"UPDATE pagelog_trail_piece SET {name} = %(value)s WHERE first = %(line)s", line=line, value=value)
+            self.run_sql(
+                f"UPDATE pagelog_trail_piece SET {name} = %(value)s WHERE first = %(line)s",
+                line=line,
+                value=value,
+            )
 
     def change_block(self, lsn: int, data: bytes, crc: int) -> None:
-        self.run_sql("UPDATE pagelog_block SET data = %(data)s, crc = %(crc)s WHERE lsn = %(lsn)s", lsn=lsn, data=data, crc=crc)
+        self.run_sql(
+            "UPDATE pagelog_block SET data = %(data)s, crc = %(crc)s WHERE lsn = %(lsn)s",
+            lsn=lsn,
+            data=data,
+            crc=crc,
+        )
 
     def change_texts(self, line: int, text: bytes, digest: str | None = None) -> None:
-        self.run_sql("UPDATE pagelog_trail_text SET text = %(text)s, digest = COALESCE(%(digest)s, digest) WHERE line = %(line)s", line=line,
-                     text=text, digest=digest)  # fmt: skip
+        self.run_sql(
+            "UPDATE pagelog_trail_text SET text = %(text)s, digest = COALESCE(%(digest)s, digest) WHERE line = %(line)s",
+            line=line,
+            text=text,
+            digest=digest,
+        )
 
     def rewrite(self, edit: Callable[[list[bytes]], list[bytes]]) -> None:
         """Writes the last list again with its lines edited, and all digests made anew, as one who knows how would."""
@@ -77,7 +102,11 @@ class Replays(unittest.TestCase):
         data = self.trail.lines(one, 1)
         lines = edit([data[at : at + LINE_SIZE] for at in range(0, len(data), LINE_SIZE)])
         self.run_sql("DELETE FROM pagelog_trail_piece WHERE list = %(list)s", list=one.id)
-        self.run_sql("UPDATE pagelog_trail_list SET kept = 0, digest = %(digest)s WHERE id = %(list)s", list=one.id, digest=NO_DIGEST)
+        self.run_sql(
+            "UPDATE pagelog_trail_list SET kept = 0, digest = %(digest)s WHERE id = %(list)s",
+            list=one.id,
+            digest=NO_DIGEST,
+        )
         again: TrailList = self.trail.lists()[-1]
         for at in range(0, len(lines), 100):
             again = self.trail.keep(again, b"".join(lines[at : at + 100]), one.seen)
@@ -100,7 +129,9 @@ def ask_all(address: str, bodies: list[bytes]) -> list[bytes]:
     """The replies to bodies that are asked over one connection, 64 at a time."""
     host, _, port = address.rpartition(":")
     replies = []
-    with socket.create_connection((host, int(port)), PATIENCE) as connection, connection.makefile("rb") as coming:
+    with socket.create_connection((host, int(port)), PATIENCE) as connection, connection.makefile(
+        "rb"
+    ) as coming:
         for at in range(0, len(bodies), 64):
             part = bodies[at : at + 64]
             connection.sendall(b"".join(wire.frame(wire.to_database(body, 0)) for body in part))
@@ -125,37 +156,56 @@ def texts_by_line(database: Any) -> dict[int, bytes]:
     return found
 
 
-class Oracle(Replays):
-    def check(self, count: int, seed: int) -> None:
-        """A service, the oracle of the test command and the replay decide random requests likewise."""
+class Random(Replays):
+    """A service that was asked random requests, with its trail and archive."""
+
+    def ask(self, count: int, seed: int) -> trial.Trial:
+        """What was asked, and what the oracle of the test command says of it."""
         table = tables.START if seed % 3 else tables.SIX_COPIES
         made = trial.Trial(seed, "replay")
         made.open(limit=1_000_000, table=table)
         for _ in range(count):
             trial.random_line(made)
         [database], model = made.databases, made.model
-        with Service(table=table.text.decode(), workers=1) as service, service.operator() as operator:
+        with Service(
+            table=table.text.decode(), workers=1
+        ) as service, service.operator() as operator:
             self.assertTrue(ask_all(service.address, database.asked) == database.replies)
-            keeper = TrailKeeper(operator, self.trail, start=Start(table.text, 2))
-            keeper.run(follow=False)
-        one = self.trail.lists()[-1]
-        self.assertEqual(self.trail.lines(one, 1)[: len(model.lines) * LINE_SIZE], b"".join(model.lines))
-        texts = texts_by_line(database)
-        verdicts = Counter()
+            self.keeper = TrailKeeper(operator, self.trail, start=Start(table.text, 2))
+            self.keeper.run(follow=False)
+        self.texts = texts_by_line(database)
         for line in read_lines(b"".join(model.lines)):
-            verdicts[line.op, line.section, line.row] += 1
             if line.op == wire.SET_TABLE and line.verdict == (0, 0, 0):
-                keeper.give_table(texts[line.number], line.number)
+                self.keeper.give_table(self.texts[line.number], line.number)
         blocks = [Block.decode(block.spelled) for block in model.log]
         for at in range(0, len(blocks), 256):
             self.archive.keep(blocks[at : at + 256], model.epoch)
-        done = self.replay()
-        self.assertEqual((done.lines, done.hard, done.blocks, done.epoch), (one.kept, len(blocks), len(blocks), model.epoch))
+        return made
+
+
+class Oracle(Random):
+    def check(self, count: int, seed: int) -> None:
+        """A service, the oracle of the test command and the replay decide random requests likewise."""
+        model = self.ask(count, seed).model
+        one = self.trail.lists()[-1]
+        self.assertEqual(
+            self.trail.lines(one, 1)[: len(model.lines) * LINE_SIZE], b"".join(model.lines)
+        )
+        verdicts = Counter(
+            (line.op, line.section, line.row) for line in read_lines(b"".join(model.lines))
+        )
+        done, hard = self.replay(), len(model.log)
+        self.assertEqual(
+            (done.lines, done.hard, done.blocks, done.epoch), (one.kept, hard, hard, model.epoch)
+        )
         # A denied text was not given.
-        self.assertEqual(done.unchecked[DENIED_TEXT], sum(n for (_, *rule), n in verdicts.items() if rule[0] == 3 and rule[1] == 7))
+        self.assertEqual(
+            done.unchecked[DENIED_TEXT],
+            sum(n for (_, *rule), n in verdicts.items() if rule[0] == 3 and rule[1] == 7),
+        )
         self.assertLess(sum(done.unchecked.values()), done.lines / 5)
-        for line, text in texts.items():
-            keeper.give_table(text, line)
+        for line, text in self.texts.items():
+            self.keeper.give_table(text, line)
         self.assertEqual(self.replay().unchecked[DENIED_TEXT], 0)
 
     def test_random_requests_with_three_copies(self) -> None:
@@ -168,13 +218,15 @@ class Oracle(Replays):
 # What was changed by hand.
 
 
-class Edits(Replays):
+class Written(Replays):
     """Two principals write with a table that decides by partitions; tables are set, an epoch annuls, and requests are denied."""
 
     def setUp(self) -> None:
         super().setUp()
         self.service = self.enterContext(Service(table=BY_BLOCKS))
-        primary, reader = self.enterContext(self.service.primary()), self.enterContext(self.service.reader())
+        primary, reader = self.enterContext(self.service.primary()), self.enterContext(
+            self.service.reader()
+        )
         operator = self.enterContext(self.service.operator())
         self.keeper = TrailKeeper(operator, self.trail, start=Start(BY_BLOCKS.encode(), 2))
         fill(primary, 60, empties=False)
@@ -184,7 +236,10 @@ class Edits(Replays):
         operator.set_table(self.text)
         with self.assertRaises(pagelog.NoTable):
             operator.set_table("nothing")
-        for body in (wire.write(0, wire.block(61, [(7,)])), wire.write(1, wire.block(62, [(65536 * 7,)]))):
+        for body in (
+            wire.write(0, wire.block(61, [(7,)])),
+            wire.write(1, wire.block(62, [(65536 * 7,)])),
+        ):
             ask_all(self.service.address, [wire.head(2, wire.PRIMARY, wire.WRITE) + body])
         operator.failover(2)
         with self.service.primary() as again:
@@ -196,8 +251,15 @@ class Edits(Replays):
     def number_of(self, op: int, **fields: int) -> int:
         """The number of the first line of this operation with these fields."""
         data = self.trail.lines(self.trail.lists()[-1], 1)
-        return next(line.number for line in read_lines(data)
-                    if line.op == op and all(getattr(line, name) == value for name, value in fields.items()))  # fmt: skip
+        return next(
+            line.number
+            for line in read_lines(data)
+            if line.op == op and all(getattr(line, name) == value for name, value in fields.items())
+        )
+
+
+class Edits(Written):
+    """What was changed in it."""
 
     def test_what_was_kept_is_decided_likewise(self) -> None:
         done = self.replay()
@@ -213,20 +275,39 @@ class Edits(Replays):
 
             return edit
 
-        denied, report, failover = self.number_of(4, section=3), self.number_of(3, a=60), self.number_of(8)
+        denied, report, failover = (
+            self.number_of(4, section=3),
+            self.number_of(3, a=60),
+            self.number_of(8),
+        )
         allowed, value, copies = bytes(11), (62).to_bytes(8, "big"), (3).to_bytes(8, "big")
-        self.assertIn("trail has allowed", self.check_difference(denied, changed(denied, 42, allowed)))
-        self.assertIn("denied C1 value 60", self.check_difference(denied, changed(denied, 45, value)))
+        self.assertIn(
+            "trail has allowed", self.check_difference(denied, changed(denied, 42, allowed))
+        )
+        self.assertIn(
+            "denied C1 value 60", self.check_difference(denied, changed(denied, 45, value))
+        )
         self.check_difference(report, changed(report, 26, value))  # reports more than there is
-        self.check_difference(failover, changed(failover, 26, copies[:-1] + b"\x09"))  # to a principal that is not listed
+        self.check_difference(
+            failover, changed(failover, 26, copies[:-1] + b"\x09")
+        )  # to a principal that is not listed
         # A denial of one whose requests make no line.
-        self.check_difference(denied, lambda lines: changed(denied, 16, (9).to_bytes(4, "big"))(changed(denied, 42, b"\2" + bytes(10))(lines)))
+        self.check_difference(
+            denied,
+            lambda lines: changed(denied, 16, (9).to_bytes(4, "big"))(
+                changed(denied, 42, b"\2" + bytes(10))(lines)
+            ),
+        )
         write = self.number_of(1, a=30, b=1)
         self.check_difference(write, changed(write, 34, copies))  # a copy that there is not
-        self.check_difference(write, changed(write, 16, (9).to_bytes(4, "big")))  # by a principal that the table lacks
+        self.check_difference(
+            write, changed(write, 16, (9).to_bytes(4, "big"))
+        )  # by a principal that the table lacks
         self.check_difference(write, changed(write, 20, b"\x07"))  # in a role that there is not
         self.check_difference(write, changed(write, 0, value))  # with another number
-        with self.assertRaises(Difference):  # in another copy: what was allowed later lacks a quorum
+        with self.assertRaises(
+            Difference
+        ):  # in another copy: what was allowed later lacks a quorum
             self.rewrite(changed(write, 34, bytes(8)))
             self.replay()
 
@@ -252,7 +333,14 @@ class Edits(Replays):
         one = self.trail.lists()[-1]
         [piece, *_] = self.trail.pieces(one)
         other = piece.lines[:LINE_SIZE] * piece.count
-        for values in ({"data": zlib.compress(other)}, {"data": b"x"}, {"seen": 5}, {"count": 3}, {"digest": bytes(32)}, {"before": b"x" * 32}):
+        for values in (
+            {"data": zlib.compress(other)},
+            {"data": b"x"},
+            {"seen": 5},
+            {"count": 3},
+            {"digest": bytes(32)},
+            {"before": b"x" * 32},
+        ):
             kept = row_of_piece(self.trail, 1)
             self.change_piece(1, **values)
             self.assertRaises(BrokenTrail, self.replay)
@@ -269,7 +357,9 @@ class Edits(Replays):
     def test_a_piece_that_is_missing_is_found(self) -> None:
         self.rewrite(lambda lines: lines)
         one = self.trail.lists()[-1]
-        again = self.trail.keep(one, self.trail.lines(one, one.kept)[-LINE_SIZE:], one.seen)  # the number is wrong, and it is not read
+        again = self.trail.keep(
+            one, self.trail.lines(one, one.kept)[-LINE_SIZE:], one.seen
+        )  # the number is wrong, and it is not read
         self.run_sql("DELETE FROM pagelog_trail_piece WHERE first = %(first)s", first=again.kept)
         with self.assertRaises(BrokenTrail) as raised:
             list(self.trail.pieces(again))
@@ -318,7 +408,9 @@ class Edits(Replays):
 
     def test_a_changed_table_is_found(self) -> None:
         one = self.trail.lists()[-1]
-        self.trail.set_start(one, Start(BY_BLOCKS.replace("from = 4\nto = 4", "from = 2\nto = 2").encode(), 2))
+        self.trail.set_start(
+            one, Start(BY_BLOCKS.replace("from = 4\nto = 4", "from = 2\nto = 2").encode(), 2)
+        )
         with self.assertRaises(Difference):
             self.replay()
         self.trail.set_start(one, Start(BY_BLOCKS.encode(), 5))
@@ -343,7 +435,9 @@ class Edits(Replays):
 
     def test_another_service_is_found(self) -> None:
         with self.service.reader() as reader:
-            alike = compare_pages(ArchivedLog(self.trail, self.archive), reader, 80, count=400, seed=1)
+            alike = compare_pages(
+                ArchivedLog(self.trail, self.archive), reader, 80, count=400, seed=1
+            )
             self.assertGreater(alike.alike, 200)
             [kept] = self.archive.blocks(30, 30)
             page = kept.records[0].page
@@ -354,8 +448,10 @@ class Edits(Replays):
             self.assertIn(f"page {page} ", str(raised.exception))
             self.assertGreaterEqual(raised.exception.lsn, 30)
         file = self.service.credentials_file(url=self.url)
-        self.assertIn("OtherLog: the two logs have different blocks at LSN 30",
-                      ends(words("replay", "shop", "--url", self.url, "--credentials", file), 1))  # fmt: skip
+        self.assertIn(
+            "OtherLog: the two logs have different blocks at LSN 30",
+            ends(words("replay", "shop", "--url", self.url, "--credentials", file), 1),
+        )
 
     def test_texts_are_looked_up_once(self) -> None:
         asked: list[str] = []
@@ -381,7 +477,11 @@ class Edits(Replays):
             fill(primary, 150, seed=5, empties=False)
             Archiver(reader, self.archive).run(follow=False)
         self.keeper.run(follow=False)
-        again = Replay(Start(BY_BLOCKS.encode(), 2), ArchivedLog(self.trail, self.archive).blocks(), lambda _, __: [self.text])
+        again = Replay(
+            Start(BY_BLOCKS.encode(), 2),
+            ArchivedLog(self.trail, self.archive).blocks(),
+            lambda _, __: [self.text],
+        )
         for line in lines_of(self.trail, self.trail.lists()[-1]):
             again.take(line)
             held = again._state
@@ -394,10 +494,14 @@ class Edits(Replays):
         file = self.service.credentials_file(url=self.url)
         out = ends(words("replay", "shop", "--url", self.url, "--credentials", file))
         self.assertIn("80 blocks hardened, 80 of them archived", out)
-        self.assertIn("not checked: 2 lines, which depend on blocks of annulled writes and offers", out)
+        self.assertIn(
+            "not checked: 2 lines, which depend on blocks of annulled writes and offers", out
+        )
         self.assertRegex(out, r"80 blocks and \d+ pages of the service are those of the archive")
         self.rewrite(lambda lines: lines[:4] + [lines[5], lines[4]] + lines[6:])
-        self.assertIn("Difference: line 5 differs", ends(words("replay", "shop", "--url", self.url), 1))
+        self.assertIn(
+            "Difference: line 5 differs", ends(words("replay", "shop", "--url", self.url), 1)
+        )
         self.run_sql("DELETE FROM pagelog_trail_text")
         self.assertIn("NotReplayable", ends(words("replay", "shop", "--url", self.url), 1))
         start = self.folder / "start.toml"

@@ -14,7 +14,20 @@ import pagelog
 from pagelog import Block, Credentials, Primary, Put, Reader, faults, rules
 from pagelog.connection import Connection
 from pagelog.reply import Denied, Done, Malformed, NoMemory, Page, Reply, expect
-from pagelog.request import Audit, Get, Head, Offer, Pull, Report, Request, Role, SetTable, Status, Tidy, Write
+from pagelog.request import (
+    Audit,
+    Get,
+    Head,
+    Offer,
+    Pull,
+    Report,
+    Request,
+    Role,
+    SetTable,
+    Status,
+    Tidy,
+    Write,
+)
 from service import Service, put, token
 
 LSN_1 = Block.of(1, [Put(0, 0, b"a")])
@@ -42,15 +55,29 @@ class EachReply(unittest.TestCase):
         self.service = self.enterContext(Service(audit=1000))
         self.connection = self.enterContext(Connection(self.service.address))
 
-    def ask(self, act: object, *, id: int = 2, role: Role = Role.PRIMARY, db: int = 0, epoch: int = 1, key: int | None = None) -> Reply:
+    def ask(
+        self,
+        act: object,
+        *,
+        id: int = 2,
+        role: Role = Role.PRIMARY,
+        db: int = 0,
+        epoch: int = 1,
+        key: int | None = None,
+    ) -> Reply:
         head = Head(id, bytes.fromhex(token(key or id)), role, db, epoch)
         return self.connection.ask(Request(head, act))  # type: ignore[arg-type]
 
-    def denied(self, kind: type[rules.Denial], place: str, value: int, act: object, **head: object) -> rules.Denial:
+    def denied(
+        self, kind: type[rules.Denial], place: str, value: int, act: object, **head: object
+    ) -> rules.Denial:
         with self.assertRaises(kind) as raised:
             expect(Done, self.ask(act, **head))  # type: ignore[arg-type]
         denial = raised.exception
-        self.assertEqual((f"{denial.section.name}{denial.row}", denial.value, denial.rule), (place, value, kind.__name__))
+        self.assertEqual(
+            (f"{denial.section.name}{denial.row}", denial.value, denial.rule),
+            (place, value, kind.__name__),
+        )
         self.assertIn(place, str(denial))
         return denial
 
@@ -75,20 +102,30 @@ class EachReply(unittest.TestCase):
         self.assertEqual(self.ask(Offer(two)), Done())
         no_table = self.denied(rules.NoTable, "C7", 3, SetTable(b""), id=1, role=Role.OPERATOR)
         self.assertIs(no_table.fault, rules.TableFault.COUNT_OF_PRINCIPALS)  # type: ignore[attr-defined]
-        self.denied(rules.UnlistedPrimary, "C8", 0, pagelog.request.Failover(99), id=1, role=Role.OPERATOR)
+        self.denied(
+            rules.UnlistedPrimary, "C8", 0, pagelog.request.Failover(99), id=1, role=Role.OPERATOR
+        )
 
     def test_each_fault_of_a_body(self) -> None:
         head = Head(2, bytes.fromhex(token(2)), Role.PRIMARY, 0, 1).prefix
         lsn = bytes(7) + b"\x01"
         bodies = {
-            1: head, 2: head[:20] + b"\x05" + head[21:] + b"\x07", 3: head + b"\x0c", 4: head + b"\x01", 5: head + b"\x07\x00",
-            6: head + b"\x03" + b"\xff" * 8, 7: head + b"\x02", 8: head + b"\x02" + bytes(8),
-            9: head + b"\x02" + lsn + bytes.fromhex("000200010001"), 10: head + b"\x02" + lsn + bytes.fromhex("0000000103"),
+            1: head,
+            2: head[:20] + b"\x05" + head[21:] + b"\x07",
+            3: head + b"\x0c",
+            4: head + b"\x01",
+            5: head + b"\x07\x00",
+            6: head + b"\x03" + b"\xff" * 8,
+            7: head + b"\x02",
+            8: head + b"\x02" + bytes(8),
+            9: head + b"\x02" + lsn + bytes.fromhex("000200010001"),
+            10: head + b"\x02" + lsn + bytes.fromhex("0000000103"),
             11: head + b"\x02" + lsn + bytes.fromhex("000100000001010000000000000000"),
             12: head + b"\x02" + lsn + bytes.fromhex("000100000001010000000020000001"),
-            13: head + b"\x02" + lsn + bytes(5), 14: head + b"\x02" + lsn + bytes.fromhex("000100000000"),
+            13: head + b"\x02" + lsn + bytes(5),
+            14: head + b"\x02" + lsn + bytes.fromhex("000100000000"),
             15: head + b"\x02" + lsn + bytes(32761),
-        }  # fmt: skip
+        }
         replies = list(self.connection.exchange(Raw(body) for body in bodies.values()))  # type: ignore[misc]
         self.assertEqual(replies, [Malformed(code) for code in bodies])
         for code, body in bodies.items():
@@ -108,10 +145,19 @@ class EachReply(unittest.TestCase):
     def test_audit_list_full(self) -> None:
         with self.service.operator() as operator:
             asked = [Status()] * 998
-            list(self.connection.exchange(Request(Head(3, bytes.fromhex(token(3)), Role.SECONDARY, 0, 1), act) for act in asked))
+            list(
+                self.connection.exchange(
+                    Request(Head(3, bytes.fromhex(token(3)), Role.SECONDARY, 0, 1), act)
+                    for act in asked
+                )
+            )
             self.assertEqual(len(operator.audit(1)), 998)
             self.assertEqual(operator.status().epoch, 1)
-            for asks in (operator.status, lambda: operator.failover(5), lambda: self.service.reader().pull(1)):
+            for asks in (
+                operator.status,
+                lambda: operator.failover(5),
+                lambda: self.service.reader().pull(1),
+            ):
                 with self.assertRaises(pagelog.AuditListFull):
                     asks()
 
@@ -123,15 +169,26 @@ class EachReply(unittest.TestCase):
         good = '[[principal]]\nid = 1\ntoken = "' + token(1) + '"\n'
         row = '[[row]]\nverdict = "allow"\nwho = 1\nrole = "operator"\n'
         texts = {
-            1: "[[principal]", 2: "other = 1\n", 3: "", 4: good + row * 257, 5: "[[principal]]\nid = 1\n",
-            6: good.replace("1\n", "-1\n", 1), 7: good.replace("11", "1g"), 8: good + good, 9: good + "[[row]]\n",
-            10: good + row.replace("allow", "permit"), 11: good + row.replace("who = 1", "who = 2"), 12: good,
-        }  # fmt: skip
+            1: "[[principal]",
+            2: "other = 1\n",
+            3: "",
+            4: good + row * 257,
+            5: "[[principal]]\nid = 1\n",
+            6: good.replace("1\n", "-1\n", 1),
+            7: good.replace("11", "1g"),
+            8: good + good,
+            9: good + "[[row]]\n",
+            10: good + row.replace("allow", "permit"),
+            11: good + row.replace("who = 1", "who = 2"),
+            12: good,
+        }
         with self.service.operator() as operator:
             for code, text in texts.items():
                 with self.subTest(code), self.assertRaises(pagelog.NoTable) as raised:
                     operator.set_table(text)
-                self.assertEqual((raised.exception.value, raised.exception.fault), (code, rules.TableFault(code)))
+                self.assertEqual(
+                    (raised.exception.value, raised.exception.fault), (code, rules.TableFault(code))
+                )
             operator.set_table(good + row)
             self.assertEqual(operator.status().hard, 0)
             with self.assertRaises(pagelog.UnknownPrincipal):
@@ -170,16 +227,25 @@ class OutOfMemory(unittest.TestCase):
         self.fail("the sanitizer of this build ended the service each time")
 
     def goes_on_when_there_is_memory_again(self, service: Service) -> None:
-        with Primary(service.connection(1), Credentials.of(2, token(2)), alone=True) as primary, service.reader() as reader:
+        with Primary(
+            service.connection(1), Credentials.of(2, token(2)), alone=True
+        ) as primary, service.reader() as reader:
             # Each of twenty pages as it was at twenty LSNs: more versions than the memory that is left has room for.
             list(primary.stream([put(at % 20, b"first")] for at in range(400)))
             service.limit_memory(1 << 20)
-            with Reader(service.connection(1), Credentials.of(3, token(3))) as other, self.assertRaises(ENDED):
+            with Reader(
+                service.connection(1), Credentials.of(3, token(3))
+            ) as other, self.assertRaises(ENDED):
                 for at in range(4000):
                     other.page(at % 20, 400 - at // 10)
             with self.assertRaises(ENDED):
                 # Far more than the memory that is left.
-                list(primary.stream([put(20 + page, at.to_bytes(2, "big") * 4000) for page in range(3)] for at in range(401, 4400)))
+                list(
+                    primary.stream(
+                        [put(20 + page, at.to_bytes(2, "big") * 4000) for page in range(3)]
+                        for at in range(401, 4400)
+                    )
+                )
             if service.process.poll() is not None:
                 raise pagelog.ConnectionLost("the service has ended")
             before = primary.durable
@@ -187,8 +253,10 @@ class OutOfMemory(unittest.TestCase):
             self.assertGreater(primary.commit(), before)
             blocks = list(reader.blocks(1, follow=False))
             self.assertEqual([block.lsn for block in blocks], list(range(1, primary.durable + 1)))
-            self.assertEqual([int.from_bytes(block.records[0].data[:2], "big") for block in blocks[400:]],  # type: ignore[union-attr]
-                             list(range(401, primary.durable + 1)))  # fmt: skip
+            self.assertEqual(
+                [int.from_bytes(block.records[0].data[:2], "big") for block in blocks[400:]],  # type: ignore[union-attr]
+                list(range(401, primary.durable + 1)),
+            )
             self.assertEqual(reader.status().hard, primary.durable)
             self.assertEqual({page.data[:5] for page in reader.pages(range(20), 400)}, {b"first"})
 
@@ -205,7 +273,9 @@ class OutOfMemory(unittest.TestCase):
                     expect(Page, connection.ask(Request(head, Get(page, end))))
             for lsn in range(end + 1, end + 65):
                 # A small request finds memory to be read and none to be carried out; a large one is not even read.
-                block = Block.of(lsn, [Put(page, 0, bytes(100 if lsn < end + 30 else 8000)) for page in range(4)])
+                block = Block.of(
+                    lsn, [Put(page, 0, bytes(100 if lsn < end + 30 else 8000)) for page in range(4)]
+                )
                 try:
                     replies[lsn] = connection.ask(Request(head, Write(0, block)))
                 except ENDED:
@@ -214,12 +284,12 @@ class OutOfMemory(unittest.TestCase):
             service.unlimit_memory()
             stands = Denied(pagelog.Section.C, 4, 0)
             for lsn, reply in replies.items():
-                other = connection.ask(Request(head, Write(0, Block.of(lsn, [Put(0, 0, b"another")]))))
+                other = connection.ask(
+                    Request(head, Write(0, Block.of(lsn, [Put(0, 0, b"another")])))
+                )
                 wanted = {Done(): {stands}, NoMemory(): {Done()}, None: {stands, Done()}}[reply]
                 self.assertIn(other, wanted, (lsn, reply))
 
 
 if __name__ == "__main__":
     unittest.main()
-
-

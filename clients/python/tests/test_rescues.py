@@ -45,7 +45,10 @@ class Rescues(Old):
 
     def test_all_that_was_moved_is_there_and_goes_on(self) -> None:
         done, referee, row = self.rescued()
-        self.assertEqual((row.archived, row.chain, row.identity, row.run), (600, digest(b"", self.made[:600]), self.row.identity, None))
+        self.assertEqual(
+            (row.archived, row.chain, row.identity, row.run),
+            (600, digest(b"", self.made[:600]), self.row.identity, None),
+        )
         self.assertEqual(self.blocks(referee, row), self.made[:600])
         self.assertEqual((done.others, done.generation), ((), 1001))
         assert done.until is not None
@@ -57,7 +60,9 @@ class Rescues(Old):
         self.assertEqual((kept.archived, kept.generation), (600, 1002))
         # A writer of a run that was lost with PostgreSQL is told so, whatever its number.
         for generation in (1, 7, 900):
-            self.assertEqual(referee.fate_of("shop", generation, Of(row.identity, "r1")).loss, Loss.SUPERSEDED)
+            self.assertEqual(
+                referee.fate_of("shop", generation, Of(row.identity, "r1")).loss, Loss.SUPERSEDED
+            )
         self.assertRaisesRegex(KeeperError, "PostgreSQL has a database shop", self.rescued)
 
     def test_of_two_histories_the_later_one_is_taken_and_the_other_said(self) -> None:
@@ -72,7 +77,9 @@ class Rescues(Old):
         done, referee, row = self.rescued()
         self.assertEqual(self.blocks(referee, row), self.made)
         [(parted, other)] = done.others
-        self.assertEqual((parted, other.last, other.generation, done.generation), (600, lost, 1, 1002))
+        self.assertEqual(
+            (parted, other.last, other.generation, done.generation), (600, lost, 1, 1002)
+        )
 
     def test_a_branch_is_found_with_what_it_began_with(self) -> None:
         for position in (self.border, self.border + 9):
@@ -89,7 +96,9 @@ class Rescues(Old):
             while mover.step():
                 pass
             _, referee, found = self.rescued(name)
-            self.assertEqual((self.blocks(referee, found), found.identity), (self.made, row.identity))
+            self.assertEqual(
+                (self.blocks(referee, found), found.identity), (self.made, row.identity)
+            )
             self.kept, self.made, self.row = known, before, self.row_now()
 
     def test_what_a_branch_began_with_is_not_another_history(self) -> None:
@@ -107,7 +116,13 @@ class Rescues(Old):
             assert row is not None
             taken = self.referee.take(row, "rb")
             assert taken is not None
-            known, self.row, before, self.kept, self.made = self.kept, row, self.made, taken, self.made[:at]
+            known, self.row, before, self.kept, self.made = (
+                self.kept,
+                row,
+                self.made,
+                taken,
+                self.made[:at],
+            )
             self.write(50, "rb")
             mover = Mover(self.reading(), self.store, row.id, row.name, row.identity, self.settings)
             while mover.step():
@@ -147,10 +162,17 @@ class Rescues(Old):
             sweep(self.reader, self.store, 0.0)
             self.lost = new_url()
             done, referee, row = self.rescued()
-            self.assertEqual((done.history.start, done.bases, row.archived, row.chain), (position, 1, self.kept.archived, self.kept.chain))
+            self.assertEqual(
+                (done.history.start, done.bases, row.archived, row.chain),
+                (position, 1, self.kept.archived, self.kept.chain),
+            )
             self.assertEqual(done.history.parts == (), is_behind_all)
             self.assertEqual(self.pages_at(referee, row, position), pages(self.made[:position]))
-            found = [block for piece in referee.blocks(row.id, position + 1, row.archived) for block in piece]
+            found = [
+                block
+                for piece in referee.blocks(row.id, position + 1, row.archived)
+                for block in piece
+            ]
             self.assertEqual(found, self.made[position:])
             self.assertEqual(extent_of(referee, row).first, position)
             self.assertTrue(begin_again(referee, row, row.archived, "again"))
@@ -164,9 +186,14 @@ class Rescues(Old):
         Bases(self.reader, self.row.id).prune(position)
         sweep(self.reader, self.store, 0.0)
         done, referee, row = self.rescued()
-        self.assertEqual((done.history.start, done.history.parts[0].said.first <= position, row.chain), (position, True, self.kept.chain))
+        self.assertEqual(
+            (done.history.start, done.history.parts[0].said.first <= position, row.chain),
+            (position, True, self.kept.chain),
+        )
         self.assertEqual(self.pages_at(referee, row, position), pages(self.made[:position]))
-        found = [block for piece in referee.blocks(row.id, position + 1, row.archived) for block in piece]
+        found = [
+            block for piece in referee.blocks(row.id, position + 1, row.archived) for block in piece
+        ]
         self.assertEqual(found, self.made[position:])
 
     def test_a_base_of_another_history_begins_none(self) -> None:
@@ -220,20 +247,41 @@ class Rescues(Old):
     def test_the_subcommand_says_what_is_lost(self) -> None:
         file, table = self.folder / "c.toml", self.folder / "t.toml"
         file.touch(mode=0o600)
-        more = f'[store]\nendpoint_url = "{self.settings.endpoint_url}"\n' if self.settings.endpoint_url else ""
+        more = (
+            f'[store]\nendpoint_url = "{self.settings.endpoint_url}"\n'
+            if self.settings.endpoint_url
+            else ""
+        )
         file.write_text(f'[archive]\nurl = "{self.lost}"\nstore = "{self.settings.url}"\n{more}')
         table.write_text(TABLE.read_text())
-        words = ["rescue", "shop", "--from", self.settings.url, "--table", str(table), "--credentials", str(file)]
+        words = [
+            "rescue",
+            "shop",
+            "--from",
+            self.settings.url,
+            "--table",
+            str(table),
+            "--credentials",
+            str(file),
+        ]
         done = CliRunner().invoke(pagelogctl, words)
-        self.assertRegex(done.output, r"shop: positions 1 to 600 in \d+ objects and 0 bases, up to 20\d\d-.*go on above 1001\nlost: what was archived after")
-        self.assertIn("PostgreSQL has a database shop", CliRunner().invoke(pagelogctl, words).output)
+        self.assertRegex(
+            done.output,
+            r"shop: positions 1 to 600 in \d+ objects and 0 bases, up to 20\d\d-.*go on above 1001\nlost: what was archived after",
+        )
+        self.assertIn(
+            "PostgreSQL has a database shop", CliRunner().invoke(pagelogctl, words).output
+        )
         self.assertEqual(CliRunner().invoke(pagelogctl, words[:4] + words[6:]).exit_code, 2)
 
     def test_what_is_not_whole_is_refused(self) -> None:
         with self.assertRaisesRegex(NoHistory, "no blocks of sho"):
             self.rescued("sho")
         keys = [row[2] for row in self.objects()]
-        for key, what in ((keys[0], "no history leads from position 1, or from a base, to 600"), (keys[-2], "no history leads")):
+        for key, what in (
+            (keys[0], "no history leads from position 1, or from a base, to 600"),
+            (keys[-2], "no history leads"),
+        ):
             (self.folder / key).rename(self.folder / "away")
             if key == keys[0]:
                 self.assertRaisesRegex(NoHistory, what, self.rescued)
@@ -247,5 +295,9 @@ class Rescues(Old):
         (self.folder / keys[1]).write_bytes(data)
         other = self.folder / f"shop.{'0' * 8}" / "blocks"
         shutil.copytree((self.folder / keys[0]).parent, other)
-        self.assertRaisesRegex(NoHistory, "several databases shop: say which by --stored: shop.00000000, shop.", self.rescued)
+        self.assertRaisesRegex(
+            NoHistory,
+            "several databases shop: say which by --stored: shop.00000000, shop.",
+            self.rescued,
+        )
         self.assertEqual(self.rescued(folder=keys[0].partition("/")[0])[2].archived, 600)

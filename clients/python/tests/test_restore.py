@@ -58,11 +58,15 @@ class Restoring(Pair):
     def test_lsn_for_lsn_in_windows(self) -> None:
         self.archived(300)
         done = self.restore()
-        self.assertEqual((done.blocks, done.archived, done.hard, done.denied_pages), (300, 300, 300, 0))
+        self.assertEqual(
+            (done.blocks, done.archived, done.hard, done.denied_pages), (300, 300, 300, 0)
+        )
         self.assertGreater(done.pages, 40)
         self.same_logs(300)
         with self.target.operator() as operator:
-            entries = [entry for entry in operator.entries(1) if entry.operation is Operation.REPORT]
+            entries = [
+                entry for entry in operator.entries(1) if entry.operation is Operation.REPORT
+            ]
         self.assertEqual([entry.a for entry in entries], [64, 128, 192, 256, 300])
 
     def test_from_postgresql(self) -> None:
@@ -81,7 +85,10 @@ class Restoring(Pair):
             list(primary.harden(self.archive.blocks(1, 70)))
             # And a part of the next window is in one copy, without a report.
             head = pagelog.request.Head(2, bytes.fromhex(token(2)), pagelog.Role.PRIMARY, 0, 1)
-            writes = [pagelog.request.Request(head, pagelog.request.Write(0, block)) for block in self.archive.blocks(71, 90)]
+            writes = [
+                pagelog.request.Request(head, pagelog.request.Write(0, block))
+                for block in self.archive.blocks(71, 90)
+            ]
             self.assertEqual(set(connection.exchange(writes)), {pagelog.reply.Done()})
         self.assertEqual(self.restore().blocks, 200)
         self.assertEqual(self.restore().blocks, 200)
@@ -111,7 +118,9 @@ class Restoring(Pair):
         """The service goes on with the requests of a restore that was killed, while the next one looks and writes."""
         self.archived(300)
         for name, parts in (("harden", [(1, 70), (71, 130)]), ("status", [(1, 70)])):
-            with Service() as fresh, fresh.primary(alone=True) as primary, fresh.reader() as reader, fresh.primary() as killed:
+            with Service() as fresh, fresh.primary(
+                alone=True
+            ) as primary, fresh.reader() as reader, fresh.primary() as killed:
                 asked = reader if name == "status" else primary
                 late = iter(parts)
 
@@ -128,14 +137,20 @@ class Restoring(Pair):
         for count in (0, 3):
             with Service() as other, other.primary(alone=True) as primary, other.reader() as reader:
                 fill(primary, count, seed=9)
-                with self.assertRaisesRegex(OtherService, f"has {count} blocks in epoch 1, and the reader's 40 in epoch 1"):
+                with self.assertRaisesRegex(
+                    OtherService, f"has {count} blocks in epoch 1, and the reader's 40 in epoch 1"
+                ):
                     restore(self.archive, primary, self.reader)
                 self.assertEqual(reader.status().hard, count)
 
     def test_a_table_that_denies_the_comparison_is_told_before_anything_is_written(self) -> None:
         self.archived(40)
         with self.target.operator() as operator:
-            operator.set_table(TABLE.read_text().replace("[[row]]", '[[row]]\nverdict = "deny"\nwho = 3\nop = ["pull"]\n[[row]]', 1))
+            operator.set_table(
+                TABLE.read_text().replace(
+                    "[[row]]", '[[row]]\nverdict = "deny"\nwho = 3\nop = ["pull"]\n[[row]]', 1
+                )
+            )
         with self.assertRaises(pagelog.rules.TableRow):
             self.restore()
         with self.target.reader() as reader:
@@ -176,7 +191,11 @@ class Restoring(Pair):
         self.assertEqual((self.archive.archived, self.archive.check().blocks), (130, 130))
 
     def test_a_table_that_denies_pages_is_told(self) -> None:
-        list(self.primary.stream([[Put(7 * 65536 + at, 0, b"x"), Put(at, 0, b"y")] for at in range(10)]))
+        list(
+            self.primary.stream(
+                [[Put(7 * 65536 + at, 0, b"x"), Put(at, 0, b"y")] for at in range(10)]
+            )
+        )
         with self.source.reader() as reader:
             Archiver(reader, self.archive).run(follow=False)
         done = self.restore()
@@ -187,7 +206,13 @@ class Verifying(Pair):
     def damage(self, lsn: int, records: list[Put]) -> None:
         """The archive gets another block at this LSN, as sound as the one before."""
         data = Block.of(lsn, records).data
-        change(self.archive, "UPDATE pagelog_block SET data = %(data)s, crc = %(crc)s WHERE lsn = %(lsn)s", lsn=lsn, data=data, crc=zlib.crc32(data))
+        change(
+            self.archive,
+            "UPDATE pagelog_block SET data = %(data)s, crc = %(crc)s WHERE lsn = %(lsn)s",
+            lsn=lsn,
+            data=data,
+            crc=zlib.crc32(data),
+        )
 
     def test_alike(self) -> None:
         self.archived(80)
@@ -237,7 +262,10 @@ class Verifying(Pair):
     def test_a_page_that_is_not_answered_is_not_denied(self) -> None:
         """Only a row of the table says that a page may not be read."""
         self.archived(40)
-        for reply, error in ((pagelog.reply.NoMemory(), pagelog.OutOfMemory), (pagelog.reply.AuditFull(), pagelog.AuditListFull)):
+        for reply, error in (
+            (pagelog.reply.NoMemory(), pagelog.OutOfMemory),
+            (pagelog.reply.AuditFull(), pagelog.AuditListFull),
+        ):
             with self.source.reader() as reader, self.assertRaises(error):
                 reader.answers = lambda acts, reply=reply: [reply for _ in acts]  # type: ignore[method-assign, misc]
                 verify(self.archive, reader)
@@ -251,7 +279,10 @@ class Verifying(Pair):
         replay = pagelog.comparing.Replay(seed=12345, count=8)
         plain: dict[int, bytearray] = {}
         for lsn in range(1, 300):
-            records = [Put(lsn * 7 % 100, lsn % 9, bytes([lsn % 256]) * 3), Put(lsn * 13 % 31, 0, b"z")]
+            records = [
+                Put(lsn * 7 % 100, lsn % 9, bytes([lsn % 256]) * 3),
+                Put(lsn * 13 % 31, 0, b"z"),
+            ]
             records += [pagelog.Zero(lsn * 3 % 100)] if lsn % 5 == 0 else []  # type: ignore[list-item]
             block = Block.of(lsn, records)
             replay.take(block)
@@ -271,11 +302,19 @@ class Words(Pair):
         here, there = self.source.credentials_file(), self.target.credentials_file()
         cases = [
             (("verify", "--credentials", here), 0, "verified 70 of 70: 70 blocks and "),
-            (("verify", "--credentials", there), 1, "LogWentBack: the service has 0 blocks, and 70 are archived"),
+            (
+                ("verify", "--credentials", there),
+                1,
+                "LogWentBack: the service has 0 blocks, and 70 are archived",
+            ),
             (("restore", "--credentials", there), 0, "restored 70: 70 blocks and "),
             (("verify", "--credentials", there), 0, "verified 70 of 70: 70 blocks and "),
             (("verify", "--offline"), 0, "sound: 70 blocks, "),
-            (("restore", "--credentials", there, "--db", "5"), 1, "NoArchive: the archive has no log '5': it has '0'"),
+            (
+                ("restore", "--credentials", there, "--db", "5"),
+                1,
+                "NoArchive: the archive has no log '5': it has '0'",
+            ),
             (("restore", "--credentials", there, "--db", "5", "--log", "0"), 1, "UnknownDatabase"),
         ]
         for arguments, status, text in cases:
@@ -288,11 +327,22 @@ class Words(Pair):
     def test_sections_of_two_services_are_refused(self) -> None:
         """[secondary] is left from the file of the source, which has the archive's log: it is not what is filled."""
         self.archived(70)
-        old, new = self.source.credentials_file(name="old.toml"), self.target.credentials_file(secondary=self.source.address)
+        old, new = self.source.credentials_file(name="old.toml"), self.target.credentials_file(
+            secondary=self.source.address
+        )
         cases = [
-            (("restore", "--credentials", new), f"[primary] is at {self.target.address} and [secondary] at {self.source.address}: "),
-            (("move", "--from", old, "--to", new, "--table", TABLE), f"[primary] is at {self.target.address} and [secondary] at {self.source.address}: "),
-            (("move", "--from", new, "--to", old, "--table", TABLE), f"[secondary] is at {self.source.address} and [operator] at {self.target.address}: "),
+            (
+                ("restore", "--credentials", new),
+                f"[primary] is at {self.target.address} and [secondary] at {self.source.address}: ",
+            ),
+            (
+                ("move", "--from", old, "--to", new, "--table", TABLE),
+                f"[primary] is at {self.target.address} and [secondary] at {self.source.address}: ",
+            ),
+            (
+                ("move", "--from", new, "--to", old, "--table", TABLE),
+                f"[secondary] is at {self.source.address} and [operator] at {self.target.address}: ",
+            ),
         ]
         for arguments, text in cases:
             process = words(*arguments, "--url", self.url)
@@ -305,9 +355,21 @@ class Words(Pair):
     def test_a_progress_bar_on_a_terminal(self) -> None:
         self.archived(300)
         main, other = pty.openpty()
-        command = [sys.executable, "-B", "-m", "pagelog", "restore", "--url", self.url, "--credentials", str(self.target.credentials_file())]
+        command = [
+            sys.executable,
+            "-B",
+            "-m",
+            "pagelog",
+            "restore",
+            "--url",
+            self.url,
+            "--credentials",
+            str(self.target.credentials_file()),
+        ]
         environment = {**os.environ, "PYTHONPATH": str(SOURCE), "TERM": "xterm"}
-        process = subprocess.Popen(command, stdout=subprocess.PIPE, stderr=other, text=True, env=environment)
+        process = subprocess.Popen(
+            command, stdout=subprocess.PIPE, stderr=other, text=True, env=environment
+        )
         os.close(other)
         drawn = all_that_is_drawn(main)
         out, _ = process.communicate()
@@ -317,7 +379,9 @@ class Words(Pair):
 
     def test_a_line_each_minute_where_there_is_no_terminal(self) -> None:
         seconds, said = [0.0], io.StringIO()
-        with mock.patch.object(options.time, "monotonic", lambda: seconds[0]), contextlib.redirect_stderr(said):
+        with mock.patch.object(
+            options.time, "monotonic", lambda: seconds[0]
+        ), contextlib.redirect_stderr(said):
             with options.bar("restored") as told:
                 for step in (100, 200):
                     for done in range(step):
@@ -353,5 +417,3 @@ class Words(Pair):
 
 if __name__ == "__main__":
     unittest.main()
-
-

@@ -34,12 +34,23 @@ SECRET = b"s" * 16
 
 def status_of(pid: int) -> dict[str, str]:
     """What /proc has of a process, by its words."""
-    return dict(line.split(":\t", 1) for line in Path(f"/proc/{pid}/status").read_text().splitlines() if ":\t" in line)
+    return dict(
+        line.split(":\t", 1)
+        for line in Path(f"/proc/{pid}/status").read_text().splitlines()
+        if ":\t" in line
+    )
 
 
 def can_read(user: int, path: Path) -> bool:
     """Whether a process of this user can read something there."""
-    return subprocess.run(["sh", "-c", 'test -d "$1" && ls "$1" || cat "$1"', "sh", path], capture_output=True, **of_user(user)).returncode == 0
+    return (
+        subprocess.run(
+            ["sh", "-c", 'test -d "$1" && ls "$1" || cat "$1"', "sh", path],
+            capture_output=True,
+            **of_user(user),
+        ).returncode
+        == 0
+    )
 
 
 @unittest.skipUnless(CAN, WHY_NOT)
@@ -55,33 +66,56 @@ class Runs(unittest.TestCase):
         self.addCleanup(end_services, self.folder)
         self.runner = RunnerOf(top / "runner")
         self.addCleanup(lambda: self.runner.kill())
-        self.runner.start({"PGPASSWORD": "secret", "PAGELOG_ARCHIVE_URL": "postgresql://runner:secret@/"})
-        self.program = Program(PROGRAM, "127.0.0.1", self.folder, 1_000_000, runner=Runner(self.runner.socket))
+        self.runner.start(
+            {"PGPASSWORD": "secret", "PAGELOG_ARCHIVE_URL": "postgresql://runner:secret@/"}
+        )
+        self.program = Program(
+            PROGRAM, "127.0.0.1", self.folder, 1_000_000, runner=Runner(self.runner.socket)
+        )
 
     def start(self, run: str = "r", **how: Any) -> int:
         """Starts one as the keepers' user, who is gone then. Its process."""
         table = table_of_run(WIDE_TABLE, SECRET, "shop", run, Form.OPEN)
-        return int(as_user(KEEPERS, lambda: Run.start(replace(self.program, **how), "shop", run, table).facts.pid))
+        return int(
+            as_user(
+                KEEPERS,
+                lambda: Run.start(replace(self.program, **how), "shop", run, table).facts.pid,
+            )
+        )
 
     def adopted(self, what: Any) -> Any:
         """What the keepers' user finds of it."""
+
         def call() -> Any:
             found = Run.adopt(self.folder, "shop", "r")
             return None if found is None else what(found)
 
         return as_user(KEEPERS, call)
 
-    def test_it_is_another_users_and_has_no_right_no_variable_and_no_descriptor_besides(self) -> None:
+    def test_it_is_another_users_and_has_no_right_no_variable_and_no_descriptor_besides(
+        self,
+    ) -> None:
         pid = self.start()
         told = status_of(pid)
-        self.assertEqual((told["Uid"], told["Gid"], told["Groups"].strip()), ("\t".join([str(SERVICES)] * 4), "\t".join([str(SERVICES)] * 4), ""))
-        self.assertEqual({told[name].strip("0") for name in ("CapInh", "CapPrm", "CapEff", "CapAmb")}, {""})
+        self.assertEqual(
+            (told["Uid"], told["Gid"], told["Groups"].strip()),
+            ("\t".join([str(SERVICES)] * 4), "\t".join([str(SERVICES)] * 4), ""),
+        )
+        self.assertEqual(
+            {told[name].strip("0") for name in ("CapInh", "CapPrm", "CapEff", "CapAmb")}, {""}
+        )
         self.assertEqual(told["NoNewPrivs"], "0")  # the unit's
         inherited = Path(f"/proc/{pid}/environ").read_bytes()
-        self.assertEqual({pair.partition(b"=")[0] for pair in filter(None, inherited.split(b"\0"))} - {b"PATH", b"LANG", b"TZ"}, set())
+        self.assertEqual(
+            {pair.partition(b"=")[0] for pair in filter(None, inherited.split(b"\0"))}
+            - {b"PATH", b"LANG", b"TZ"},
+            set(),
+        )
         opened = {os.readlink(each).partition(" ")[0] for each in Path(f"/proc/{pid}/fd").iterdir()}
-        self.assertEqual({each for each in opened if each.startswith("/") and not each.startswith("/dev/")},
-                         {f"{self.folder}/shop.r.said", "/memfd:pagelog-acknowledged"})  # fmt: skip
+        self.assertEqual(
+            {each for each in opened if each.startswith("/") and not each.startswith("/dev/")},
+            {f"{self.folder}/shop.r.said", "/memfd:pagelog-acknowledged"},
+        )
         for path in (self.folder, self.folder / "shop.r.json", Path(f"/proc/{pid}/fd/2")):
             self.assertFalse(can_read(SERVICES, path), path)
 
@@ -98,10 +132,28 @@ class Runs(unittest.TestCase):
         assert memory is not None
         self.addCleanup(os.close, memory)
         there = os.pread(memory, 1 << 25, 0)
-        self.assertEqual([each for each in (SECRET, SECRET.hex().encode(), b"token", b'"i"') if each in there], [])
-        self.assertEqual([can_read(SERVICES, self.folder / "memory.key"), can_read(KEEPERS, self.folder / "memory.key")], [False, True])
-        self.assertEqual(self.adopted(lambda found: (found.facts.pid, found.seen, found.definition, found.memory > 1 << 20)),
-                         (pid, Seen(0, 7), Definition("i", "a table with a token", SECRET), True))  # fmt: skip
+        self.assertEqual(
+            [each for each in (SECRET, SECRET.hex().encode(), b"token", b'"i"') if each in there],
+            [],
+        )
+        self.assertEqual(
+            [
+                can_read(SERVICES, self.folder / "memory.key"),
+                can_read(KEEPERS, self.folder / "memory.key"),
+            ],
+            [False, True],
+        )
+        self.assertEqual(
+            self.adopted(
+                lambda found: (
+                    found.facts.pid,
+                    found.seen,
+                    found.definition,
+                    found.memory > 1 << 20,
+                )
+            ),
+            (pid, Seen(0, 7), Definition("i", "a table with a token", SECRET), True),
+        )
         self.assertTrue(self.adopted(lambda found: found.end()))
         self.assertFalse(Path(f"/proc/{pid}").exists())
         self.assertEqual([each.name for each in self.folder.iterdir()], ["memory.key"])
@@ -110,7 +162,10 @@ class Runs(unittest.TestCase):
         def started() -> list[bool]:
             null = os.open(os.devnull, os.O_RDWR)
             hired = self.program.runner.start(["sleep", "60"], null, null)  # type: ignore[union-attr]
-            found = [os.get_inheritable(each) for each in (hired.descriptor, hired.stdin.fileno(), hired.stdout.fileno())]
+            found = [
+                os.get_inheritable(each)
+                for each in (hired.descriptor, hired.stdin.fileno(), hired.stdout.fileno())
+            ]
             hired.kill()
             return found
 
@@ -126,7 +181,10 @@ class Runs(unittest.TestCase):
         self.assertEqual([pid], services(self.folder))
         self.runner.start()
         self.assertEqual(self.adopted(lambda found: found.facts.pid), pid)
-        self.assertEqual(as_user(KEEPERS, lambda: [each.end() for each in orphans_of(self.folder, set())]), [True])
+        self.assertEqual(
+            as_user(KEEPERS, lambda: [each.end() for each in orphans_of(self.folder, set())]),
+            [True],
+        )
         self.assertEqual(services(self.folder), [])
 
     def test_it_is_waited_for_while_it_is_started_again(self) -> None:
@@ -142,13 +200,19 @@ class Runs(unittest.TestCase):
         before = opened()
         pid = self.start()
         self.adopted(lambda found: found.end())
-        eventually(lambda: not Path(f"/proc/{pid}").exists() and opened() == before, "what a runner has of a service that was ended")
+        eventually(
+            lambda: not Path(f"/proc/{pid}").exists() and opened() == before,
+            "what a runner has of a service that was ended",
+        )
 
     def test_nobody_else_may_ask_the_runner(self) -> None:
         pid = self.start()
         for user in (SERVICES, 64_003):
-            for ask in (lambda: Runner(self.runner.socket).check(), lambda: Runner(self.runner.socket).end(os.pidfd_open(pid)),
-                        lambda: Runner(self.runner.socket).memory_of(pid, os.pidfd_open(pid))):  # fmt: skip
+            for ask in (
+                lambda: Runner(self.runner.socket).check(),
+                lambda: Runner(self.runner.socket).end(os.pidfd_open(pid)),
+                lambda: Runner(self.runner.socket).memory_of(pid, os.pidfd_open(pid)),
+            ):
                 with self.assertRaisesRegex(RunnerError, f"user {user} may not ask it"):
                     as_user(user, ask)
         self.assertEqual(services(self.folder), [pid])
@@ -167,7 +231,17 @@ class Runs(unittest.TestCase):
     def test_whoever_sends_anything_else_holds_up_nobody(self) -> None:
         def odd() -> None:
             runner = Runner(self.runner.socket)
-            for text in (b"x", b"7", b"[]", b"[" * 20_000, b'{"start": 7}', b'{"start": []}', b'{"end": 1}', b'{"memory": "x"}', b'{"nothing": 1}'):
+            for text in (
+                b"x",
+                b"7",
+                b"[]",
+                b"[" * 20_000,
+                b'{"start": 7}',
+                b'{"start": []}',
+                b'{"end": 1}',
+                b'{"memory": "x"}',
+                b'{"nothing": 1}',
+            ):
                 try:
                     runner._reply(text, (), time.monotonic() + PATIENCE)
                 except (OSError, EOFError):
@@ -194,7 +268,10 @@ class Runs(unittest.TestCase):
         self.addCleanup(lambda: [os.kill(each, signal.SIGKILL) for each in own.children()])
         null = os.open(os.devnull, os.O_RDWR)
         self.addCleanup(os.close, null)
-        for call in (lambda: Runner(own.socket).check(), lambda: Runner(own.socket).start(["sleep", "600"], null, null)):
+        for call in (
+            lambda: Runner(own.socket).check(),
+            lambda: Runner(own.socket).start(["sleep", "600"], null, null),
+        ):
             with self.assertRaisesRegex(RunnerError, "as this very user"):
                 as_user(KEEPERS, call)
         eventually(lambda: not own.children(), "the end of what it has started")
@@ -205,10 +282,20 @@ class Runs(unittest.TestCase):
             run = new_run()
             status = self.killed_at(run, at)
             self.assertIn(status, (0, -signal.SIGKILL))
-            ended = as_user(KEEPERS, lambda: [each.end() for each in orphans_of(self.folder, {run})])
-            adopted = as_user(KEEPERS, lambda: None if (found := Run.adopt(self.folder, "shop", run)) is None else found.facts.pid)
+            ended = as_user(
+                KEEPERS, lambda: [each.end() for each in orphans_of(self.folder, {run})]
+            )
+            adopted = as_user(
+                KEEPERS,
+                lambda: None
+                if (found := Run.adopt(self.folder, "shop", run)) is None
+                else found.facts.pid,
+            )
             kept = [] if adopted is None else [adopted]
-            eventually(lambda: services(self.folder) == kept, f"the end of a service whose keeper was killed before line {at}")
+            eventually(
+                lambda: services(self.folder) == kept,
+                f"the end of a service whose keeper was killed before line {at}",
+            )
             kinds.add((bool(ended), bool(kept)))
             end_services(self.folder)
             if status == 0:
@@ -232,7 +319,12 @@ class Runs(unittest.TestCase):
                 os.setresgid(KEEPERS, KEEPERS, KEEPERS)
                 os.setresuid(KEEPERS, KEEPERS, KEEPERS)
                 sys.settrace(traced)
-                Run.start(self.program, "shop", run, table_of_run(WIDE_TABLE, SECRET, "shop", run, Form.OPEN))
+                Run.start(
+                    self.program,
+                    "shop",
+                    run,
+                    table_of_run(WIDE_TABLE, SECRET, "shop", run, Form.OPEN),
+                )
                 os._exit(0)
             except BaseException:
                 traceback.print_exc()
@@ -260,10 +352,16 @@ class Services(Kept):
         self.keeping.kill("a")
         self.keeping.start("a")
         self.commit(primary, "second", durable=True)
-        self.assertEqual((self.keeping.pid(), status_of(pid)["Uid"].split()[0]), (pid, str(SERVICES)))
+        self.assertEqual(
+            (self.keeping.pid(), status_of(pid)["Uid"].split()[0]), (pid, str(SERVICES))
+        )
         self.assertEqual(self.row_generation(), 1)
         self.keeping.word("succeed", "shop")
-        eventually(lambda: self.row_generation() > 1 and services(self.keeping.folder / "a") == [self.keeping.pid()], "the end of the first one")
+        eventually(
+            lambda: self.row_generation() > 1
+            and services(self.keeping.folder / "a") == [self.keeping.pid()],
+            "the end of the first one",
+        )
         self.commit(primary, "third", durable=True)
         os.kill(self.keeping.pid(), signal.SIGKILL)  # and another is filled, by the same runner
         self.commit(primary, "fourth", durable=True)
@@ -280,8 +378,13 @@ class Services(Kept):
         os.chown(key, KEEPERS, KEEPERS)
         self.keeping.pid()
         keeper = self.keeping.processes["a"].pid
-        for path in (self.keeping.file, self.keeping.folder / "a", key, *(self.keeping.folder / "a").glob("*"),
-                     *(Path(f"/proc/{keeper}/{name}") for name in ("environ", "fd", "mem", "maps"))):  # fmt: skip
+        for path in (
+            self.keeping.file,
+            self.keeping.folder / "a",
+            key,
+            *(self.keeping.folder / "a").glob("*"),
+            *(Path(f"/proc/{keeper}/{name}") for name in ("environ", "fd", "mem", "maps")),
+        ):
             self.assertFalse(can_read(SERVICES, path), path)
         self.assertTrue(can_read(KEEPERS, self.keeping.file))
 
@@ -297,7 +400,9 @@ class Services(Kept):
         pid = self.keeping.pid()
         self.apart.runner.kill()
         os.kill(pid, signal.SIGKILL)
-        eventually(lambda: "no runner of services answers" in self.keeping.said(), "a keeper that says so")
+        eventually(
+            lambda: "no runner of services answers" in self.keeping.said(), "a keeper that says so"
+        )
         self.apart.runner.start()
         primary = self.keeping.primary()
         self.addCleanup(primary.close)

@@ -23,8 +23,18 @@ from unittest.mock import patch
 
 from keepers import blocks, end_services, eventually, services
 from pagelog import (
-    Connection, Credentials, HardenedAlready, OlderEpoch, Operator, OtherPrimary, Primary, Put, Reader, TableRow, UnknownPrincipal,
-)  # fmt: skip
+    Connection,
+    Credentials,
+    HardenedAlready,
+    OlderEpoch,
+    Operator,
+    OtherPrimary,
+    Primary,
+    Put,
+    Reader,
+    TableRow,
+    UnknownPrincipal,
+)
 from pagelog.keeper.archiver import Archiver
 from pagelog.keeper.committer import Committer
 from pagelog.keeper.acknowledged import memory_of, new_memory
@@ -33,10 +43,28 @@ from pagelog.keeper.loading import Loader
 from pagelog.keeper.referee import Away, BrokenArchive, digest
 from pagelog.keeper.rows import Row, TableOf
 from pagelog.keeper import run as run_module
-from pagelog.keeper.run import NotStarted, Program, Run, Seen, _facts_of, is_there, new_run, orphans_of
+from pagelog.keeper.run import (
+    NotStarted,
+    Program,
+    Run,
+    Seen,
+    _facts_of,
+    is_there,
+    new_run,
+    orphans_of,
+)
 from pagelog.keeper.served import Served
 from pagelog.keeper.succession import _closed
-from pagelog.keeper.table import KEEPER, Form, TableError, keeper_of, quorum_of, read_table, table_of_run, token_of
+from pagelog.keeper.table import (
+    KEEPER,
+    Form,
+    TableError,
+    keeper_of,
+    quorum_of,
+    read_table,
+    table_of_run,
+    token_of,
+)
 from pagelog.keeper.waits import Waits
 from service import PATIENCE, PROGRAM, TABLE, WIDE_TABLE, Port, token
 
@@ -70,24 +98,46 @@ class Tables(unittest.TestCase):
         tokens = {each["id"]: each["token"] for each in found["principal"]}
         self.assertEqual(tokens[2], token_of(bytes.fromhex(token(2)), "shop", "r1").hex())
         self.assertEqual(tokens[KEEPER], keeper_of(SECRET, "shop", "r1").token.hex())
-        others = [table_of_run(TABLE.read_text(), SECRET, *of, Form.OPEN) for of in (("shop", "r2"), ("ship", "r1"))]
+        others = [
+            table_of_run(TABLE.read_text(), SECRET, *of, Form.OPEN)
+            for of in (("shop", "r2"), ("ship", "r1"))
+        ]
         for each in tokens.values():
             self.assertNotIn(each, token(2) + "".join(others))
 
     def test_rows_and_counts_are_kept_behind_those_of_the_keeper(self) -> None:
         text = "copies = 6\nquorum = 4\n" + TABLE.read_text()
-        found, given = tomllib.loads(table_of_run(text, SECRET, "shop", "r", Form.READING)), tomllib.loads(text)
+        found, given = tomllib.loads(
+            table_of_run(text, SECRET, "shop", "r", Form.READING)
+        ), tomllib.loads(text)
         self.assertEqual((found["copies"], found["quorum"], quorum_of(text)), (6, 4, 4))
         self.assertEqual(found["row"][0], {"verdict": "allow", "who": KEEPER})
-        self.assertEqual([row["role"] for row in found["row"][1:4]], ["primary", "page_server", "operator"])
+        self.assertEqual(
+            [row["role"] for row in found["row"][1:4]], ["primary", "page_server", "operator"]
+        )
         self.assertEqual(found["row"][4:], given["row"])
 
     def test_what_is_no_table_is_refused(self) -> None:
         principal = f'[[principal]]\nid = 7\ntoken = "{token(7)}"\n'
-        for text in ("", "x", "a = 1", principal + "[x]\n", "[[principal]]\nid = 1\n", principal.replace("7\n", f"{KEEPER}\n", 1),
-                     principal + "[[row]]\nverdict = 1979-05-27\n", principal + "[[row]]\nwho = inf\n", principal + "[[row]]\nop = [nan]\n",
-                     principal + "[[row]]\nwho = {}\n", "row = [7]\n" + principal, "principal = [7]\n", "copies = 1979-05-27\n" + principal,
-                     "a = " + "[" * 5000, principal * 64, principal + '[[row]]\nverdict = "allow"\n' * 253, "quorum = 3\n" + principal):  # fmt: skip
+        for text in (
+            "",
+            "x",
+            "a = 1",
+            principal + "[x]\n",
+            "[[principal]]\nid = 1\n",
+            principal.replace("7\n", f"{KEEPER}\n", 1),
+            principal + "[[row]]\nverdict = 1979-05-27\n",
+            principal + "[[row]]\nwho = inf\n",
+            principal + "[[row]]\nop = [nan]\n",
+            principal + "[[row]]\nwho = {}\n",
+            "row = [7]\n" + principal,
+            "principal = [7]\n",
+            "copies = 1979-05-27\n" + principal,
+            "a = " + "[" * 5000,
+            principal * 64,
+            principal + '[[row]]\nverdict = "allow"\n' * 253,
+            "quorum = 3\n" + principal,
+        ):
             with self.assertRaises(TableError):
                 quorum_of(text)
         read_table(principal + '[[row]]\nverdict = "allow"\n' * 252)
@@ -98,13 +148,21 @@ class Runs(unittest.TestCase):
         self.folder = Path(self.enterContext(tempfile.TemporaryDirectory()))
         self.program = Program(PROGRAM, "127.0.0.1", self.folder, 1_000_000)
 
-    def start(self, form: Form = Form.OPEN, listen: str | None = None, run: str | None = None) -> Run:
+    def start(
+        self, form: Form = Form.OPEN, listen: str | None = None, run: str | None = None
+    ) -> Run:
         run = run or new_run()
         if listen is None:
             port = Port()
             self.addCleanup(port.close)
             listen = port.address
-        started = Run.start(self.program, "shop", run, table_of_run(WIDE_TABLE, SECRET, "shop", run, form), listen=listen)
+        started = Run.start(
+            self.program,
+            "shop",
+            run,
+            table_of_run(WIDE_TABLE, SECRET, "shop", run, form),
+            listen=listen,
+        )
         self.addCleanup(self.kill, started)
         return started
 
@@ -115,33 +173,55 @@ class Runs(unittest.TestCase):
         run._child.wait()
 
     def test_a_service_inherits_no_secret_of_its_keeper(self) -> None:
-        with patch.dict(os.environ, PAGELOG_ARCHIVE_URL="postgresql://keeper:secret@/", PGPASSWORD="secret", PAGELOG_OPERATOR_TOKEN=token(1)):
+        with patch.dict(
+            os.environ,
+            PAGELOG_ARCHIVE_URL="postgresql://keeper:secret@/",
+            PGPASSWORD="secret",
+            PAGELOG_OPERATOR_TOKEN=token(1),
+        ):
             with (self.folder / "keeper.toml").open("w") as _, socket.socket():
                 run = self.start()
-        opened = {os.readlink(each).partition(" ")[0] for each in Path(f"/proc/{run.facts.pid}/fd").iterdir()}
+        opened = {
+            os.readlink(each).partition(" ")[0]
+            for each in Path(f"/proc/{run.facts.pid}/fd").iterdir()
+        }
         files = {each for each in opened if each.startswith("/") and not each.startswith("/dev/")}
-        self.assertEqual(files, {f"{self.folder}/shop.{run.name}.said", "/memfd:pagelog-acknowledged"})
+        self.assertEqual(
+            files, {f"{self.folder}/shop.{run.name}.said", "/memfd:pagelog-acknowledged"}
+        )
         inherited = Path(f"/proc/{run.facts.pid}/environ").read_bytes()
-        self.assertEqual({pair.partition(b"=")[0] for pair in filter(None, inherited.split(b"\0"))} - {b"PATH", b"LANG", b"TZ"}, set())
+        self.assertEqual(
+            {pair.partition(b"=")[0] for pair in filter(None, inherited.split(b"\0"))}
+            - {b"PATH", b"LANG", b"TZ"},
+            set(),
+        )
         self.assertIn(b"PATH=", inherited)
 
     def client(self, kind: type, run: Run, id: int) -> object:
-        return kind(Connection(run.address), Credentials(id, token_of(bytes.fromhex(token(id)), "shop", run.name)))
+        return kind(
+            Connection(run.address),
+            Credentials(id, token_of(bytes.fromhex(token(id)), "shop", run.name)),
+        )
 
     def keeper(self, kind: type, run: Run) -> object:
         return kind(Connection(run.address), keeper_of(SECRET, "shop", run.name))
 
     def test_a_client_at_the_port_of_a_later_run_is_denied(self) -> None:
         first = self.start()
-        old = Primary.take_over(Connection(first.address), Credentials(2, token_of(bytes.fromhex(token(2)), "shop", first.name)),
-                                self.client(Operator, first, 1))  # fmt: skip
+        old = Primary.take_over(
+            Connection(first.address),
+            Credentials(2, token_of(bytes.fromhex(token(2)), "shop", first.name)),
+            self.client(Operator, first, 1),
+        )
         old.append(Put(0, 0, b"x"))
         self.assertEqual((old.commit(), old.epoch), (1, 2))
         first.end()
         second = self.start(listen=first.address)
         with Loader(second.address, keeper_of(SECRET, "shop", second.name)) as loader:
             loader.load(1, [blocks(1, 1)])
-        self.client(Operator, second, 1).failover(2)  # the same epoch and primary as before, at the same address
+        self.client(Operator, second, 1).failover(
+            2
+        )  # the same epoch and primary as before, at the same address
         old.append(Put(0, 0, b"y"))
         with self.assertRaises(UnknownPrincipal):
             old.commit()
@@ -150,8 +230,11 @@ class Runs(unittest.TestCase):
     def test_with_the_tokens_of_the_table_the_old_client_would_write_on(self) -> None:
         # The precaution taken out, so that the test above is known to see it.
         first = self.start(run="same")
-        old = Primary.take_over(Connection(first.address), Credentials(2, token_of(bytes.fromhex(token(2)), "shop", "same")),
-                                self.client(Operator, first, 1))  # fmt: skip
+        old = Primary.take_over(
+            Connection(first.address),
+            Credentials(2, token_of(bytes.fromhex(token(2)), "shop", "same")),
+            self.client(Operator, first, 1),
+        )
         old.append(Put(0, 0, b"x"))
         old.commit()
         first.end()
@@ -183,7 +266,9 @@ class Runs(unittest.TestCase):
         run = served.process
         assert run is not None
         operator = self.client(Operator, run, 1)
-        writer = Primary.take_over(Connection(run.address), self.client(Primary, run, 2).credentials, operator)
+        writer = Primary.take_over(
+            Connection(run.address), self.client(Primary, run, 2).credentials, operator
+        )
         writer.append(Put(0, 0, b"x"))
         self.assertEqual((writer.commit(), served.close()), (1, 1))
         with self.assertRaises(TableRow):
@@ -195,23 +280,32 @@ class Runs(unittest.TestCase):
         self.assertEqual((served.hard, served.answers), (1, 1))
         self.assertEqual([len(served.pulled(0)), served.pulled(1)], [1, []])
 
-    def test_what_was_not_archived_when_a_service_was_closed_is_brought_to_the_next_one(self) -> None:
+    def test_what_was_not_archived_when_a_service_was_closed_is_brought_to_the_next_one(
+        self,
+    ) -> None:
         known = blocks(1, 2)
-        present, following = (Served("shop", run, WIDE_TABLE, SECRET, timeout=PATIENCE) for run in ("r1", "r2"))
+        present, following = (
+            Served("shop", run, WIDE_TABLE, SECRET, timeout=PATIENCE) for run in ("r1", "r2")
+        )
         for each in (present, following):
             each.start(self.program)
             self.addCleanup(each.end)
             each.fill([known], 2, digest(b"", known))
         present.open()
         assert present.process is not None
-        writer = Primary.take_over(Connection(present.process.address), self.client(Primary, present.process, 2).credentials,
-                                   self.client(Operator, present.process, 1))  # fmt: skip
+        writer = Primary.take_over(
+            Connection(present.process.address),
+            self.client(Primary, present.process, 2).credentials,
+            self.client(Operator, present.process, 1),
+        )
         for _ in range(3):
             writer.append(Put(0, 0, b"x"))
             writer.commit()
         with following.loader() as loader:
             switch = _closed(7, 4, present, following, loader)
-        self.assertEqual((switch.log, switch.next, switch.old, switch.end, switch.next_run), (7, 4, 2, 5, "r2"))
+        self.assertEqual(
+            (switch.log, switch.next, switch.old, switch.end, switch.next_run), (7, 4, 2, 5, "r2")
+        )
         self.assertEqual((following.pulled(0), following.reached), ([*known, *switch.blocks], 5))
         self.assertEqual(digest(b"", [*known, *switch.blocks]), switch.chain)
         # The same of a release.
@@ -234,7 +328,10 @@ class Runs(unittest.TestCase):
         for loaded in (70, 140):
             with self.assertRaises(Away):
                 served.fill(broken(), 200, digest(b"", known))
-            self.assertEqual((served.loaded, served.reached, served.chain, served.end_of_log()), (loaded, 0, b"", loaded))
+            self.assertEqual(
+                (served.loaded, served.reached, served.chain, served.end_of_log()),
+                (loaded, 0, b"", loaded),
+            )
         with self.assertRaises(BrokenArchive):
             served.check(0, b"")  # what it has beyond was compared with nothing yet
         served.fill([known[140:]], 200, digest(b"", known))
@@ -244,12 +341,16 @@ class Runs(unittest.TestCase):
     def test_what_an_older_keeper_does_not_know_of_a_process_stays_noted(self) -> None:
         run = self.start()
         file = self.folder / f"shop.{run.name}.json"
-        file.write_text(json.dumps({**json.loads(file.read_text()), "place": {"of": "a later keeper"}}))
+        file.write_text(
+            json.dumps({**json.loads(file.read_text()), "place": {"of": "a later keeper"}})
+        )
         adopted = Run.adopt(self.folder, "shop", run.name)
         assert adopted is not None
         adopted.set_aside(3, 4)
         facts = json.loads(file.read_text())
-        self.assertEqual((facts["place"], facts["kept"], facts["shift"]), ({"of": "a later keeper"}, True, 3))
+        self.assertEqual(
+            (facts["place"], facts["kept"], facts["shift"]), ({"of": "a later keeper"}, True, 3)
+        )
 
     def test_a_service_is_adopted_by_a_later_keeper(self) -> None:
         run = self.start()
@@ -278,7 +379,9 @@ class Runs(unittest.TestCase):
         self.assertEqual(adopted.seen, Seen(0, 7))
         adopted.note_seen(Seen(3, 6))
         self.assertEqual(adopted.seen, Seen(3, 7))
-        self.assertIsNone(Run(self.folder, run.facts, -1).acknowledged)  # of a process that is not known to be this one
+        self.assertIsNone(
+            Run(self.folder, run.facts, -1).acknowledged
+        )  # of a process that is not known to be this one
         os.kill(run.facts.pid, signal.SIGKILL)
         adopted.end()
         run.leave()
@@ -287,7 +390,9 @@ class Runs(unittest.TestCase):
     def test_its_memory_is_found_though_it_closes_other_descriptors_meanwhile(self) -> None:
         run, listdir = self.start(), os.listdir
         self.addCleanup(run.end)
-        with patch("pagelog.keeper.acknowledged.os.listdir", lambda folder: ["-1", *listdir(folder)]):
+        with patch(
+            "pagelog.keeper.acknowledged.os.listdir", lambda folder: ["-1", *listdir(folder)]
+        ):
             memory = memory_of(run.facts.pid)
         assert memory is not None
         os.close(memory)
@@ -303,7 +408,11 @@ class Runs(unittest.TestCase):
         served.reached = 7
         for text in (WIDE_TABLE, *(f"# {number}\n{WIDE_TABLE}" for number in range(2, 5))):
             self.assertEqual(adopted.definition, Definition("i", text, SECRET, "ship"))
-            served.renew(TableOf(f"# {served.table_number + 1}\n{WIDE_TABLE}", SECRET, served.table_number + 1))
+            served.renew(
+                TableOf(
+                    f"# {served.table_number + 1}\n{WIDE_TABLE}", SECRET, served.table_number + 1
+                )
+            )
         # One that was broken off leaves the one before.
         whole = adopted.definition
         with patch("os.pwrite", lambda memory, data, place: os.pwritev(memory, [data[:9]], place)):
@@ -321,14 +430,31 @@ class Runs(unittest.TestCase):
         made.note(memory, seal)
         made.note(other, seal)
         there = os.pread(memory, 1 << 25, 0)
-        self.assertEqual([each for each in (SECRET, SECRET.hex().encode(), token(2).encode(), bytes.fromhex(token(2))) if each in there], [])
+        self.assertEqual(
+            [
+                each
+                for each in (
+                    SECRET,
+                    SECRET.hex().encode(),
+                    token(2).encode(),
+                    bytes.fromhex(token(2)),
+                )
+                if each in there
+            ],
+            [],
+        )
         self.assertFalse(there == os.pread(other, 1 << 25, 0))  # of 16 MiB
         self.assertEqual(Definition.noted(memory, Seal.made(self.folder, "r")), made)
         self.assertIsNone(Definition.noted(memory, Seal.made(self.folder, "another")))
         with tempfile.TemporaryDirectory() as folder:
             self.assertIsNone(Definition.noted(memory, Seal.made(Path(folder), "r")))
         first = mmap.PAGESIZE + (1 << 24)
-        for at in (7, 12, 12 + 12, len(there) - first - 1):  # its number, its nonce, what is hidden, its tag
+        for at in (
+            7,
+            12,
+            12 + 12,
+            len(there) - first - 1,
+        ):  # its number, its nonce, what is hidden, its tag
             os.pwrite(other, there, 0)
             os.pwrite(other, bytes([there[first + at] ^ 2]), first + at)
             self.assertIsNone(Definition.noted(other, seal), at)
@@ -343,7 +469,10 @@ class Runs(unittest.TestCase):
         with patch("os.pidfd_open", wraps=os.pidfd_open) as opened, Opens(self.folder) as opens:
             adopted = Run.adopt(self.folder, "shop", run.name)
         assert adopted is not None
-        self.assertEqual(([each.args for each in opened.call_args_list], opens.names), ([(run.facts.pid,)], [run.facts.file_name]))
+        self.assertEqual(
+            ([each.args for each in opened.call_args_list], opens.names),
+            ([(run.facts.pid,)], [run.facts.file_name]),
+        )
         adopted.end()
         run.leave()
 
@@ -361,7 +490,9 @@ class Runs(unittest.TestCase):
         script, kill = self.folder / "program", subprocess.Popen.kill
         script.write_text("#!/bin/sh\nexec sleep 600\n")
         script.chmod(0o700)
-        with patch.object(subprocess.Popen, "kill", lambda child: self.addCleanup(kill, child)), patch("pagelog.keeper.run._END", 0.01):
+        with patch.object(
+            subprocess.Popen, "kill", lambda child: self.addCleanup(kill, child)
+        ), patch("pagelog.keeper.run._END", 0.01):
             with self.assertRaisesRegex(NotStarted, "it said nothing"):
                 Run.start(replace(self.program, path=str(script), patience=0.01), "shop", "r", "")
 
@@ -385,7 +516,11 @@ class Runs(unittest.TestCase):
         run = self.start()
         other = self.later(run)
         file = self.folder / run.facts.file_name
-        for facts in (replace(run.facts, pid=other.pid), replace(run.facts, started=1), replace(run.facts, boot="x")):
+        for facts in (
+            replace(run.facts, pid=other.pid),
+            replace(run.facts, started=1),
+            replace(run.facts, boot="x"),
+        ):
             file.write_text(json.dumps(vars(facts)))
             self.assertIsNone(Run.adopt(self.folder, "shop", run.name))
             file.write_text(json.dumps(vars(facts)))
@@ -403,7 +538,9 @@ class Runs(unittest.TestCase):
     def test_what_a_keeper_left_that_was_killed_while_it_started_a_service_is_removed(self) -> None:
         run = self.start()
         file = self.folder / run.facts.file_name
-        file.write_text(json.dumps({**vars(run.facts), "address": None}))  # it does not listen yet: nobody could adopt it
+        file.write_text(
+            json.dumps({**vars(run.facts), "address": None})
+        )  # it does not listen yet: nobody could adopt it
         for name in ("ship.r.said", "ship.r.json.new"):
             (self.folder / name).touch()
         self.assertEqual(self.left({run.name}), ["shop"])
@@ -424,7 +561,9 @@ class Runs(unittest.TestCase):
         def held(*words: Any, **how: Any) -> subprocess.Popen[bytes]:
             made = start(*words, **how)
             assert made.stdout is not None
-            socket.send_fds(there, [b"x"], [made.stdout.fileno()])  # as where it had said where it listens before the kill
+            socket.send_fds(
+                there, [b"x"], [made.stdout.fileno()]
+            )  # as where it had said where it listens before the kill
             return made
 
         keeper = os.fork()
@@ -432,7 +571,12 @@ class Runs(unittest.TestCase):
             try:
                 with patch("subprocess.Popen", held):
                     sys.settrace(traced)
-                    Run.start(self.program, "shop", run, table_of_run(WIDE_TABLE, SECRET, "shop", run, Form.OPEN))
+                    Run.start(
+                        self.program,
+                        "shop",
+                        run,
+                        table_of_run(WIDE_TABLE, SECRET, "shop", run, Form.OPEN),
+                    )
                 os._exit(0)
             finally:
                 os._exit(1)
@@ -442,7 +586,9 @@ class Runs(unittest.TestCase):
                 self.addCleanup(os.close, descriptor)
         return os.waitstatus_to_exitcode(os.waitpid(keeper, 0)[1])
 
-    def test_wherever_a_keeper_is_killed_as_it_starts_a_service_that_can_be_adopted_or_ends(self) -> None:
+    def test_wherever_a_keeper_is_killed_as_it_starts_a_service_that_can_be_adopted_or_ends(
+        self,
+    ) -> None:
         self.addCleanup(end_services, self.folder)
         status, kinds = -signal.SIGKILL, set()
         for at in itertools.count(1):
@@ -451,7 +597,10 @@ class Runs(unittest.TestCase):
             ended = self.left({run})
             adopted = Run.adopt(self.folder, "shop", run)
             kept = [] if adopted is None else [adopted.facts.pid]
-            eventually(lambda: services(self.folder) == kept, f"the end of a service whose keeper was killed before line {at}")
+            eventually(
+                lambda: services(self.folder) == kept,
+                f"the end of a service whose keeper was killed before line {at}",
+            )
             kinds.add((bool(ended), bool(kept)))
             if adopted is not None:
                 adopted.end()
@@ -469,16 +618,30 @@ class Runs(unittest.TestCase):
         self.assertEqual((list(self.folder.iterdir()), os.listdir("/proc/self/fd")), ([], before))
 
     def test_a_service_that_cannot_be_watched_any_more_is_ended(self) -> None:
-        children, start, no_more = list[subprocess.Popen[bytes]](), subprocess.Popen, OSError(errno.EMFILE, "too many open files")
+        children, start, no_more = (
+            list[subprocess.Popen[bytes]](),
+            subprocess.Popen,
+            OSError(errno.EMFILE, "too many open files"),
+        )
 
         def started(*words: Any, **how: Any) -> subprocess.Popen[bytes]:
             children.append(start(*words, **how))
             return children[-1]
 
-        with patch("subprocess.Popen", started), patch("os.pidfd_open", side_effect=no_more), patch.object(Path, "read_text", side_effect=no_more):
+        with patch("subprocess.Popen", started), patch(
+            "os.pidfd_open", side_effect=no_more
+        ), patch.object(Path, "read_text", side_effect=no_more):
             with self.assertRaisesRegex(NotStarted, "too many open files"):
-                Run.start(self.program, "shop", "r", table_of_run(TABLE_TEXT, SECRET, "shop", "r", Form.OPEN))
-        self.assertEqual(([child.poll() for child in children], list(self.folder.iterdir())), ([-signal.SIGKILL], []))
+                Run.start(
+                    self.program,
+                    "shop",
+                    "r",
+                    table_of_run(TABLE_TEXT, SECRET, "shop", "r", Form.OPEN),
+                )
+        self.assertEqual(
+            ([child.poll() for child in children], list(self.folder.iterdir())),
+            ([-signal.SIGKILL], []),
+        )
 
     def test_a_service_is_filled_with_the_bytes_of_the_archive(self) -> None:
         run = self.start(Form.READING)

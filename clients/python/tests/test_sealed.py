@@ -51,7 +51,11 @@ class Stores(unittest.TestCase):
         assert stored.sealed is not None
         with self.assertRaises(TableError):
             read_table(stored.text)  # an older keeper takes it for no table
-        for identity, sealed in ((OTHER, stored.sealed), *((ONE, _turned(stored.sealed, at)) for at in (0, 12, len(stored.sealed) - 1)), (ONE, b"")):
+        for identity, sealed in (
+            (OTHER, stored.sealed),
+            *((ONE, _turned(stored.sealed, at)) for at in (0, 12, len(stored.sealed) - 1)),
+            (ONE, b""),
+        ):
             with self.assertRaisesRegex(NoKey, "is not what was sealed"):
                 keys.open(identity, Stored(INSTEAD, b"", sealed, stored.key))
         with self.assertRaisesRegex(NoKey, "no .archive. key_file is named"):
@@ -66,7 +70,9 @@ class Stores(unittest.TestCase):
         before = keys.store(ONE, "text", b"")
         self.write(second, first)
         after = keys.store(ONE, "text", b"")
-        self.assertEqual([before.key, after.key], [id_of(bytes.fromhex(key)) for key in (first, second)])
+        self.assertEqual(
+            [before.key, after.key], [id_of(bytes.fromhex(key)) for key in (first, second)]
+        )
         self.assertEqual(keys.open(ONE, before), keys.open(ONE, after))
         self.write(second)
         self.assertEqual(keys.open(ONE, after), ("text", b""))
@@ -74,8 +80,12 @@ class Stores(unittest.TestCase):
             keys.open(ONE, before)
 
     def test_a_file_that_is_none_is_refused(self) -> None:
-        for lines, mode, why in (((new_key(),), 0o640, "others may read"), ((), 0o600, "64 hexadecimal"), ((new_key()[1:],), 0o600, "64 hexadecimal"),
-                                 (("ü" * 64,), 0o600, "64 hexadecimal")):  # fmt: skip
+        for lines, mode, why in (
+            ((new_key(),), 0o640, "others may read"),
+            ((), 0o600, "64 hexadecimal"),
+            ((new_key()[1:],), 0o600, "64 hexadecimal"),
+            (("ü" * 64,), 0o600, "64 hexadecimal"),
+        ):
             with self.subTest(why), self.assertRaisesRegex(CredentialsError, why):
                 self.write(*lines, mode=mode).ids
         self.file.unlink()
@@ -94,19 +104,33 @@ class Kept(unittest.TestCase):
         self.plain.touch(mode=0o600)
         self.plain.write_text(self.keeping.file.read_text())
         self.secrets = Secrets(self.keeping)
-        self.keys, self.first, self.second = self.secrets.keys, self.secrets.keys.read_text().strip(), new_key()
+        self.keys, self.first, self.second = (
+            self.secrets.keys,
+            self.secrets.keys.read_text().strip(),
+            new_key(),
+        )
 
     def write(self, *lines: str) -> None:
         self.keys.touch(mode=0o600)
         self.keys.write_text("\n".join(lines) + "\n")
 
     def failed(self, *words: object) -> str:
-        done = CliRunner().invoke(pagelogctl, [*map(str, words), "--credentials", str(self.keeping.file)])
+        done = CliRunner().invoke(
+            pagelogctl, [*map(str, words), "--credentials", str(self.keeping.file)]
+        )
         self.assertNotEqual(done.exit_code, 0, done.output)
         return done.output
 
     def primary(self, token: str) -> NamedPrimary:
-        return NamedPrimary("shop", self.keeping.addresses, 2, token, (1, "11" * 16), patience=PATIENCE, timeout=PATIENCE)
+        return NamedPrimary(
+            "shop",
+            self.keeping.addresses,
+            2,
+            token,
+            (1, "11" * 16),
+            patience=PATIENCE,
+            timeout=PATIENCE,
+        )
 
     def commit(self, token: str, text: str) -> None:
         with self.primary(token) as primary:
@@ -116,7 +140,13 @@ class Kept(unittest.TestCase):
     def dump(self) -> str:
         """All that PostgreSQL has, as a dump shows it."""
         environment = {**os.environ, "PATH": f"{programs()}:{os.environ['PATH']}"}
-        return subprocess.run(["pg_dump", "-d", self.keeping.url], check=True, capture_output=True, text=True, env=environment).stdout
+        return subprocess.run(
+            ["pg_dump", "-d", self.keeping.url],
+            check=True,
+            capture_output=True,
+            text=True,
+            env=environment,
+        ).stdout
 
     def looks_for(self, *found: str) -> list[str]:
         """Which of these a dump has."""
@@ -148,17 +178,29 @@ class Kept(unittest.TestCase):
         self.assertEqual(self.secrets.found(), [])
         self.assertGreater(self.secrets.count, 2 + 2 * 4 + 2 * 4)
         self.write(self.second, self.first)
-        eventually(lambda: [name for name in "ab" if id_of(bytes.fromhex(self.second)) in str(self.reports()[name])] == ["a", "b"], "the new key")
+        eventually(
+            lambda: [
+                name
+                for name in "ab"
+                if id_of(bytes.fromhex(self.second)) in str(self.reports()[name])
+            ]
+            == ["a", "b"],
+            "the new key",
+        )
         self.assertIn("copy is sealed by key", keeping.word("seal"))
         self.assertEqual(keeping.word("seal"), "")
         self.write(self.second)
         keeping.word("succeed", "shop")
         self.commit(new, "4")
-        self.assertEqual((self.looks_for(*tokens), self.looks_for(id_of(bytes.fromhex(self.first)))), ([], []))
+        self.assertEqual(
+            (self.looks_for(*tokens), self.looks_for(id_of(bytes.fromhex(self.first)))), ([], [])
+        )
         self.assertIn("shop is plain", keeping.word("seal", "--plain"))
         self.assertEqual(self.looks_for(new), [new])
-        self.assertEqual({each for each in self.secrets.found() if "token of principal 2 of shop" in each},
-                         {"the token of principal 2 of shop is in a row of pagelog_table"})  # fmt: skip
+        self.assertEqual(
+            {each for each in self.secrets.found() if "token of principal 2 of shop" in each},
+            {"the token of principal 2 of shop is in a row of pagelog_table"},
+        )
 
     def reports(self) -> dict[str, object]:
         return {each.name: each.report for each in self.keeping.referee.everything().keepers}
@@ -171,11 +213,17 @@ class Kept(unittest.TestCase):
         keeping.file, sealed = self.plain, keeping.file
         keeping.start("c")
         keeping.file = sealed
-        self.assertIn("keeper c has not key", self.failed("create", "ship", "--table", keeping.table))
+        self.assertIn(
+            "keeper c has not key", self.failed("create", "ship", "--table", keeping.table)
+        )
         keeping.table.write_text(keeping.table.read_text().replace(token(3), "ab" * 16))
-        self.assertIn("keeper c has not key", self.failed("table", "shop", "--table", keeping.table))
+        self.assertIn(
+            "keeper c has not key", self.failed("table", "shop", "--table", keeping.table)
+        )
         keeping.kill("a")
-        eventually(lambda: "key_file is named" in (keeping.folder / "c.log").read_text(), "what it lacks")
+        eventually(
+            lambda: "key_file is named" in (keeping.folder / "c.log").read_text(), "what it lacks"
+        )
         self.assertEqual(keeping.row().holder, "a")
         keeping.start("a")
         self.commit(token(2), "2")
@@ -187,8 +235,10 @@ class Kept(unittest.TestCase):
         for name in ("shop", "ship"):
             keeping.word("create", name, "--table", keeping.table)
         with psycopg.connect(keeping.url, autocommit=True) as session:
-            session.execute("UPDATE pagelog_table SET sealed = (SELECT sealed FROM pagelog_table t JOIN pagelog_log l ON l.id = t.log AND l.name = 'ship') "
-                            "WHERE log = (SELECT id FROM pagelog_log WHERE name = 'shop')")  # fmt: skip
+            session.execute(
+                "UPDATE pagelog_table SET sealed = (SELECT sealed FROM pagelog_table t JOIN pagelog_log l ON l.id = t.log AND l.name = 'ship') "
+                "WHERE log = (SELECT id FROM pagelog_log WHERE name = 'shop')"
+            )
         referee = Referee(keeping.url, keys=Keys(self.keys))
         self.addCleanup(referee.close)
         with self.assertRaisesRegex(Sealed, "is not what was sealed"):

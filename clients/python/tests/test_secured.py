@@ -48,7 +48,9 @@ PAGE = (TOP / "docs" / "SECURITY.md").read_text()
 TLV_TLS, TLV_NAME = 0x20, 0x22
 
 
-def head(name: bytes | None = None, *, flags: int = 7, verify: int = 0, command: int = 0x21) -> bytes:
+def head(
+    name: bytes | None = None, *, flags: int = 7, verify: int = 0, command: int = 0x21
+) -> bytes:
     """That of a client of 127.0.0.1, with this name in its certificate."""
     part = b"" if name is None else bytes([TLV_NAME]) + len(name).to_bytes(2, "big") + name
     tls = bytes([flags]) + verify.to_bytes(4, "big") + part
@@ -58,8 +60,14 @@ def head(name: bytes | None = None, *, flags: int = 7, verify: int = 0, command:
 
 class Heads(unittest.TestCase):
     def test_the_client_is_who_was_verified(self) -> None:
-        for text, client in ((head(b"shop"), "shop"), (head(b"shop", flags=5), "shop"), (head(b"shop", verify=1), None), (head(b"shop", flags=1), None),
-                             (head(), None), (head(b"shop", command=0x20), None)):  # fmt: skip
+        for text, client in (
+            (head(b"shop"), "shop"),
+            (head(b"shop", flags=5), "shop"),
+            (head(b"shop", verify=1), None),
+            (head(b"shop", flags=1), None),
+            (head(), None),
+            (head(b"shop", command=0x20), None),
+        ):
             self.assertEqual(taken(text + b"where x\n"), (Head(client), b"where x\n"))
 
     def test_one_that_is_cut_waits_and_one_that_is_none_is_refused(self) -> None:
@@ -67,19 +75,41 @@ class Heads(unittest.TestCase):
         for count in range(len(whole)):
             self.assertIsNone(taken(whole[:count]), count)
         inner = len(whole) - 16
-        for text in (b"where shop\n", b"GET / HTTP/1.1", SIGNATURE[:-1] + b"x" * 20, head(b"shop", command=0x11), whole[:13] + b"\x31" + whole[14:],
-                     SIGNATURE + b"\x21\x11\xff\xff", *(SIGNATURE + b"\x21\x11" + n.to_bytes(2, "big") + whole[16 : 16 + n] for n in range(inner) if n != 12)):
+        for text in (
+            b"where shop\n",
+            b"GET / HTTP/1.1",
+            SIGNATURE[:-1] + b"x" * 20,
+            head(b"shop", command=0x11),
+            whole[:13] + b"\x31" + whole[14:],
+            SIGNATURE + b"\x21\x11\xff\xff",
+            *(
+                SIGNATURE + b"\x21\x11" + n.to_bytes(2, "big") + whole[16 : 16 + n]
+                for n in range(inner)
+                if n != 12
+            ),
+        ):
             with self.assertRaises(ValueError, msg=text):
                 taken(text)
 
     def test_a_way_is_of_one_run(self) -> None:
         text = Way("h:1", True).text("run7")
-        self.assertEqual((way_of(text, "run7"), way_of(text, "run8"), way_of(text, None), way_of(None, "run7")), (Way("h:1", True), None, None, None))
-        found = [address_for("plain:1", way, is_secure=by) for way in (None, Way("h:1"), Way("h:1", True)) for by in (False, True)]
+        self.assertEqual(
+            (way_of(text, "run7"), way_of(text, "run8"), way_of(text, None), way_of(None, "run7")),
+            (Way("h:1", True), None, None, None),
+        )
+        found = [
+            address_for("plain:1", way, is_secure=by)
+            for way in (None, Way("h:1"), Way("h:1", True))
+            for by in (False, True)
+        ]
         self.assertEqual(found, ["plain:1", None, "plain:1", "h:1", None, "h:1"])
         self.assertIsNone(address_for(None, Way("h:1"), is_secure=True))
         away = way_of(Way("-", True).text("run7"), "run7")
-        self.assertEqual([address_for("127.0.0.1:1", away, is_secure=by) for by in (False, True)], [None, None], "its front is away")
+        self.assertEqual(
+            [address_for("127.0.0.1:1", away, is_secure=by) for by in (False, True)],
+            [None, None],
+            "its front is away",
+        )
 
     def test_a_certificate_answers_for_one_identity(self) -> None:
         class Known:
@@ -89,10 +119,16 @@ class Heads(unittest.TestCase):
                 return {"shop": "id1", "notes": "id2"}.get(name)
 
         known: Any = Known()
-        cases = [("id1", ["where", "shop"], None, True), ("id2", ["where", "shop"], None, False), (None, ["where", "shop"], None, False),
-                 ("id1", ["durable", "shop", "1", "2"], Of("id2", "r"), False), ("id1", ["durable", "notes", "1", "2"], Of("id1", "r"), True),
-                 ("id1", ["where", "notes"], Of("id1", "r"), False), ("id1", ["turn", "notes"], Of("id1", "r"), False),
-                 ("id1", ["where", "other"], None, False)]  # fmt: skip
+        cases = [
+            ("id1", ["where", "shop"], None, True),
+            ("id2", ["where", "shop"], None, False),
+            (None, ["where", "shop"], None, False),
+            ("id1", ["durable", "shop", "1", "2"], Of("id2", "r"), False),
+            ("id1", ["durable", "notes", "1", "2"], Of("id1", "r"), True),
+            ("id1", ["where", "notes"], Of("id1", "r"), False),
+            ("id1", ["turn", "notes"], Of("id1", "r"), False),
+            ("id1", ["where", "other"], None, False),
+        ]
         for client, asked, of, may in cases:
             self.assertEqual(may_ask(known, client, asked, of), may, (client, asked, of))
 
@@ -107,7 +143,9 @@ class Side(Kept):
     def setUp(self) -> None:
         self.keeping = self.enterContext(Secured(more=self.more))
         self.addCleanup(self.say_if_failed)
-        self.assertTrue(self.keeping.referee.create("shop", self.keeping.table.read_text(), b"s" * 16))
+        self.assertTrue(
+            self.keeping.referee.create("shop", self.keeping.table.read_text(), b"s" * 16)
+        )
         self.keeping.start(*self.keepers)
         self.context = self.keeping.certificates.context()
 
@@ -117,14 +155,24 @@ class Side(Kept):
 
     def secured(self, id: int = 2, **options: Any) -> Primary:
         options = {"patience": PATIENCE, "timeout": PATIENCE, **options}
-        return Primary.named("shop", keepers=self.keeping.secure_addresses, principal=id, token=token(id), operator=(1, token(1)), **options)
+        return Primary.named(
+            "shop",
+            keepers=self.keeping.secure_addresses,
+            principal=id,
+            token=token(id),
+            operator=(1, token(1)),
+            **options,
+        )
 
     def holder(self) -> str:
         found: list[str] = []
 
         def is_held() -> bool:
             found[:] = [self.keeping.row().holder or ""]
-            return all(self.asked(name, "where shop")[:1] == ["at"] for name in self.keepers) and found[0] in self.keepers
+            return (
+                all(self.asked(name, "where shop")[:1] == ["at"] for name in self.keepers)
+                and found[0] in self.keepers
+            )
 
         eventually(is_held, "a holder that is told by TLS")
         return found[0]
@@ -142,13 +190,23 @@ class Both(Side):
         holder = self.holder()
         other = "b" if holder == "a" else "a"
         for name in "ab":
-            at, plain = self.asked(name, "where shop"), answer_of(self.keeping.addresses["ab".index(name)], "where shop", None).split()
+            at, plain = (
+                self.asked(name, "where shop"),
+                answer_of(self.keeping.addresses["ab".index(name)], "where shop", None).split(),
+            )
             self.assertEqual((at[:4], at[6]), (plain[:4], self.keeping.secure[holder].address))
             self.assertEqual(plain[6], f"127.0.0.1:{self.keeping.ports[holder]}")
             self.assertNotEqual(at[4], plain[4])
-        eventually(lambda: self.asked(holder, "standby shop")[2] != "-", "a standby that is told by TLS")
-        standby, plain_standby = (answer_of(place, "standby shop", by).split()[2] for place, by in
-                                  ((self.keeping.secure[holder].address, self.context), (f"127.0.0.1:{self.keeping.ports[holder]}", None)))  # fmt: skip
+        eventually(
+            lambda: self.asked(holder, "standby shop")[2] != "-", "a standby that is told by TLS"
+        )
+        standby, plain_standby = (
+            answer_of(place, "standby shop", by).split()[2]
+            for place, by in (
+                (self.keeping.secure[holder].address, self.context),
+                (f"127.0.0.1:{self.keeping.ports[holder]}", None),
+            )
+        )
         self.assertNotEqual(standby, plain_standby)
         older = OldWriter(self.keeping.addresses)
         self.addCleanup(older.close)
@@ -158,7 +216,10 @@ class Both(Side):
             before, pid = self.asked(holder, "where shop"), self.front(holder)
             os.kill(pid, signal.SIGKILL)
             self.commit(writer, "its front was killed", durable=True)
-            eventually(lambda: self.asked(holder, "where shop")[2:5] == before[2:5], "the same run at the same port")
+            eventually(
+                lambda: self.asked(holder, "where shop")[2:5] == before[2:5],
+                "the same run at the same port",
+            )
             self.assertNotEqual(self.front(holder), pid)
             pid = self.front(holder)
             self.keeping.word("pause", "shop")  # however long the next life takes to begin
@@ -168,18 +229,32 @@ class Both(Side):
             self.keeping.word("resume", "shop")
             self.assertEqual((self.front(holder), self.holder()), (pid, holder))
             self.keeping.word("succeed", "shop")
-            eventually(lambda: self.asked(holder, "where shop")[2:3] != before[2:3], "the next generation")
+            eventually(
+                lambda: self.asked(holder, "where shop")[2:3] != before[2:3], "the next generation"
+            )
             self.commit(writer, "after a succession", durable=True)
             self.keeping.kill(holder, signal.SIGTERM)
             self.assertEqual(self.holder_of(other), other)
             self.commit(writer, "handed over", durable=True)
-        self.assertEqual((self.front(holder), has_services(self.keeping.folder / holder)), (0, False))
-        told = (b"plain", b"tls", b"its front was killed", b"its keeper was killed", b"after a succession", b"handed over")
+        self.assertEqual(
+            (self.front(holder), has_services(self.keeping.folder / holder)), (0, False)
+        )
+        told = (
+            b"plain",
+            b"tls",
+            b"its front was killed",
+            b"its keeper was killed",
+            b"after a succession",
+            b"handed over",
+        )
         self.assertEqual([text for text in self.texts() if text in told], list(told))
 
     def holder_of(self, name: str) -> str:
         """Whom a keeper names by TLS, once it names itself."""
-        eventually(lambda: self.asked(name, "where shop")[6:7] == [self.keeping.secure[name].address], "it has it")
+        eventually(
+            lambda: self.asked(name, "where shop")[6:7] == [self.keeping.secure[name].address],
+            "it has it",
+        )
         return name
 
 
@@ -208,21 +283,38 @@ class Only(Side):
         self.program.chmod(0o755)
         shutil.copy(keeping.file, keeping.folder / "keeper.toml")
         self.printed(self.blocks[0])
-        keeping.pair, keeping.also = keeping.folder / "tls.pem", f'plain = false\ntls_clients = "{keeping.folder / "ca.pem"}"'
+        keeping.pair, keeping.also = (
+            keeping.folder / "tls.pem",
+            f'plain = false\ntls_clients = "{keeping.folder / "ca.pem"}"',
+        )
         self.first = keeping.row().next_generation
         keeping.start("a")  # without its certificate
         for name in ("shop", "notes"):
             self.printed(self.blocks[2].replace("shop", name))
         eventually(lambda: "tls.pem: No such file" in keeping.said(), "what it lacks")
-        eventually(lambda: "shop: no client would reach its service here: the front is away" in keeping.said(), "a decision without a front")
+        eventually(
+            lambda: "shop: no client would reach its service here: the front is away"
+            in keeping.said(),
+            "a decision without a front",
+        )
         self.printed(self.blocks[1])
         self.context = self.client("shop")
 
     def printed(self, block: str) -> None:
         """Runs a block of the page."""
         folder, environment = self.keeping.folder, self.keeping.environment
-        done = subprocess.run(["sh", "-ec", block], cwd=folder, capture_output=True, text=True, timeout=PATIENCE,
-                              env={**environment, "HOSTS": "IP:127.0.0.1,DNS:localhost", "PATH": f"{folder}:{os.environ['PATH']}"})  # fmt: skip
+        done = subprocess.run(
+            ["sh", "-ec", block],
+            cwd=folder,
+            capture_output=True,
+            text=True,
+            timeout=PATIENCE,
+            env={
+                **environment,
+                "HOSTS": "IP:127.0.0.1,DNS:localhost",
+                "PATH": f"{folder}:{os.environ['PATH']}",
+            },
+        )
         self.assertEqual(done.returncode, 0, block + done.stdout + done.stderr)
 
     def client(self, name: str) -> ssl.SSLContext:
@@ -240,10 +332,21 @@ class Only(Side):
         with clients_by(self.context) as wire:
             with self.secured() as writer:
                 self.commit(writer, words.decode(), durable=True)
-            with Reader.named("shop", keepers=self.keeping.secure_addresses, principal=3, token=token(3), patience=PATIENCE, timeout=PATIENCE) as reader:
+            with Reader.named(
+                "shop",
+                keepers=self.keeping.secure_addresses,
+                principal=3,
+                token=token(3),
+                patience=PATIENCE,
+                timeout=PATIENCE,
+            ) as reader:
                 self.assertIn(words, reader.page(0).data)
         self._see_nothing(wire, words)
-        self.assertEqual(self.asked("a", "where shop")[2], str(self.first), "it was taken when nobody could come to it")
+        self.assertEqual(
+            self.asked("a", "where shop")[2],
+            str(self.first),
+            "it was taken when nobody could come to it",
+        )
         with self.assertRaises(ConnectionRefusedError):
             socket.create_connection(("127.0.0.1", self.keeping.ports["a"]))
         self.assertEqual(listening(self.keeping.folder / "a"), {"127.0.0.1"})
@@ -251,24 +354,44 @@ class Only(Side):
         self._see_renewal()
 
     def _see_nothing(self, wire: Wire, words: bytes) -> None:
-        secrets = [words, *(each for id in (1, 2, 3) for each in (token(id).encode(), bytes.fromhex(token(id))))]
+        secrets = [
+            words,
+            *(each for id in (1, 2, 3) for each in (token(id).encode(), bytes.fromhex(token(id)))),
+        ]
         self.assertFalse(wire.has(*secrets, b"where shop", b"durable shop"))
         self.assertGreater(len(wire.bytes), 5000)
         self.assertGreater(len(wire.places), 1)
 
     def _see_who_is_denied(self) -> None:
         other = self.client("notes")
-        for line in ("where shop", "next shop 9", "standby shop", "turn shop", "full shop 1", "durable shop 1 1"):
+        for line in (
+            "where shop",
+            "next shop 9",
+            "standby shop",
+            "turn shop",
+            "full shop 1",
+            "durable shop 1 1",
+        ):
             self.assertEqual(self.asked("a", line, other), ["denied", "shop"])
-        self.assertEqual(self.asked("a", "where shop", self.client("")), [], "without a certificate")
+        self.assertEqual(
+            self.asked("a", "where shop", self.client("")), [], "without a certificate"
+        )
         forged = head(self.keeping.row().identity.encode()) + b"where shop"
-        self.assertNotEqual(answer_of(self.keeping.secure["a"].address, forged, other)[:2], "at", "a head that a client writes counts for nothing")
-        with socket.socket(socket.AF_UNIX) as line, near(self.keeping.folder / "a", "lines.sock") as path:
+        self.assertNotEqual(
+            answer_of(self.keeping.secure["a"].address, forged, other)[:2],
+            "at",
+            "a head that a client writes counts for nothing",
+        )
+        with socket.socket(socket.AF_UNIX) as line, near(
+            self.keeping.folder / "a", "lines.sock"
+        ) as path:
             line.connect(path)  # as this very user alone can
             line.sendall(b"where shop\n")
             self.assertEqual(line.recv(100), b"", "who is no front")
         host, _, port = self.asked("a", "where shop")[4].rpartition(":")
-        with socket.create_connection((host, int(port)), PATIENCE) as plain, suppress(ssl.SSLError, ConnectionError):
+        with socket.create_connection((host, int(port)), PATIENCE) as plain, suppress(
+            ssl.SSLError, ConnectionError
+        ):
             with other.wrap_socket(plain, server_hostname=host) as secured:
                 secured.sendall((24).to_bytes(4, "big") + bytes(24))
                 self.assertEqual(secured.recv(100), b"")
@@ -282,7 +405,9 @@ class Only(Side):
     def shown(self) -> bytes | None:
         """The certificate of the keeper's lines."""
         host, _, port = self.keeping.secure["a"].address.rpartition(":")
-        with socket.create_connection((host, int(port)), PATIENCE) as plain, self.context.wrap_socket(plain, server_hostname=host) as line:
+        with socket.create_connection(
+            (host, int(port)), PATIENCE
+        ) as plain, self.context.wrap_socket(plain, server_hostname=host) as line:
             return line.getpeercert(binary_form=True)
 
 
@@ -290,9 +415,20 @@ class Page(unittest.TestCase):
     def test_what_it_sets_can_be_set(self) -> None:
         [block] = re.findall(r"^```toml\n(.*?)^```", PAGE, flags=re.M | re.S)
         section = tomllib.loads(block)["keeper"]
-        settings = Settings.of("a", "10.0.0.1:7500", "10.0.0.1", Path("folder"), "pagelog", "", section)
-        self.assertEqual((settings.tls and settings.tls.form[1:4], settings.program.host), (["10.0.0.1", "10.0.0.1:7501", True], "127.0.0.1"))
-        for key, value in (("tls_lines", "10.0.0.1"), ("tls_lines", "10.0.0.1:0"), ("tls_ports", "9-8"), ("tls_ports", 0), ("tls_ports", "x")):
+        settings = Settings.of(
+            "a", "10.0.0.1:7500", "10.0.0.1", Path("folder"), "pagelog", "", section
+        )
+        self.assertEqual(
+            (settings.tls and settings.tls.form[1:4], settings.program.host),
+            (["10.0.0.1", "10.0.0.1:7501", True], "127.0.0.1"),
+        )
+        for key, value in (
+            ("tls_lines", "10.0.0.1"),
+            ("tls_lines", "10.0.0.1:0"),
+            ("tls_ports", "9-8"),
+            ("tls_ports", 0),
+            ("tls_ports", "x"),
+        ):
             with self.assertRaisesRegex(CredentialsError, key):
                 Settings.of("a", "h:1", "h", Path("folder"), "pagelog", "", {**section, key: value})
         with self.assertRaisesRegex(CredentialsError, "plain without tls"):
@@ -313,13 +449,21 @@ class Shown(Side):
             line.flush()
             line.readline()
             during = self.keeping.metrics()
-        self.assertEqual(during["pagelog_keeper_plain_lines", ""], before["pagelog_keeper_plain_lines", ""] + 1)
-        self.assertGreater(during["pagelog_keeper_plain_connections_total", ""], before["pagelog_keeper_plain_connections_total", ""])
+        self.assertEqual(
+            during["pagelog_keeper_plain_lines", ""], before["pagelog_keeper_plain_lines", ""] + 1
+        )
+        self.assertGreater(
+            during["pagelog_keeper_plain_connections_total", ""],
+            before["pagelog_keeper_plain_connections_total", ""],
+        )
         ends = before["pagelog_keeper_certificate_ends", ""]
         self.assertEqual(ends, self.keeping_pair_ends())
         self.keeping.put("renewed")
         self.keeping.ring()
-        eventually(lambda: re.search("the front has the certificate of", self.keeping.said()) is not None, "its renewal")
+        eventually(
+            lambda: re.search("the front has the certificate of", self.keeping.said()) is not None,
+            "its renewal",
+        )
 
     def keeping_pair_ends(self) -> float:
         return Pair.read(self.keeping.pair).ends
@@ -332,7 +476,10 @@ class Served(unittest.TestCase):
         certificates = Certificates()
         folder = Path(self.enterContext(tempfile.TemporaryDirectory()))
         file, secret = folder / "pair.pem", folder / "token"
-        for name, text in ((file, certificates["good"].read_bytes()), (secret, b"a token of sixteen\n".replace(b" ", b"-"))):
+        for name, text in (
+            (file, certificates["good"].read_bytes()),
+            (secret, b"a token of sixteen\n".replace(b" ", b"-")),
+        ):
             name.touch(mode=0o600)
             name.write_bytes(text)
         shown = ShownFile(file)
@@ -345,17 +492,28 @@ class Served(unittest.TestCase):
             fresh.replace(file)
             for address in (metrics, console):
                 self.assertEqual(self.subject(address), name)
-        with urllib.request.urlopen(f"https://{metrics}/metrics", timeout=PATIENCE, context=certificates.context()) as reply:
+        with urllib.request.urlopen(
+            f"https://{metrics}/metrics", timeout=PATIENCE, context=certificates.context()
+        ) as reply:
             self.assertEqual(reply.status, 200)
+
         class Still(urllib.request.HTTPRedirectHandler):
             def redirect_request(self, *_: Any) -> None:
                 return None
 
-        opener = urllib.request.build_opener(urllib.request.HTTPSHandler(context=certificates.context()), Still)
+        opener = urllib.request.build_opener(
+            urllib.request.HTTPSHandler(context=certificates.context()), Still
+        )
         with self.assertRaises(urllib.error.HTTPError) as told:
-            opener.open(f"https://{console}/login", data=f"token={secret.read_text().strip()}".encode(), timeout=PATIENCE)
+            opener.open(
+                f"https://{console}/login",
+                data=f"token={secret.read_text().strip()}".encode(),
+                timeout=PATIENCE,
+            )
         self.assertRegex(told.exception.headers["Set-Cookie"], "HttpOnly.*Secure|Secure.*HttpOnly")
-        with socket.create_connection(("127.0.0.1", int(metrics.rpartition(":")[2])), PATIENCE) as plain:
+        with socket.create_connection(
+            ("127.0.0.1", int(metrics.rpartition(":")[2])), PATIENCE
+        ) as plain:
             plain.sendall(b"GET /metrics HTTP/1.0\r\n\r\n")
             with suppress(ConnectionError):
                 self.assertNotIn(b"HTTP", plain.recv(1000))
@@ -389,7 +547,9 @@ class Verified(Postgres):
                 shutil.chown(self.data / name, self.user)
         options = f"-k {self.folder} -c listen_addresses=127.0.0.1 -p {self.port.number} -c fsync=off -c ssl=on"
         self.run("pg_ctl", "-D", self.data, "-o", options, "-l", self.folder / "log", "-w", "start")
-        (self.folder / ".s.PGSQL.5432").symlink_to(f".s.PGSQL.{self.port.number}")  # for who comes by the socket
+        (self.folder / ".s.PGSQL.5432").symlink_to(
+            f".s.PGSQL.{self.port.number}"
+        )  # for who comes by the socket
 
 
 class Referees(unittest.TestCase):
@@ -406,8 +566,10 @@ class Referees(unittest.TestCase):
                 for _ in range(20):
                     writer.append(put(0, b"x"))
                     writer.commit(durable=True)
-            found = keeping.referee._ask("SELECT count(*) FILTER (WHERE s.ssl), count(*) FILTER (WHERE NOT s.ssl) FROM pg_stat_ssl s "
-                                         "JOIN pg_stat_activity a USING (pid) WHERE a.application_name LIKE 'pagelog keeper%'")  # fmt: skip
+            found = keeping.referee._ask(
+                "SELECT count(*) FILTER (WHERE s.ssl), count(*) FILTER (WHERE NOT s.ssl) FROM pg_stat_ssl s "
+                "JOIN pg_stat_activity a USING (pid) WHERE a.application_name LIKE 'pagelog keeper%'"
+            )
             self.assertGreater(found[0][0], 2)
             self.assertEqual(found[0][1], 0)
         other = Referee(url + str(Certificates().folder / "other-ca.pem"))
@@ -415,9 +577,14 @@ class Referees(unittest.TestCase):
             other.everything()
 
     def test_less_than_verify_full_is_told_of_other_machines(self) -> None:
-        for url, hosts in (("postgresql:///x", []), ("postgresql://localhost,127.0.0.2/x", []), ("postgresql://192.0.2.7/x", ["192.0.2.7"]),
-                           ("postgresql://192.0.2.7/x?sslmode=require", ["192.0.2.7"]), ("postgresql://192.0.2.7/x?sslmode=verify-full", []),
-                           ("postgresql:///x?host=/run/postgresql", [])):  # fmt: skip
+        for url, hosts in (
+            ("postgresql:///x", []),
+            ("postgresql://localhost,127.0.0.2/x", []),
+            ("postgresql://192.0.2.7/x", ["192.0.2.7"]),
+            ("postgresql://192.0.2.7/x?sslmode=require", ["192.0.2.7"]),
+            ("postgresql://192.0.2.7/x?sslmode=verify-full", []),
+            ("postgresql:///x?host=/run/postgresql", []),
+        ):
             self.assertEqual(unverified(options_of(url)), hosts, url)
 
 

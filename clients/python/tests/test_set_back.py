@@ -97,7 +97,19 @@ class SetBack(Postgres):
     def start(self) -> None:
         """It keeps its log of writes, and lets nobody in before a recovery has ended."""
         options = f"-k {self.folder} -c listen_addresses= -c max_connections=30 -c fsync={FSYNC} -c wal_keep_size=4GB -c hot_standby=off"
-        self.run("pg_ctl", "-D", self.data, "-o", options, "-l", self.folder / "log", "-w", "-t", PATIENCE, "start")
+        self.run(
+            "pg_ctl",
+            "-D",
+            self.data,
+            "-o",
+            options,
+            "-l",
+            self.folder / "log",
+            "-w",
+            "-t",
+            PATIENCE,
+            "start",
+        )
 
     def set_back(self, transaction: str, *, is_behind: bool) -> None:
         self.crash()
@@ -106,9 +118,11 @@ class SetBack(Postgres):
         shutil.rmtree(self.data)
         self._begin_again()
         with (self.data / "postgresql.auto.conf").open("a") as file:
-            file.write(f"restore_command = 'cp {written}/%f %p'\nrecovery_target_xid = '{transaction}'\n"
-                       f"recovery_target_inclusive = {'on' if is_behind else 'off'}\n"
-                       "recovery_target_action = promote\nrecovery_target_timeline = current\n")  # fmt: skip
+            file.write(
+                f"restore_command = 'cp {written}/%f %p'\nrecovery_target_xid = '{transaction}'\n"
+                f"recovery_target_inclusive = {'on' if is_behind else 'off'}\n"
+                "recovery_target_action = promote\nrecovery_target_timeline = current\n"
+            )
         self.call(["touch", str(self.data / "recovery.signal")], check=True)
         self.start()
         eventually(self._lets_in, "the end of the recovery")
@@ -135,20 +149,34 @@ class Case:
     @property
     def has_name(self) -> bool:
         """Whether PostgreSQL has a database of the name then."""
-        return self.action != "drop" or (self.statement, self.is_behind) in _WITH_FIRST or self.has_last
+        return (
+            self.action != "drop"
+            or (self.statement, self.is_behind) in _WITH_FIRST
+            or self.has_last
+        )
 
     @property
     def has_last(self) -> bool:
         """Whether PostgreSQL has the database to which was written last."""
-        is_made = (self.statement, self.is_behind) == ("creation", True) or self.statement in ("take", "place")
+        is_made = (self.statement, self.is_behind) == ("creation", True) or self.statement in (
+            "take",
+            "place",
+        )
         return self.action != "drop" or is_made
 
     def __str__(self) -> str:
-        where, others = "behind" if self.is_behind else "before", "a standby" if self.standby else "no standby"
+        where, others = (
+            "behind" if self.is_behind else "before",
+            "a standby" if self.standby else "no standby",
+        )
         return f"{where} the {self.statement} of a {self.action}, {others}{', keepers killed' if self.restarted else ''}"
 
 
-_WITH_FIRST = {("batch", False): {1, 2, 3}, ("batch", True): {1, 2, 3, 4}, ("drop", False): {1, 2, 3, 4, 5}}
+_WITH_FIRST = {
+    ("batch", False): {1, 2, 3},
+    ("batch", True): {1, 2, 3, 4},
+    ("drop", False): {1, 2, 3, 4, 5},
+}
 """Where the database that was dropped is there again, and the pages that it has."""
 
 
@@ -171,15 +199,28 @@ STATEMENTS = {
     "switchover": ("batch", "request", "standby", "release", "take"),
     "takeover": ("batch", "take", "place"),
     "release": ("batch", "release", "take", "place"),
-    "drop": ("batch", "drop", "deletion of a table", "deletion of blocks", "creation", "take", "place"),
+    "drop": (
+        "batch",
+        "drop",
+        "deletion of a table",
+        "deletion of blocks",
+        "creation",
+        "take",
+        "place",
+    ),
 }
 """Those that each action makes, in their order. A batch is one before it."""
 
 
 def _cases() -> Iterator[Case]:
     for action, statements in STATEMENTS.items():
-        for statement, behind, standby, restarted in itertools.product(statements, *(3 * ((False, True),))):
-            is_its_own = action == "drop" or statement not in ("standby", "place")  # what is made where there is no standby
+        for statement, behind, standby, restarted in itertools.product(
+            statements, *(3 * ((False, True),))
+        ):
+            is_its_own = action == "drop" or statement not in (
+                "standby",
+                "place",
+            )  # what is made where there is no standby
             if is_its_own or not standby:
                 yield Case(action, statement, behind, standby, restarted)
 
@@ -212,8 +253,12 @@ class Played:
         self.write(6, 7)
         self.run, self.pid = keeping.place().run, keeping.pid()
         noted = self.noted()[before:]
-        transaction = next((transaction for transaction, what in noted if what == case.statement), None)
-        assert transaction is not None, f"there is no {case.statement} in {[what for _, what in noted]}"
+        transaction = next(
+            (transaction for transaction, what in noted if what == case.statement), None
+        )
+        assert (
+            transaction is not None
+        ), f"there is no {case.statement} in {[what for _, what in noted]}"
         self.lose(transaction)
 
     def noted(self) -> list[tuple[str, str]]:
@@ -236,7 +281,10 @@ class Played:
             keeping.word("drop", "shop", "--yes")
             self.acknowledged.clear()
             assert keeping.referee.create("shop", keeping.table.read_text(), b"t" * 16)
-            eventually(lambda: self.is_known() and keeping.place().generation > row.generation, "the new database")
+            eventually(
+                lambda: self.is_known() and keeping.place().generation > row.generation,
+                "the new database",
+            )
             return
         if self.case.action == "succession":
             keeping.word("succeed", "shop")
@@ -273,7 +321,11 @@ class Played:
     def pages(self, name: str) -> set[int]:
         """Those of the acknowledged ones that a new reader finds."""
         with self.keeping.reader(name) as reader:
-            return {page for page in self.acknowledged if reader.page(page).data.startswith(b"it is there")}
+            return {
+                page
+                for page in self.acknowledged
+                if reader.page(page).data.startswith(b"it is there")
+            }
 
     def goes_on(self) -> None:
         """The database is served again: a new writer's commit becomes durable. One that came before that is known may be told that it is
@@ -295,10 +347,22 @@ class Played:
 
     def is_kept(self) -> None:
         """The service of a database that PostgreSQL does not have is not ended, its keeper says of it, and `rescue` saves all of it."""
-        eventually(lambda: self.run in [each["run"] for each in self.asides()], "a word of what was set aside")
+        eventually(
+            lambda: self.run in [each["run"] for each in self.asides()],
+            "a word of what was set aside",
+        )
         os.kill(self.pid, 0)
         [keeper] = {each["keeper"] for each in self.asides() if each["run"] == self.run}
-        self.keeping.word("rescue", "shop", "--run", self.run, "--folder", self.keeping.folder / keeper, "--as", "last")
+        self.keeping.word(
+            "rescue",
+            "shop",
+            "--run",
+            self.run,
+            "--folder",
+            self.keeping.folder / keeper,
+            "--as",
+            "last",
+        )
         eventually(lambda: self.is_known("last"), "what was saved")
         assert self.acknowledged - {AFTER} <= self.pages("last"), "acknowledged, and not saved"
 
@@ -333,7 +397,9 @@ class Cases(unittest.TestCase):
                     played.acknowledged &= {AFTER}
                     played.acknowledged |= _WITH_FIRST.get((case.statement, case.is_behind), set())
                 if case.has_name and (lost := played.lost()):
-                    self.assertEqual(lost - played.rescued(), set(), "acknowledged, and neither there nor saved")
+                    self.assertEqual(
+                        lost - played.rescued(), set(), "acknowledged, and neither there nor saved"
+                    )
                 self.assertNotIn("fault of the keeper", keeping.said())
             except BaseException:
                 print(f"{case}:\n{keeping.said()}")

@@ -12,3 +12,8 @@ class Short(unittest.TestCase):
         soak = Soak(5, 1, 100.0, least=3, audit=2000)
         self.addCleanup(soak.stop)
         self.assertEqual(soak.run(), 0)
+
+    def test_and_with_a_store(self) -> None:
+        soak = Soak(5, 2, 100.0, least=3, audit=2000, store=True)
+        self.addCleanup(soak.stop)
+        self.assertEqual(soak.run(), 0)

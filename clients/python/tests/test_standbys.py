@@ -28,17 +28,26 @@ from service import PATIENCE, accept_each, stand_still
 class Two(Kept):
     def standby(self, at: int = 0) -> None:
         """Waits until a standby has as much."""
-        eventually(lambda: any(reached >= at for reached in self.keeping.standbys().values()), f"a standby at {at}")
+        eventually(
+            lambda: any(reached >= at for reached in self.keeping.standbys().values()),
+            f"a standby at {at}",
+        )
 
     def holder(self) -> str:
         place = self.keeping.place()
-        return next(name for name, port in self.keeping.ports.items() if place.lines.endswith(f":{port}"))
+        return next(
+            name for name, port in self.keeping.ports.items() if place.lines.endswith(f":{port}")
+        )
 
     def other(self) -> str:
         return "b" if self.holder() == "a" else "a"
 
     def beats(self) -> dict[str, int]:
-        return {keeper.name: keeper.beat for keeper in self.keeping.referee.everything().keepers if keeper.name in self.keeping.ports}
+        return {
+            keeper.name: keeper.beat
+            for keeper in self.keeping.referee.everything().keepers
+            if keeper.name in self.keeping.ports
+        }
 
 
 class TwoKeepers(Two):
@@ -71,19 +80,33 @@ class TwoKeepers(Two):
             target, before = self.other(), self.keeping.place()
             self.keeping.word("switchover", "shop", "--to", target)
             after = self.keeping.place(least=before.generation + 1)
-            self.assertEqual((self.holder(), after.generation, self.keeping.row().base), (target, self.keeping.row().generation, 31))
+            self.assertEqual(
+                (self.holder(), after.generation, self.keeping.row().base),
+                (target, self.keeping.row().generation, 31),
+            )
             with patch.object(Reader, "span", autospec=True, side_effect=Reader.span) as span:
                 self.assertEqual(self.commit(primary, "32", durable=True), 32)
             self.assertLessEqual(span.call_count, 2)  # all that was not durable is compared at once
             self.assertEqual(self.texts(), [b"%d" % number for number in range(1, 33)])
 
     def test_a_release_that_was_never_made_is_believed_by_nobody(self) -> None:
-        with self.keeping.primary() as primary, psycopg.connect(self.keeping.url, autocommit=True) as session:
+        with self.keeping.primary() as primary, psycopg.connect(
+            self.keeping.url, autocommit=True
+        ) as session:
             self.commit(primary, "1", durable=True)
             self.standby(1)
-            before, tries, beats = self.keeping.place(), self.keeping.said().count("shop: take: "), self.beats()
-            session.execute(f"NOTIFY pagelog_keeper, 'shop {before.generation} 1 {self.keeping.row().chain.hex()}'")
-            eventually(lambda: all(beat > beats[name] + 1 for name, beat in self.beats().items()), "a poll of each after it")
+            before, tries, beats = (
+                self.keeping.place(),
+                self.keeping.said().count("shop: take: "),
+                self.beats(),
+            )
+            session.execute(
+                f"NOTIFY pagelog_keeper, 'shop {before.generation} 1 {self.keeping.row().chain.hex()}'"
+            )
+            eventually(
+                lambda: all(beat > beats[name] + 1 for name, beat in self.beats().items()),
+                "a poll of each after it",
+            )
             self.assertEqual(self.keeping.said().count("shop: take: "), tries)
             self.assertEqual(self.commit(primary, "2", durable=True), 2)
             self.standby(2)
@@ -95,8 +118,12 @@ class TwoKeepers(Two):
             self.standby(1)
             eventually(lambda: self.keeping.keepers().standby() is not None, "a standby")
             run = self.keeping.keepers().standby().run  # type: ignore[union-attr]
-            trigger = Trigger(self.keeping.url, "pagelog_log", "UPDATE ON pagelog_log FOR EACH ROW WHEN (NEW.generation > OLD.generation)",
-                              "RAISE WARNING 'cancelled'")  # fmt: skip
+            trigger = Trigger(
+                self.keeping.url,
+                "pagelog_log",
+                "UPDATE ON pagelog_log FOR EACH ROW WHEN (NEW.generation > OLD.generation)",
+                "RAISE WARNING 'cancelled'",
+            )
             self.addCleanup(trigger.close)
             os.kill(self.keeping.pid(), signal.SIGKILL)
             self.assertEqual(self.commit(primary, "2", durable=True), 2)
@@ -111,7 +138,9 @@ class TwoKeepers(Two):
             self.commit(primary, "2")
             gate.somebody_waits()
             for number in range(3, 32):
-                self.commit(primary, f"{number}")  # none of these has been asked for, nor pulled, when the keeper is told to end
+                self.commit(
+                    primary, f"{number}"
+                )  # none of these has been asked for, nor pulled, when the keeper is told to end
             first, before = self.holder(), self.keeping.place()
             self.keeping.processes[first].send_signal(signal.SIGTERM)
             eventually(lambda: "the keeper ends" in self.keeping.said(), "the end of the keeper")
@@ -119,7 +148,10 @@ class TwoKeepers(Two):
             self.assertEqual(self.keeping.processes[first].wait(), 0)
             self.keeping.place(least=before.generation + 1)
             self.assertEqual(self.keeping.row().base, 31)
-            self.assertEqual({file.name for file in (self.keeping.folder / first).iterdir()}, {"lives", "memory.key", "numbers"})
+            self.assertEqual(
+                {file.name for file in (self.keeping.folder / first).iterdir()},
+                {"lives", "memory.key", "numbers"},
+            )
             self.assertEqual(self.commit(primary, "32", durable=True), 32)
             self.assertEqual(self.texts(), [b"%d" % number for number in range(1, 33)])
 
@@ -129,7 +161,9 @@ class TwoKeepers(Two):
             self.standby(1)
             first, pid, place = self.holder(), self.keeping.pid(), self.keeping.place()
             self.keeping.kill(first)
-            self.assertEqual(self.commit(primary, "orphan"), 2)  # the orphan answers those who are connected
+            self.assertEqual(
+                self.commit(primary, "orphan"), 2
+            )  # the orphan answers those who are connected
             self.keeping.place(least=place.generation + 1)
             self.assertEqual(self.commit(other, "2", durable=True), 2)
             self.assertEqual(self.commit(primary, "orphan too"), 3)
@@ -152,7 +186,9 @@ class TwoKeepers(Two):
             self.assertEqual(self.commit(other, "2", durable=True), 2)
             self.keeping.kill(first, signal.SIGCONT)
             self.assertEqual(zombie.fate(place, 2), Fate(1, True))
-            eventually(lambda: not os.path.exists(f"/proc/{pid}"), "the end of the zombie's service")
+            eventually(
+                lambda: not os.path.exists(f"/proc/{pid}"), "the end of the zombie's service"
+            )
             self.assertEqual(self.texts(), [b"1", b"2"])
 
     def test_a_machine_that_stood_still_finds_its_generation_over(self) -> None:
@@ -169,17 +205,29 @@ class TwoKeepers(Two):
                 stand_still(pid)
                 self.keeping.place(least=place.generation + 1)
                 # It goes on, and looks later: the batch that it sends before has nothing against it but its run and generation.
-                looking = Gate(self.keeping.url, f"NEW.name = '{first}' AND NEW.beat > OLD.beat", "pagelog_keeper", lock=43)
+                looking = Gate(
+                    self.keeping.url,
+                    f"NEW.name = '{first}' AND NEW.beat > OLD.beat",
+                    "pagelog_keeper",
+                    lock=43,
+                )
                 os.kill(pid, signal.SIGCONT)
                 self.keeping.kill(first, signal.SIGCONT)
-                eventually(lambda: tried.count() > 1 or self.keeping.row().archived > 1, "a batch, and how it is looked up")
+                eventually(
+                    lambda: tried.count() > 1 or self.keeping.row().archived > 1,
+                    "a batch, and how it is looked up",
+                )
                 looking.open()
-                self.assertEqual(text.readline().split(), ["over", "shop", str(place.generation), "1"])
+                self.assertEqual(
+                    text.readline().split(), ["over", "shop", str(place.generation), "1"]
+                )
             self.assertEqual((self.keeping.row().base, self.keeping.row().archived), (1, 1))
             self.assertEqual(self.commit(other, "2", durable=True), 2)
             with self.assertRaises(Lost):
                 primary.durable(2)
-            eventually(lambda: not os.path.exists(f"/proc/{pid}"), "the end of the zombie's service")
+            eventually(
+                lambda: not os.path.exists(f"/proc/{pid}"), "the end of the zombie's service"
+            )
             self.assertEqual(self.texts(), [b"1", b"2"])
 
     def test_a_durable_reader_goes_to_the_holder_where_a_standby_is_gone(self) -> None:
@@ -221,7 +269,11 @@ class TwoKeepers(Two):
             self.commit(primary, "1", durable=True)
             self.commit(primary, "2", durable=True)
             # What it is to follow with is denied by what it has; a fresh one takes its place.
-            eventually(lambda: (found := self.keeping.keepers().standby()) is not None and found.run != standby.run, "a fresh standby")
+            eventually(
+                lambda: (found := self.keeping.keepers().standby()) is not None
+                and found.run != standby.run,
+                "a fresh standby",
+            )
             self.standby(2)
             os.kill(self.keeping.pid(), signal.SIGKILL)
             self.assertEqual(self.commit(primary, "3", durable=True), 3)
@@ -234,12 +286,19 @@ class TwoKeepers(Two):
             # The blocks that a plain SELECT finds are others, as on a server that was cut off; the confirmed digest is not theirs.
             other = blocks(2, 1, b"<other>")[0]
             with psycopg.connect(self.keeping.url) as connection:
-                connection.execute("CREATE FUNCTION other() RETURNS trigger LANGUAGE plpgsql AS $$ BEGIN NEW.data := "
-                                   f"decode('{other.hex()}', 'hex'); NEW.crc := {zlib.crc32(other)}; RETURN NEW; END $$")  # fmt: skip
-                connection.execute("CREATE TRIGGER other BEFORE INSERT ON pagelog_block FOR EACH ROW EXECUTE FUNCTION other()")
+                connection.execute(
+                    "CREATE FUNCTION other() RETURNS trigger LANGUAGE plpgsql AS $$ BEGIN NEW.data := "
+                    f"decode('{other.hex()}', 'hex'); NEW.crc := {zlib.crc32(other)}; RETURN NEW; END $$"
+                )
+                connection.execute(
+                    "CREATE TRIGGER other BEFORE INSERT ON pagelog_block FOR EACH ROW EXECUTE FUNCTION other()"
+                )
             try:
                 self.commit(primary, "2", durable=True)
-                eventually(lambda: "the standby was given up" in self.keeping.said(), "the end of the standby")
+                eventually(
+                    lambda: "the standby was given up" in self.keeping.said(),
+                    "the end of the standby",
+                )
                 self.assertTrue(all(reached < 2 for reached in self.keeping.standbys().values()))
                 self.assertEqual([block.lsn for block in reader.blocks(2, follow=False)][:1], [2])
                 self.assertEqual(reader.page(0, 2).data[:3], b"<2>")
@@ -289,7 +348,9 @@ class ForLong(Two):
             ending.close()
             server.start()
             primary.durable(2)
-            self.assertEqual((self.keeping.place().generation, self.texts()), (before.generation, [b"1", b"2"]))
+            self.assertEqual(
+                (self.keeping.place().generation, self.texts()), (before.generation, [b"1", b"2"])
+            )
 
 
 class Ringing(Two):
@@ -319,7 +380,9 @@ class Behind(Ringing):
             primary.durable(NEAR + 2)
             self.keeping.referee.wish("shop", target)
             eventually(lambda: self.keeping.row().generation == before + 1, "the switchover")
-            self.assertEqual((self.commit(primary, "more", durable=True), self.holder()), (NEAR + 3, target))
+            self.assertEqual(
+                (self.commit(primary, "more", durable=True), self.holder()), (NEAR + 3, target)
+            )
 
 
 class Heard(Ringing):
@@ -354,7 +417,9 @@ class Heard(Ringing):
             eventually(lambda: self.keeping.row().run is None, "the release")
             looking.open()
             gate.somebody_waits()
-            with Reader(Connection(standby.address), keeper_of(b"s" * 16, "shop", standby.run)) as reader:
+            with Reader(
+                Connection(standby.address), keeper_of(b"s" * 16, "shop", standby.run)
+            ) as reader:
                 self.assertEqual(reader.status().hard, 31)
             # A look has shown the release, by a statement that wrote; that it will serve is not known before the take is.
             (*_, reached, _, _), where = self.answers(target, "standby shop", "where shop")
@@ -362,8 +427,12 @@ class Heard(Ringing):
             stand_still(pid)
             gate.open()
             eventually(lambda: self.keeping.row().address == standby.address, "the take")
-            self.assertEqual(self.answers(target, "where shop"), [["nowhere", "shop"]])  # nobody is let in yet
+            self.assertEqual(
+                self.answers(target, "where shop"), [["nowhere", "shop"]]
+            )  # nobody is let in yet
             os.kill(pid, signal.SIGCONT)
             self.assertEqual(self.commit(primary, "32", durable=True), 32)
-            self.assertEqual((self.keeping.place().run, self.keeping.row().generation), (standby.run, before + 1))
+            self.assertEqual(
+                (self.keeping.place().run, self.keeping.row().generation), (standby.run, before + 1)
+            )
             self.assertEqual(self.texts(), [b"%d" % number for number in range(1, 33)])

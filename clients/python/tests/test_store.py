@@ -30,7 +30,16 @@ from pagelog.keeper.basing import Wish as BaseWish
 from pagelog.keeper.history import begin_again, extent_of, position_at
 from pagelog.keeper.holding import hold, let_go
 from pagelog.keeper.images import MARK, Replay
-from pagelog.keeper.referee import Away, BrokenArchive, BrokenBase, Doubt, KeeperError, Pruned, Referee, digest
+from pagelog.keeper.referee import (
+    Away,
+    BrokenArchive,
+    BrokenBase,
+    Doubt,
+    KeeperError,
+    Pruned,
+    Referee,
+    digest,
+)
 from pagelog.keeper.rows import Batch, Kept
 from pagelog.keeper.schema import _STORE
 from pagelog.store import packing, tables
@@ -46,8 +55,21 @@ from test_images import pages
 from test_referee import Referees
 
 TABLES = ("log", "generation", "block", "store", "object", "gone", "base", "pack", "image")
-PACKING = ("packed", "pack named", "before put of a pack", "pack put", "pack read back", "pack kept", "pack cut", "manifest made", "manifest named",
-           "before put of a manifest", "manifest put", "manifest read back", "manifest kept")  # fmt: skip
+PACKING = (
+    "packed",
+    "pack named",
+    "before put of a pack",
+    "pack put",
+    "pack read back",
+    "pack kept",
+    "pack cut",
+    "manifest made",
+    "manifest named",
+    "before put of a manifest",
+    "manifest put",
+    "manifest read back",
+    "manifest kept",
+)
 STEPS = ("encoded", "sealed", "before put", "put", "read back", "kept", "cut", "cleared")
 SMALL = 20_000
 """Bytes of an object in most tests."""
@@ -77,18 +99,47 @@ class Stored(Referees):
 
     def write(self, count: int, run: str = "r1") -> None:
         first = self.kept.archived + 1
-        self.keep([Block.of(first + at, [Put(self.chance.randrange(200), self.chance.randrange(8000), self.chance.randbytes(90))]).data
-                   for at in range(count)], run)  # fmt: skip
+        self.keep(
+            [
+                Block.of(
+                    first + at,
+                    [
+                        Put(
+                            self.chance.randrange(200),
+                            self.chance.randrange(8000),
+                            self.chance.randbytes(90),
+                        )
+                    ],
+                ).data
+                for at in range(count)
+            ],
+            run,
+        )
 
     def keep(self, made: list[bytes], run: str = "r1") -> None:
-        batch = Batch(self.row.id, run, self.kept.generation, self.kept.archived, digest(self.kept.chain, made), tuple(made))
+        batch = Batch(
+            self.row.id,
+            run,
+            self.kept.generation,
+            self.kept.archived,
+            digest(self.kept.chain, made),
+            tuple(made),
+        )
         self.assertEqual(self.referee.keep([batch]), {self.row.id})
         self.kept = Kept(batch.new, batch.chain, self.kept.generation)
         self.made += made
 
     def mover(self, **more: Any) -> Mover:
         options = {key: more.pop(key) for key in ("passing", "level") if key in more}
-        return Mover(self.reading(), self.store, self.row.id, "shop", self.row.identity, replace(self.settings, **more), **options)
+        return Mover(
+            self.reading(),
+            self.store,
+            self.row.id,
+            "shop",
+            self.row.identity,
+            replace(self.settings, **more),
+            **options,
+        )
 
     def move(self, **more: Any) -> Mover:
         """Moves all that there is to move."""
@@ -101,16 +152,23 @@ class Stored(Referees):
         return self.rows()
 
     def objects(self) -> list[tuple[Any, ...]]:
-        return self.reader._ask("SELECT first, last, key, state FROM pagelog_object WHERE log = %s ORDER BY first", (self.row.id,))
+        return self.reader._ask(
+            "SELECT first, last, key, state FROM pagelog_object WHERE log = %s ORDER BY first",
+            (self.row.id,),
+        )
 
     def place(self) -> tuple[int, int]:
         """How far it is moved, and cut."""
-        [row] = self.reader._ask("SELECT moved, cut FROM pagelog_store WHERE log = %s", (self.row.id,))
+        [row] = self.reader._ask(
+            "SELECT moved, cut FROM pagelog_store WHERE log = %s", (self.row.id,)
+        )
         return row  # type: ignore[no-any-return]
 
     def strays(self) -> set[str]:
         """Keys that no row knows."""
-        rows = self.reader._ask("SELECT key FROM pagelog_gone UNION ALL SELECT key FROM pagelog_pack UNION ALL SELECT manifest FROM pagelog_base")
+        rows = self.reader._ask(
+            "SELECT key FROM pagelog_gone UNION ALL SELECT key FROM pagelog_pack UNION ALL SELECT manifest FROM pagelog_base"
+        )
         known = {row[2] for row in self.objects()} | {key for key, in rows}
         return {key for key, _ in self.store.list("")} - known
 
@@ -152,7 +210,9 @@ class Stored(Referees):
     def go_back(self) -> None:
         """PostgreSQL has what it had, and its sessions go on: nothing tells them."""
         with psycopg.connect(self.url) as connection:
-            connection.execute("SET session_replication_role = replica")  # all of it at once, whatever refers to what
+            connection.execute(
+                "SET session_replication_role = replica"
+            )  # all of it at once, whatever refers to what
             for table in TABLES:
                 connection.execute(f"DELETE FROM pagelog_{table}")
             for table in TABLES:
@@ -162,7 +222,11 @@ class Stored(Referees):
     def read(self, log: int | None = None, last: int | None = None) -> list[bytes]:
         """All blocks, by a referee that has read nothing before."""
         reader = self.reading()
-        found = [block for piece in reader.blocks(log or self.row.id, 1, last or self.kept.archived) for block in piece]
+        found = [
+            block
+            for piece in reader.blocks(log or self.row.id, 1, last or self.kept.archived)
+            for block in piece
+        ]
         reader.close()
         return found
 
@@ -177,7 +241,10 @@ class Stored(Referees):
             self.assertEqual((first, state == 2), (at + 1, last <= cut), what)
             at = last
             if state:
-                self.assertEqual(decode(self.store.get(key), key).blocks(first, last), self.made[first - 1 : last])
+                self.assertEqual(
+                    decode(self.store.get(key), key).blocks(first, last),
+                    self.made[first - 1 : last],
+                )
         self.assertEqual(at, moved)
 
 
@@ -186,26 +253,42 @@ class Objects(unittest.TestCase):
         self.folder = Path(self.enterContext(tempfile.TemporaryDirectory()))
         blocks = [Block.of(lsn, [Put(0, 0, b"%d" % lsn * 9)]).data for lsn in range(5, 25)]
         head = Head(uuid.UUID(int=7 << 96), 5, 24, b"b" * 16, digest(b"b" * 16, blocks), 3)
-        self.blocks, self.segment = blocks, Segment(head, b"".join(blocks), list(map(len, blocks)), [1_000_000 + at for at in range(20)])
+        self.blocks, self.segment = blocks, Segment(
+            head, b"".join(blocks), list(map(len, blocks)), [1_000_000 + at for at in range(20)]
+        )
         self.sealed = encode(self.segment, "shop.00000007")
 
     def test_an_object_is_what_its_key_says(self) -> None:
         key, data = self.sealed.key, self.sealed.data
         found = decode(data, key)
-        self.assertEqual((found.head, found.blocks(5, 24), list(found.came)), (self.segment.head, self.blocks, list(self.segment.came)))
+        self.assertEqual(
+            (found.head, found.blocks(5, 24), list(found.came)),
+            (self.segment.head, self.blocks, list(self.segment.came)),
+        )
         self.assertEqual(found.blocks(9, 11), self.blocks[4:7])
         self.assertEqual(encode(self.segment, "shop.00000007"), self.sealed)
         said = named(key)
         assert said is not None
-        self.assertEqual((said.folder, said.first, said.last, said.generation, said.before), ("shop.00000007", 5, 24, 3, b"b" * 16))
-        for wrong in (data[:-1], data[:50], b"", data[:60] + bytes((data[60] ^ 1,)) + data[61:], data + b"x"):
+        self.assertEqual(
+            (said.folder, said.first, said.last, said.generation, said.before),
+            ("shop.00000007", 5, 24, 3, b"b" * 16),
+        )
+        for wrong in (
+            data[:-1],
+            data[:50],
+            b"",
+            data[:60] + bytes((data[60] ^ 1,)) + data[61:],
+            data + b"x",
+        ):
             self.assertRaises(BrokenObject, decode, wrong, key)
         self.assertIsNone(named(key.replace("/blocks/", "/images/")))
 
     def test_a_head_that_lies_takes_no_memory(self) -> None:
         data = bytearray(self.sealed.data)
         data[72 + 8 : 72 + 16] = (1 << 62).to_bytes(8, "big")  # how many bytes its blocks have
-        key = self.sealed.key.replace(self.sealed.digest.hex()[:16], hashlib.sha256(data).hexdigest()[:16])
+        key = self.sealed.key.replace(
+            self.sealed.digest.hex()[:16], hashlib.sha256(data).hexdigest()[:16]
+        )
         self.assertRaises(BrokenObject, decode, bytes(data), key)
 
     def test_a_folder_keeps_five_words(self) -> None:
@@ -213,7 +296,9 @@ class Objects(unittest.TestCase):
         store.put("shop.1/blocks/a", b"one")
         store.put("shop.1/blocks/a", b"one")
         store.put("shop.b.2/blocks/a", b"two!")
-        self.assertEqual((store.get("shop.1/blocks/a"), store.get("shop.b.2/blocks/a", 1, 2)), (b"one", b"wo"))
+        self.assertEqual(
+            (store.get("shop.1/blocks/a"), store.get("shop.b.2/blocks/a", 1, 2)), (b"one", b"wo")
+        )
         self.assertEqual(list(store.list("shop.1/")), [("shop.1/blocks/a", 3)])
         self.assertEqual(list(store.list("shop.", "shop.1/blocks/a")), [("shop.b.2/blocks/a", 4)])
         self.assertEqual(list(store.older("shop.1/blocks/a")), [])
@@ -222,11 +307,18 @@ class Objects(unittest.TestCase):
         self.assertRaises(Missing, store.get, "shop.1/blocks/a")
         for wrong in ("../a", "/a", "", "a//b", ".a", "a/.b"):
             self.assertRaises(StoreError, store.put, wrong, b"")
-        self.assertEqual(sorted(path.name for path in self.folder.rglob("*") if path.is_file()), ["a"])
+        self.assertEqual(
+            sorted(path.name for path in self.folder.rglob("*") if path.is_file()), ["a"]
+        )
 
     def test_a_folder_that_is_not_mounted_is_away_and_nothing_is_written_in_its_place(self) -> None:
         store = Folder(self.folder / "none")
-        for call in (lambda: store.put("a", b""), lambda: store.get("a"), lambda: list(store.list("")), lambda: store.delete("a")):
+        for call in (
+            lambda: store.put("a", b""),
+            lambda: store.get("a"),
+            lambda: list(store.list("")),
+            lambda: store.delete("a"),
+        ):
             self.assertRaises(StoreAway, call)
         self.assertFalse((self.folder / "none").exists())
 
@@ -244,7 +336,9 @@ class Moves(Stored):
         self.assertIsNone(self.reader.few_blocks(self.row.id, 500, 507))
         self.write(3)
         self.assertEqual(self.read()[500:], self.made[500:])  # from both
-        with self.assertRaisesRegex(KeeperError, r"in a store, and the credentials name none: say \[archive\] store"):
+        with self.assertRaisesRegex(
+            KeeperError, r"in a store, and the credentials name none: say \[archive\] store"
+        ):
             list(self.referee.blocks(self.row.id, 1, 9))
 
     def test_what_is_young_stays(self) -> None:
@@ -261,6 +355,7 @@ class Moves(Stored):
 
     def test_another_zstd_makes_other_bytes_which_have_another_key(self) -> None:
         self.write(100)
+
         class Died(Exception):
             pass
 
@@ -283,7 +378,9 @@ class Moves(Stored):
         Bases(self.referee, self.row.id).prune(100)
         self.write(50)
         self.move()
-        self.assertEqual((self.place(), self.in_postgres(), self.objects()[0][0]), ((150, 150), [], 101))
+        self.assertEqual(
+            (self.place(), self.in_postgres(), self.objects()[0][0]), ((150, 150), [], 101)
+        )
         found = [block for piece in self.reader.blocks(self.row.id, 101, 150) for block in piece]
         self.assertEqual(found, self.made[100:])
 
@@ -296,8 +393,14 @@ class Moves(Stored):
                 connection.execute(f"DROP TABLE pagelog_{table}")
             for statement in _STORE:
                 connection.execute(statement)
-            may = [connection.execute("SELECT has_table_privilege('looks_at_blocks', %s, %s)", (f"pagelog_{table}", kind)).fetchone()
-                   for table in ("store", "object", "gone") for kind in ("SELECT", "UPDATE")]  # fmt: skip
+            may = [
+                connection.execute(
+                    "SELECT has_table_privilege('looks_at_blocks', %s, %s)",
+                    (f"pagelog_{table}", kind),
+                ).fetchone()
+                for table in ("store", "object", "gone")
+                for kind in ("SELECT", "UPDATE")
+            ]
             connection.execute("DROP OWNED BY looks_at_blocks")
             connection.execute("DROP ROLE looks_at_blocks")
         self.assertEqual(may, [(True,), (False,)] * 3)
@@ -305,7 +408,9 @@ class Moves(Stored):
     def test_nothing_is_moved_of_what_is_damaged(self) -> None:
         self.write(40)
         with psycopg.connect(self.url, autocommit=True) as connection:
-            connection.execute("UPDATE pagelog_block SET data = set_byte(data, 20, 255) WHERE lsn = 7")
+            connection.execute(
+                "UPDATE pagelog_block SET data = set_byte(data, 20, 255) WHERE lsn = 7"
+            )
         self.assertRaisesRegex(BrokenArchive, "block 7 is not the one that was kept", self.move)
         self.assertEqual(self.objects(), [])
 
@@ -330,7 +435,9 @@ class Deaths(Stored):
             self.check(step)
         self.move()
         self.check()
-        self.assertEqual((self.place()[1], self.in_postgres(), self.strays()), (self.kept.archived, [], set()))
+        self.assertEqual(
+            (self.place()[1], self.in_postgres(), self.strays()), (self.kept.archived, [], set())
+        )
 
     def test_it_may_stand_still_at_each_step_while_another_moves(self) -> None:
         self.write(250)
@@ -357,7 +464,9 @@ class Deaths(Stored):
         self.write(50)
         self.row = replace(self.row, identity=str(uuid.uuid4()))
         self.move()
-        self.assertEqual((self.objects(), self.reader._ask("SELECT log FROM pagelog_store")), ([], []))
+        self.assertEqual(
+            (self.objects(), self.reader._ask("SELECT log FROM pagelog_store")), ([], [])
+        )
 
     def test_what_is_above_the_cut_is_cleared_by_nobody(self) -> None:
         self.write(300)
@@ -394,7 +503,9 @@ class Deaths(Stored):
         self.move()
         self.check()
         self.assertEqual(self.in_postgres(), [])
-        self.assertLessEqual(lost, {key for key, _ in self.store.list("")})  # what PostgreSQL has lost is left alone
+        self.assertLessEqual(
+            lost, {key for key, _ in self.store.list("")}
+        )  # what PostgreSQL has lost is left alone
 
     def test_what_the_store_has_and_postgres_does_not_know_is_said(self) -> None:
         self.write(250)
@@ -413,7 +524,10 @@ class Deaths(Stored):
         while moving.round():
             pass
         report = reports[-1]["shop"]
-        self.assertEqual((report["foreign"], report["foreign_end"], report["stored"], report["broken"]), (objects, 500, 250, None))
+        self.assertEqual(
+            (report["foreign"], report["foreign_end"], report["stored"], report["broken"]),
+            (objects, 500, 250, None),
+        )
         self.write(300)  # what comes in its place goes beyond it
         while moving.round() or self.place()[1] < 550:
             pass
@@ -439,16 +553,26 @@ class WithImages(Stored):
 
     def here(self) -> list[tuple[int, int]]:
         """The images whose bytes are in PostgreSQL."""
-        return self.reader._ask("SELECT range, base FROM pagelog_image WHERE data <> '' AND log = %s ORDER BY range, base", (self.row.id,))
+        return self.reader._ask(
+            "SELECT range, base FROM pagelog_image WHERE data <> '' AND log = %s ORDER BY range, base",
+            (self.row.id,),
+        )
 
     def packs(self) -> list[tuple[Any, ...]]:
-        return self.reader._ask("SELECT number, key, digest, state FROM pagelog_pack WHERE log = %s ORDER BY number", (self.row.id,))
+        return self.reader._ask(
+            "SELECT number, key, digest, state FROM pagelog_pack WHERE log = %s ORDER BY number",
+            (self.row.id,),
+        )
 
     def check_images(self, what: str = "") -> None:
         """Each base has its pages, each pack that is said to be kept is there, and each manifest that is names these images."""
         reader = self.reading()
         for base in self.bases.values():
-            self.assertEqual(pages_of(Bases(reader, self.row.id), base), pages(self.made[: base.position]), (what, base.position))
+            self.assertEqual(
+                pages_of(Bases(reader, self.row.id), base),
+                pages(self.made[: base.position]),
+                (what, base.position),
+            )
         for _, key, digest, state in self.packs():
             if state:
                 self.assertEqual(hashlib.sha256(self.store.get(key)).digest(), digest, what)
@@ -457,12 +581,20 @@ class WithImages(Stored):
             self.assertEqual(self.by_manifest(key), pages(self.made[:position]), what)
 
     def manifests(self) -> dict[int, str]:
-        return dict(self.reader._ask("SELECT base, manifest FROM pagelog_base WHERE log = %s AND is_stored ORDER BY base", (self.row.id,)))
+        return dict(
+            self.reader._ask(
+                "SELECT base, manifest FROM pagelog_base WHERE log = %s AND is_stored ORDER BY base",
+                (self.row.id,),
+            )
+        )
 
     def by_manifest(self, key: str) -> dict[int, bytes]:
         """The pages of a base by the store alone, as who has no PostgreSQL reads them: each image by a range."""
         found = read_manifest(self.store.get(key), key)
-        images = [image_of(packed, self.store.get(found.packs[number].key, packed.at, packed.length), key) for packed, number in found.images]
+        images = [
+            image_of(packed, self.store.get(found.packs[number].key, packed.at, packed.length), key)
+            for packed, number in found.images
+        ]
         self.assertEqual(sum(image.mask.bit_count() for image in images), found.facts.pages)
         return {number: page for image in images for number, page in image.pages()}
 
@@ -474,30 +606,44 @@ class Images(WithImages):
             self.base()
             self.move()
             self.check_images()
-        self.assertEqual((self.here(), self.strays(), {row[3] for row in self.packs()}), ([], set(), {2}))
+        self.assertEqual(
+            (self.here(), self.strays(), {row[3] for row in self.packs()}), ([], set(), {2})
+        )
         self.assertEqual(list(self.manifests()), list(self.bases))
         asked: list[tuple[Any, ...]] = []
         get = self.store.get
-        with patch("pagelog.store.place.Folder.get", lambda _, key, *part: (asked.append((key, *part)), get(key, *part))[1]):
+        with patch(
+            "pagelog.store.place.Folder.get",
+            lambda _, key, *part: (asked.append((key, *part)), get(key, *part))[1],
+        ):
             reader = self.reading()
             last = self.bases[345]
             image = Bases(reader, self.row.id).image(2, last)
             assert image is not None
-            self.assertEqual(dict(image.pages()), {number: page for number, page in pages(self.made).items() if 128 <= number < 192})
+            self.assertEqual(
+                dict(image.pages()),
+                {number: page for number, page in pages(self.made).items() if 128 <= number < 192},
+            )
             [(key, _, length)] = asked
             self.assertLess(length, len(get(key)))
             asked.clear()
             self.assertEqual(pages_of(Bases(reader, self.row.id), last), pages(self.made))
             self.assertLessEqual(len(asked), 4)  # those that are beside each other come at once
-        with self.assertRaisesRegex(KeeperError, r"in a store, and the credentials name none: say \[archive\] store"):
+        with self.assertRaisesRegex(
+            KeeperError, r"in a store, and the credentials name none: say \[archive\] store"
+        ):
             pages_of(Bases(self.referee, self.row.id), last)
 
     def test_nothing_is_packed_of_what_is_damaged_or_no_base_names(self) -> None:
         self.write(100)
         self.base()
-        self.reader._ask("UPDATE pagelog_image SET data = set_byte(data, 9, 255) WHERE range = 1 RETURNING 1")
+        self.reader._ask(
+            "UPDATE pagelog_image SET data = set_byte(data, 9, 255) WHERE range = 1 RETURNING 1"
+        )
         self.assertRaisesRegex(BrokenArchive, "the image of range 1 is damaged", self.move)
-        self.reader._ask("UPDATE pagelog_image SET data = set_byte(data, 9, 0) WHERE range = 1 RETURNING 1")
+        self.reader._ask(
+            "UPDATE pagelog_image SET data = set_byte(data, 9, 0) WHERE range = 1 RETURNING 1"
+        )
         self.reader._ask("DELETE FROM pagelog_base RETURNING 1")
         self.move()
         garbage = self.here()
@@ -507,7 +653,9 @@ class Images(WithImages):
         self.base()
         self.move()
         self.check_images()
-        self.assertEqual((self.here(), len(self.packs())), (garbage, 1))  # and what is behind it does not wait for that
+        self.assertEqual(
+            (self.here(), len(self.packs())), (garbage, 1)
+        )  # and what is behind it does not wait for that
 
     def test_what_a_pack_was_made_of_is_compared_where_it_is_named(self) -> None:
         self.write(100)
@@ -515,13 +663,17 @@ class Images(WithImages):
 
         def change(point: str) -> None:
             if point == "packed" and not self.packs():
-                self.reader._ask("UPDATE pagelog_image SET data = set_byte(data, 9, 7) WHERE range = 1 RETURNING 1")
+                self.reader._ask(
+                    "UPDATE pagelog_image SET data = set_byte(data, 9, 7) WHERE range = 1 RETURNING 1"
+                )
 
         self.assertEqual((self.move(passing=change).images.refused, self.packs()), (1, []))
         self.assertRaisesRegex(BrokenArchive, "the image of range 1 is damaged", self.move)
 
     def test_what_of_it_is_damaged_before_it_was_read_back_is_put_again(self) -> None:
-        for number, (at, kind) in enumerate((("pack put", "/images/"), ("manifest put", "/bases/"))):
+        for number, (at, kind) in enumerate(
+            (("pack put", "/images/"), ("manifest put", "/bases/"))
+        ):
             self.write(60)
             self.base()
             before = {key for key, _ in self.store.list("")}
@@ -543,10 +695,20 @@ class Images(WithImages):
         self.write(50)
         self.mover().step()  # its row in pagelog_store
         self.base()
-        mover = PackMover(self.mover()._ask, self.store, uuid.UUID(self.row.identity), lambda _: None, 3)
+        mover = PackMover(
+            self.mover()._ask, self.store, uuid.UUID(self.row.identity), lambda _: None, 3
+        )
         other = uuid.uuid4()
         ask = mover._ask
-        with patch.object(mover, "_ask", lambda statement, **values: ask(statement, **values, **({"identity": str(other)} if statement == tables.PACK else {}))):
+        with patch.object(
+            mover,
+            "_ask",
+            lambda statement, **values: ask(
+                statement,
+                **values,
+                **({"identity": str(other)} if statement == tables.PACK else {}),
+            ),
+        ):
             self.assertFalse(mover.step())
         self.assertEqual(self.packs(), [])
 
@@ -570,10 +732,27 @@ class Images(WithImages):
             return rows(of, *values)
 
         with patch.object(Bases, "_rows", late), patch.object(Bases, "newest", lambda *_: first):
-            self.assertRaisesRegex(Pruned, "base at position 100", make_base, self.reader, self.row.id, self.kept.archived, self.kept.chain)
+            self.assertRaisesRegex(
+                Pruned,
+                "base at position 100",
+                make_base,
+                self.reader,
+                self.row.id,
+                self.kept.archived,
+                self.kept.chain,
+            )
         self.assertGreater(len(reads), 2)
-        self.assertEqual(self.reader._ask("SELECT range FROM pagelog_image WHERE base > %s", (second.position,)), [])
-        self.assertRaisesRegex(Pruned, "base at position 100 was pruned meanwhile", pages_of, Bases(self.reader, self.row.id), first)
+        self.assertEqual(
+            self.reader._ask("SELECT range FROM pagelog_image WHERE base > %s", (second.position,)),
+            [],
+        )
+        self.assertRaisesRegex(
+            Pruned,
+            "base at position 100 was pruned meanwhile",
+            pages_of,
+            Bases(self.reader, self.row.id),
+            first,
+        )
 
     def test_another_zstd_makes_other_packs_and_manifests(self) -> None:
         self.write(100)
@@ -592,7 +771,9 @@ class Images(WithImages):
                 self.move(passing=die, level=level)
         self.move()
         self.check_images()
-        self.assertEqual((self.here(), len(self.reader._ask("SELECT key FROM pagelog_gone"))), ([], 2))
+        self.assertEqual(
+            (self.here(), len(self.reader._ask("SELECT key FROM pagelog_gone"))), ([], 2)
+        )
 
     def test_what_is_kept_anew_is_packed_anew(self) -> None:
         """As where PostgreSQL went back, and a run goes on that began with images."""
@@ -606,7 +787,8 @@ class Images(WithImages):
         self.assertEqual((again, len(self.here())), (base, 4))
         self.move()
         self.check_images()
-        self.assertEqual((self.here(), len(self.packs())), ([], 2))
+        [(number, *_)] = self.packs()
+        self.assertEqual((self.here(), number > 1), ([], True))
 
     def test_a_base_that_waits_for_the_store_is_behind(self) -> None:
         self.write(50)
@@ -616,25 +798,40 @@ class Images(WithImages):
             [row] = self.reader._ask(tables.HELD, {"me": "one"})
             return float(row[-1])
 
-        self.reader._ask("UPDATE pagelog_base SET came = now() - interval '1000 seconds' RETURNING 1")
+        self.reader._ask(
+            "UPDATE pagelog_base SET came = now() - interval '1000 seconds' RETURNING 1"
+        )
         self.assertGreater(behind(), 999)
         self.move()
         self.assertEqual(behind(), 0)
 
     def test_pruning_takes_packs_and_manifests_that_nothing_names_and_no_others(self) -> None:
         for place in (0, 150, 0):
-            self.keep([Block.of(self.kept.archived + 1 + at, [Put(place + at % 9, 0, b"%d" % self.kept.archived)]).data for at in range(40)])
+            self.keep(
+                [
+                    Block.of(
+                        self.kept.archived + 1 + at,
+                        [Put(place + at % 9, 0, b"%d" % self.kept.archived)],
+                    ).data
+                    for at in range(40)
+                ]
+            )
             self.base()
             self.move()
         first, second, last = self.packs()
         manifests = self.manifests()
         Bases(self.reader, self.row.id).prune(120)
         del self.bases[40], self.bases[80]
-        self.assertEqual(([row[0] for row in self.packs()], self.manifests()), ([second[0], last[0]], {120: manifests[120]}))
+        self.assertEqual(
+            ([row[0] for row in self.packs()], self.manifests()),
+            ([second[0], last[0]], {120: manifests[120]}),
+        )
         self.check_images()
         self.assertEqual(sweep(self.reader, self.store, 3600.0), 0)
         self.assertGreater(sweep(self.reader, self.store, 0.0), 3)
-        self.assertFalse({first[1], manifests[40], manifests[80]} & {key for key, _ in self.store.list("")})
+        self.assertFalse(
+            {first[1], manifests[40], manifests[80]} & {key for key, _ in self.store.list("")}
+        )
         self.check_images()
         self.assertTrue(self.reader.drop("shop"))
         sweep(self.reader, self.store, 0.0)
@@ -647,19 +844,28 @@ class Images(WithImages):
         [[_, key, _, _]] = self.packs()
         file = self.folder / key
         whole = file.read_bytes()
-        for data in (None, whole[: len(whole) // 2], whole[:40] + bytes((whole[40] ^ 4,)) + whole[41:], b""):
+        for data in (
+            None,
+            whole[: len(whole) // 2],
+            whole[:40] + bytes((whole[40] ^ 4,)) + whole[41:],
+            b"",
+        ):
             file.unlink(missing_ok=True)
             if data is not None:
                 file.write_bytes(data)
-            with self.assertRaisesRegex(BrokenArchive, f"images from range 0 on at position 300 cannot be read: the object {key} (is missing|has other)"):
+            with self.assertRaisesRegex(
+                BrokenArchive,
+                f"images from range 0 on at position 300 cannot be read: the object {key} (is missing|has other)",
+            ):
                 pages_of(Bases(self.reader, self.row.id), base)
             with patch.object(Folder, "older", lambda _, key: iter([b"other", whole])):
                 self.assertEqual(pages_of(Bases(self.reader, self.row.id), base), pages(self.made))
         self.folder.rename(f"{self.folder}.away")
-        with self.assertRaisesRegex(Away, "images from range 0 on at position 300 are in the store: the store has no folder"):
+        with self.assertRaisesRegex(
+            Away, "images from range 0 on at position 300 are in the store: the store has no folder"
+        ):
             pages_of(Bases(self.reader, self.row.id), base)
         Path(f"{self.folder}.away").rename(self.folder)
-
 
     def test_where_a_base_cannot_be_read_an_older_one_is_taken_and_it_is_made_anew(self) -> None:
         self.keep([Block.of(1, [Put(600, 0, b"of the first base alone")]).data])
@@ -670,12 +876,19 @@ class Images(WithImages):
         first, second, third = self.bases.values()
         keys, manifest = [key for _, key, *_ in self.packs()], self.manifests()[900]
         self.damage(keys[2], third, second)
-        self.assertEqual([Bases(self.reader, self.row.id).oldest_to_keep(keep) for keep in (1, 2, "0 seconds")], [600, 300, 600])
+        self.assertEqual(
+            [Bases(self.reader, self.row.id).oldest_to_keep(keep) for keep in (1, 2, "0 seconds")],
+            [600, 300, 600],
+        )
         (self.folder / keys[2]).write_bytes(self.whole)
-        self.reader._ask("UPDATE pagelog_base SET broken = broken - interval '2 hours' WHERE broken IS NOT NULL RETURNING 1")
+        self.reader._ask(
+            "UPDATE pagelog_base SET broken = broken - interval '2 hours' WHERE broken IS NOT NULL RETURNING 1"
+        )
         for base, older in ((third, second), (second, first), (first, NOTHING)):
             self.damage(keys[0], base, older)
-        self.assertEqual(make_base(self.reader, self.row.id, 900, self.kept.chain), third)  # of all blocks
+        self.assertEqual(
+            make_base(self.reader, self.row.id, 900, self.kept.chain), third
+        )  # of all blocks
         reader = Bases(self.reader, self.row.id)
         self.assertEqual((reader.newest(900), reader.oldest_to_keep(1)), (third, 900))
         self.move()
@@ -715,7 +928,9 @@ class Images(WithImages):
         self.write(10)
         for _ in range(2):
             self.assertEqual(Bases(self.reader, self.row.id).newest(310), base)
-            self.assertRaisesRegex(BrokenBase, "is missing", make_base, self.reader, self.row.id, 310, self.kept.chain)
+            self.assertRaisesRegex(
+                BrokenBase, "is missing", make_base, self.reader, self.row.id, 310, self.kept.chain
+            )
 
 
 class ImageDeaths(WithImages):
@@ -728,7 +943,9 @@ class ImageDeaths(WithImages):
         self.move()
         self.check()
         self.check_images()
-        self.assertEqual((self.here(), self.strays(), list(self.manifests())), ([], set(), list(self.bases)))
+        self.assertEqual(
+            (self.here(), self.strays(), list(self.manifests())), ([], set(), list(self.bases))
+        )
 
     def test_it_may_stand_still_at_each_step_of_images_while_another_moves(self) -> None:
         standing = {}
@@ -837,7 +1054,10 @@ class Held(WithImages):
 
     def all(self) -> dict[str, int]:
         tables = ("base", "image", "pack", "object", "block", "gone", "log")
-        return {table: self.reader._ask(f"SELECT count(*) FROM pagelog_{table}")[0][0] for table in tables} | dict(zip(("moved", "cut"), self.place()))
+        return {
+            table: self.reader._ask(f"SELECT count(*) FROM pagelog_{table}")[0][0]
+            for table in tables
+        } | dict(zip(("moved", "cut"), self.place()))
 
     def row_now(self) -> Any:
         return self.reader.everything().row("shop")
@@ -848,14 +1068,23 @@ class Held(WithImages):
         self.assertEqual(Bases(self.reader, self.row.id).prune(900), 0)
         self.assertFalse(self.reader.drop("shop"))
         self.assertEqual(self.all(), before)
-        self.assertEqual((extent_of(self.reader, self.row_now()).first, self.read()), (0, self.made))
+        self.assertEqual(
+            (extent_of(self.reader, self.row_now()).first, self.read()), (0, self.made)
+        )
         self.check_images()
         self.assertTrue(let_go(self.reader, self.row_now()))
         self.assertGreater(Bases(self.reader, self.row.id).prune(900), 600)
 
     def test_one_that_is_held_while_it_is_pruned_keeps_what_it_has_then(self) -> None:
         """Whatever statement of the pruning comes next."""
-        word = ("WITH free", "DELETE FROM pagelog_image", "DELETE FROM pagelog_pack", "DELETE FROM pagelog_object", "UPDATE pagelog_store", "DELETE FROM pagelog_block")
+        word = (
+            "WITH free",
+            "DELETE FROM pagelog_image",
+            "DELETE FROM pagelog_pack",
+            "DELETE FROM pagelog_object",
+            "UPDATE pagelog_store",
+            "DELETE FROM pagelog_block",
+        )
         for number, cut in enumerate(word):
             ask, holder, seen = self.reader._ask, self.reading(), []
 
@@ -876,9 +1105,13 @@ class Held(WithImages):
     def test_what_nothing_names_of_it_stays_in_the_store(self) -> None:
         Bases(self.reader, self.row.id).prune(900)
         self.assertGreater(self.all()["gone"], 0)
+        self.assertEqual(sweep(self.reader, self.store, 0.0), 0)  # the newest base is not there
+        self.move()
         hold(self.reader, self.row_now())
         keys = list(self.store.list(""))
-        self.assertEqual((sweep(self.reader, self.store, 0.0), list(self.store.list(""))), (0, keys))
+        self.assertEqual(
+            (sweep(self.reader, self.store, 0.0), list(self.store.list(""))), (0, keys)
+        )
         let_go(self.reader, self.row_now())
         self.assertGreater(sweep(self.reader, self.store, 0.0), 3)
 
@@ -891,49 +1124,31 @@ class Held(WithImages):
         def said(*words: str) -> str:
             return CliRunner().invoke(pagelogctl, [*words, "--credentials", str(file)]).output
 
-        self.assertRegex(said("hold", "shop"), "^shop is held since 20.*: positions 0 to 900, from 20")
+        self.assertRegex(
+            said("hold", "shop"), "^shop is held since 20.*: positions 0 to 900, from 20"
+        )
         self.assertRegex(said("kept", "--json"), '"held": true')
         for words in (("prune", "shop", "--keep", "1", "--yes"), ("drop", "shop", "--yes")):
-            self.assertRegex(said(*words), "nothing was deleted: shop is held since 20.*; `pagelogctl hold shop --release` lets go of it")
-        self.assertRegex(said("hold", "shop", "--release"), "shop may be pruned and dropped: it was held since 20")
+            self.assertRegex(
+                said(*words),
+                "nothing was deleted: shop is held since 20.*; `pagelogctl hold shop --release` lets go of it",
+            )
+        self.assertRegex(
+            said("hold", "shop", "--release"),
+            "shop may be pruned and dropped: it was held since 20",
+        )
         self.assertIn("there is no database ship", said("hold", "ship"))
         self.assertRegex(said("prune", "shop", "--keep", "1", "--yes"), "pruned 900 blocks")
 
 
-class Memory(WithImages):
-    """A mover and the making of a base take memory that does not depend on how much there is: 64 MiB beside what their process has when it
-    begins."""
-
-    MOST = 64 << 20
-    PEAK = """
+MOST = 64 << 20
+"""Bytes of memory that a mover, or the making of a base, takes at most, beside what its process has when it begins."""
+PEAK = """
 import re, sys
 def peak():
     return int(re.search(r"VmHWM:\\s+(\\d+)", open("/proc/self/status").read())[1]) << 10
 """
-
-    def peak_of(self, program: str, *words: str) -> int:
-        """How much more memory than before it a program had at once."""
-        done = subprocess.run([sys.executable, "-c", f"{self.PEAK}{program}", *words], capture_output=True, text=True, check=True,
-                              env={**os.environ, "PYTHONPATH": os.pathsep.join(sys.path)})  # fmt: skip
-        before, after = map(int, done.stdout.split()[-2:])
-        return after - before
-
-    def test_what_a_mover_and_a_base_take_is_bounded(self) -> None:
-        for _ in range(8):
-            first = self.kept.archived + 1
-            self.keep([Block.of(first + at, [Put(4 * (first + at) + page, 0, self.chance.randbytes(8000)) for page in range(4)]).data for at in range(256)])
-        wish = BaseWish(self.url, self.row.id, self.kept.archived, self.kept.chain.hex(), None, self.settings)
-        program = """
-from pagelog.keeper.basing import Wish, make
-wish, before = Wish.read(sys.argv[1]), peak()
-make(wish)
-print(before, peak())
-"""
-        taken = {"base": self.peak_of(program, wish.line)}
-        base = self.bases[self.kept.archived] = Bases(self.reader, self.row.id).newest(self.kept.archived)
-        self.assertEqual(base.pages, 8 * 256 * 4)
-        settings = replace(self.settings, seal=8 << 20)
-        program = """
+MOVING = """
 from pagelog.keeper.referee import Referee
 from pagelog.store.mover import Mover
 from pagelog.store.moving import Wish
@@ -944,7 +1159,58 @@ while mover.step():
     pass
 print(before, peak())
 """
-        taken["mover"] = self.peak_of(program, Wish(self.url, "one", settings).line, str(self.row.id), self.row.identity)
+"""A program that moves all that there is."""
+
+
+def peak_of(program: str, *words: str) -> int:
+    """How much more memory than before it a program had at once."""
+    done = subprocess.run(
+        [sys.executable, "-c", f"{PEAK}{program}", *words],
+        capture_output=True,
+        text=True,
+        check=True,
+        env={**os.environ, "PYTHONPATH": os.pathsep.join(sys.path)},
+    )
+    before, after = map(int, done.stdout.split()[-2:])
+    return after - before
+
+
+class Memory(WithImages):
+    """A mover and the making of a base take memory that does not depend on how much there is: 64 MiB beside what their process has when it
+    begins."""
+
+    def test_what_a_mover_and_a_base_take_is_bounded(self) -> None:
+        for _ in range(8):
+            first = self.kept.archived + 1
+            self.keep(
+                [
+                    Block.of(
+                        first + at,
+                        [
+                            Put(4 * (first + at) + page, 0, self.chance.randbytes(8000))
+                            for page in range(4)
+                        ],
+                    ).data
+                    for at in range(256)
+                ]
+            )
+        wish = BaseWish(
+            self.url, self.row.id, self.kept.archived, self.kept.chain.hex(), None, self.settings
+        )
+        program = """
+from pagelog.keeper.basing import Wish, make
+wish, before = Wish.read(sys.argv[1]), peak()
+make(wish)
+print(before, peak())
+"""
+        taken = {"base": peak_of(program, wish.line)}
+        base = self.bases[self.kept.archived] = Bases(self.reader, self.row.id).newest(
+            self.kept.archived
+        )
+        self.assertEqual(base.pages, 8 * 256 * 4)
+        settings = replace(self.settings, seal=8 << 20)
+        line = Wish(self.url, "one", settings).line
+        taken["mover"] = peak_of(MOVING, line, str(self.row.id), self.row.identity)
         self.assertEqual((self.in_postgres(), self.here()), ([], []))
         program = """
 from pagelog.keeper.bases import Bases
@@ -956,12 +1222,23 @@ for image in bases.images(bases.newest(wish.archived)):
     pass
 print(before, peak())
 """
-        taken["images"] = self.peak_of(program, wish.line)
+        taken["images"] = peak_of(program, wish.line)
         first = self.kept.archived + 1
-        self.keep([Block.of(first + at, [Put(self.chance.randrange(8000), 9, self.chance.randbytes(20)) for page in range(4)]).data for at in range(6000)])
+        self.keep(
+            [
+                Block.of(
+                    first + at,
+                    [
+                        Put(self.chance.randrange(8000), 9, self.chance.randbytes(20))
+                        for page in range(4)
+                    ],
+                ).data
+                for at in range(6000)
+            ]
+        )
         self.base_of_the_store(taken)
         for what, bytes in taken.items():
-            self.assertLess(bytes, self.MOST, taken)
+            self.assertLess(bytes, MOST, taken)
         if os.environ.get("PAGELOG_TEST_SAYS"):
             print({what: f"{bytes >> 20} MiB" for what, bytes in taken.items()})
 
@@ -969,14 +1246,16 @@ print(before, peak())
         """The next one, of images and blocks that the store alone has."""
         self.move(seal=8 << 20)
         self.assertEqual((self.in_postgres(), self.here()), ([], []))
-        wish = BaseWish(self.url, self.row.id, self.kept.archived, self.kept.chain.hex(), None, self.settings)
+        wish = BaseWish(
+            self.url, self.row.id, self.kept.archived, self.kept.chain.hex(), None, self.settings
+        )
         program = """
 from pagelog.keeper.basing import Wish, make
 wish, before = Wish.read(sys.argv[1]), peak()
 make(wish)
 print(before, peak())
 """
-        taken["base of the store"] = self.peak_of(program, wish.line)
+        taken["base of the store"] = peak_of(program, wish.line)
         base = Bases(self.reader, self.row.id).newest(self.kept.archived)
         self.assertEqual(base.position, self.kept.archived)
         reader = self.reading()
@@ -995,7 +1274,12 @@ class Damage(Stored):
 
     def changes(self) -> dict[str, bytes | None]:
         whole = self.whole
-        return {"deleted": None, "cut in half": whole[: len(whole) // 2], "a bit": whole[:200] + bytes((whole[200] ^ 4,)) + whole[201:], "empty": b""}
+        return {
+            "deleted": None,
+            "cut in half": whole[: len(whole) // 2],
+            "a bit": whole[:200] + bytes((whole[200] ^ 4,)) + whole[201:],
+            "empty": b"",
+        }
 
     def change(self, data: bytes | None) -> None:
         self.file.unlink(missing_ok=True)
@@ -1006,13 +1290,20 @@ class Damage(Stored):
         make_base(self.reader, self.row.id, self.kept.archived, self.kept.chain)
         for what, data in self.changes().items():
             self.change(data)
-            with self.assertRaisesRegex(BrokenArchive, f"blocks {self.first} to {self.last} cannot be read: the object {self.key} (is missing|has other)"):
+            with self.assertRaisesRegex(
+                BrokenArchive,
+                f"blocks {self.first} to {self.last} cannot be read: the object {self.key} (is missing|has other)",
+            ):
                 self.read()
             self.assertEqual(self.reader._piece(self.row.id, 1, 5), self.made[:5], what)
             self.write(60)
             self.move()
             base = Bases(self.reader, self.row.id).newest(self.kept.archived)
-            after = [block for piece in self.reader.blocks(self.row.id, base.position + 1, self.kept.archived) for block in piece]
+            after = [
+                block
+                for piece in self.reader.blocks(self.row.id, base.position + 1, self.kept.archived)
+                for block in piece
+            ]
             self.assertEqual(after, self.made[base.position :])  # a takeover reads no more
         self.change(self.whole)
         self.check()
@@ -1020,7 +1311,11 @@ class Damage(Stored):
     def test_an_older_version_that_is_right_is_found(self) -> None:
         for data in self.changes().values():
             self.change(data)
-            with patch.object(Folder, "older", lambda _, key: iter([b"other", self.whole]) if key == self.key else iter(())):
+            with patch.object(
+                Folder,
+                "older",
+                lambda _, key: iter([b"other", self.whole]) if key == self.key else iter(()),
+            ):
                 self.assertEqual(self.read(), self.made)
 
     def test_what_is_damaged_before_it_was_read_back_is_put_again(self) -> None:
@@ -1045,11 +1340,18 @@ class Damage(Stored):
         self.folder.rename(f"{self.folder}.away")
         try:
             self.assertRaises(StoreAway, self.move)
-            with self.assertRaisesRegex(Away, f"blocks 1 to {self.objects()[0][1]} are in the store: the store has no folder"):
+            with self.assertRaisesRegex(
+                Away,
+                f"blocks 1 to {self.objects()[0][1]} are in the store: the store has no folder",
+            ):
                 self.read()
             self.write(5)
             cut = self.place()[1]
-            found = [block for piece in self.reader.blocks(self.row.id, cut + 1, self.kept.archived) for block in piece]
+            found = [
+                block
+                for piece in self.reader.blocks(self.row.id, cut + 1, self.kept.archived)
+                for block in piece
+            ]
             self.assertEqual(found, self.made[cut:])
         finally:
             Path(f"{self.folder}.away").rename(self.folder)
@@ -1088,7 +1390,9 @@ class Past(Old):
         for position in (1, self.border - 1, self.border, self.border + 1, 600, 601, 625):
             self.check_again(position)
         self.assertEqual(sorted(self.folder.rglob("*")), files)
-        self.assertEqual(len(self.rows()), 25 + 1 + 25)  # of the blocks that are in PostgreSQL alone
+        self.assertEqual(
+            len(self.rows()), 25 + 1 + 25
+        )  # of the blocks that are in PostgreSQL alone
 
     def test_with_a_base_between(self) -> None:
         base = make_base(self.reader, self.row.id, 600, digest(b"", self.made[:600]))
@@ -1100,12 +1404,22 @@ class Past(Old):
             self.assertTrue(begin_again(self.reader, self.row_now(), position, name))
             made = self.reader.everything().row(name)
             assert made is not None
-            found = [block for piece in self.reading().blocks(made.id, 601, position) for block in piece]
-            self.assertEqual((found, made.chain), (self.made[600:position], digest(b"", self.made[:position])))
+            found = [
+                block for piece in self.reading().blocks(made.id, 601, position) for block in piece
+            ]
+            self.assertEqual(
+                (found, made.chain), (self.made[600:position], digest(b"", self.made[:position]))
+            )
 
     def test_a_time_is_looked_for_in_objects_too(self) -> None:
         row = self.row_now()
-        self.assertEqual({position: position_at(self.reader, row, time) for position, time in self.times.items()}, {at: at for at in self.times})
+        self.assertEqual(
+            {
+                position: position_at(self.reader, row, time)
+                for position, time in self.times.items()
+            },
+            {at: at for at in self.times},
+        )
         has = extent_of(self.reader, row)
         self.assertEqual((has.first, has.last), (0, 625))
         assert has.first_came is not None and has.last_came is not None
@@ -1120,12 +1434,19 @@ class Past(Old):
         self.assertEqual((self.objects(), self.place()), ([], (625, 625)))
         again = self.reader.everything().row(f"again-{self.border + 1}")
         assert again is not None
-        self.assertEqual(sweep(self.reader, self.store, 0.0), 1)  # of three objects two are another's still
+        self.assertEqual(sweep(self.reader, self.store, 0.0), 0)  # the base is not there
+        self.move()
+        own = self.reader._ask(
+            "SELECT key FROM pagelog_pack UNION SELECT manifest FROM pagelog_base"
+        )
+        self.assertEqual(
+            sweep(self.reader, self.store, 0.0), 1
+        )  # of three objects two are another's still
         self.assertEqual(self.read(again.id, again.archived), self.made[: again.archived])
         self.assertTrue(self.reader.drop(again.name))
         self.assertEqual(sweep(self.reader, self.store, 3600.0), 0)
         self.assertEqual(sweep(self.reader, self.store, 0.0), 3)
-        self.assertEqual(list(self.store.list("")), [])
+        self.assertEqual({(key,) for key, _ in self.store.list("")}, set(own))
         self.assertEqual(self.reader._ask("SELECT key FROM pagelog_gone"), [])
 
     def test_a_drop_that_is_cut_off_before_its_objects_is_gone_on_with(self) -> None:
@@ -1154,14 +1475,20 @@ class Past(Old):
         moved, cut = self.place()
         base = make_base(self.reader, self.row.id, self.kept.archived, self.kept.chain)
         Bases(self.reader, self.row.id).prune(base.position)
-        self.assertEqual((self.place(), [row[3] for row in self.objects()]), ((moved, cut), [1] * len(self.objects())))
+        self.assertEqual(
+            (self.place(), [row[3] for row in self.objects()]),
+            ((moved, cut), [1] * len(self.objects())),
+        )
         self.write(10)
         self.move()
         self.assertEqual(self.place(), (self.kept.archived, self.kept.archived))
 
     def test_the_end_of_a_transaction_is_found_in_an_object(self) -> None:
         def mark(position: int) -> bytes:
-            return Block.of(position, [Put(7, 0, b"p"), Put(0, 0, MARK[-8:] + position.to_bytes(8, "big") + bytes(24))]).data
+            return Block.of(
+                position,
+                [Put(7, 0, b"p"), Put(0, 0, MARK[-8:] + position.to_bytes(8, "big") + bytes(24))],
+            ).data
 
         self.keep([mark(626)])
         self.write(30)

@@ -17,7 +17,18 @@ import psycopg
 import sqlite_named
 from cutting import STEPS
 from keepers import Gate, Keeping, Kept, eventually
-from pagelog import BelowBase, Block, ConnectionLost, Lost, NamedPrimary, Operator, OutOfMemory, Primary, Put, TableRow
+from pagelog import (
+    BelowBase,
+    Block,
+    ConnectionLost,
+    Lost,
+    NamedPrimary,
+    Operator,
+    OutOfMemory,
+    Primary,
+    Put,
+    TableRow,
+)
 from pagelog.connection import Connection
 from pagelog.following import NamedAccount
 from pagelog.place import Keepers, Place
@@ -74,7 +85,10 @@ class Succeeding(Kept):
         if not waits:
             return before
         after = self.keeping.place(least=before.generation + 1)
-        eventually(lambda: not [*self.keeping.folder.glob(f"*/shop.{before.run}.json")], "the end of the service before")
+        eventually(
+            lambda: not [*self.keeping.folder.glob(f"*/shop.{before.run}.json")],
+            "the end of the service before",
+        )
         return after
 
 
@@ -127,19 +141,27 @@ class Writer:
     def has(self, more: int) -> None:
         """Waits until it has committed so many more."""
         wanted = len(self.texts) + more
-        eventually(lambda: len(self.texts) >= wanted or self.fault is not None, "commits of the writer")
+        eventually(
+            lambda: len(self.texts) >= wanted or self.fault is not None, "commits of the writer"
+        )
 
 
 class OneKeeper(Succeeding):
     def test_writers_and_readers_go_on_at_the_same_positions(self) -> None:
-        with self.keeping.primary() as primary, self.keeping.reader() as reader, self.keeping.reader(durable_only=True) as durable:
+        with self.keeping.primary() as primary, self.keeping.reader() as reader, self.keeping.reader(
+            durable_only=True
+        ) as durable:
             for number in range(1, 41):
                 self.commit(primary, f"{number}", durable=number % 10 == 0)
-            self.assertEqual((reader.end(), durable.end(), reader.page(0, 7).data[:3]), (40, 40, b"<7>"))
+            self.assertEqual(
+                (reader.end(), durable.end(), reader.page(0, 7).data[:3]), (40, 40, b"<7>")
+            )
             self.assertEqual((self.succeed().base, self.keeping.place().shift), (40, 39))
             self.assertEqual(self.commit(primary, "41"), 41)
             self.assertEqual(self.commit(primary, "42", durable=True), 42)
-            self.assertEqual([reader.page(0, at).data[:4] for at in (40, 41, 42)], [b"<40>", b"<41>", b"<42>"])
+            self.assertEqual(
+                [reader.page(0, at).data[:4] for at in (40, 41, 42)], [b"<40>", b"<41>", b"<42>"]
+            )
             self.assertEqual([block.lsn for block in reader.blocks(41, follow=False)], [41, 42])
             self.assertEqual((reader.end(), durable.end(), durable.page(0).at), (42, 42, 42))
             for position in (39, 7):
@@ -153,7 +175,9 @@ class OneKeeper(Succeeding):
             self.assertIn("pruned 40", self.keeping.word("prune", "shop", "--keep", 1, "--yes"))
             os.kill(self.keeping.pid(), signal.SIGKILL)
             self.assertEqual(self.commit(primary, "44", durable=True), 44)
-            self.assertEqual((self.keeping.place().base, reader.page(0, 40).data[:4]), (40, b"<40>"))
+            self.assertEqual(
+                (self.keeping.place().base, reader.page(0, 40).data[:4]), (40, b"<40>")
+            )
 
     def test_a_writer_and_a_follower_notice_nothing_of_many_successions(self) -> None:
         seen: list[bytes] = []
@@ -161,7 +185,9 @@ class OneKeeper(Succeeding):
             stops = threading.Event()
 
             def follow() -> None:
-                for block in reader.blocks(1, idle=0.01, stop=lambda: stops.is_set() and len(seen) >= len(writer.texts)):
+                for block in reader.blocks(
+                    1, idle=0.01, stop=lambda: stops.is_set() and len(seen) >= len(writer.texts)
+                ):
                     seen.append(block.records[0].data.strip(b"<>"))  # type: ignore[union-attr]
 
             follower = threading.Thread(target=follow)
@@ -194,7 +220,9 @@ class OneKeeper(Succeeding):
             position = self.commit(primary, "1")
             self.succeed()
             primary.durable(position)  # all of its generation is
-            with self.assertNoLogs("pagelog", "INFO"):  # as of a connection to it that is made again
+            with self.assertNoLogs(
+                "pagelog", "INFO"
+            ):  # as of a connection to it that is made again
                 self.assertEqual(self.commit(primary, "2", durable=True), 2)
 
     def test_a_transaction_of_many_blocks_at_the_fence_is_written_whole(self) -> None:
@@ -214,7 +242,10 @@ class OneKeeper(Succeeding):
                 position = primary.commit(durable=True)
             self.assertGreater(position, 100)
             with self.keeping.reader() as reader:
-                self.assertEqual([page.data[:4] for page in reader.pages(range(1, 1001))], [(b"%d" % at * 2000)[:4] for at in range(1000)])
+                self.assertEqual(
+                    [page.data[:4] for page in reader.pages(range(1, 1001))],
+                    [(b"%d" % at * 2000)[:4] for at in range(1000)],
+                )
             self.assertEqual(len(self.keeping.archive()), position)
 
     def test_a_commit_in_doubt_across_a_succession_is_there_once(self) -> None:
@@ -235,7 +266,9 @@ class OneKeeper(Succeeding):
         def hardened(one: Primary, blocks: list[Block]) -> Iterator[int]:
             lsns = list(harden(one, blocks))
             if next(cuts, False):
-                eventually(lambda: self.keeping.row().archived >= position, "the block in the archive")
+                eventually(
+                    lambda: self.keeping.row().archived >= position, "the block in the archive"
+                )
                 self.succeed()
                 raise ConnectionLost("the connection was lost before the reply")
             yield from lsns
@@ -269,14 +302,20 @@ class OneKeeper(Succeeding):
             before = self.succeed(waits=False)
             gate.somebody_waits()
             account = NamedAccount("shop", 1, token(1))
-            with Operator(Connection(before.address), account.of(before)) as operator, self.assertRaises(TableRow):
+            with Operator(
+                Connection(before.address), account.of(before)
+            ) as operator, self.assertRaises(TableRow):
                 operator.failover(2)  # what is written there now would be lost
             with self.keeping.line() as text:
                 print(f"where shop {before.generation + 1}\nwhere shop", file=text, flush=True)
-                self.assertEqual(text.readline().split()[2], str(before.generation))  # of the second, which does not wait
+                self.assertEqual(
+                    text.readline().split()[2], str(before.generation)
+                )  # of the second, which does not wait
                 gate.open()
                 self.assertEqual(text.readline().split()[2], str(before.generation + 1))
-                print(f"where shop {before.generation + 9}", file=text, flush=True)  # nobody is about to publish that
+                print(
+                    f"where shop {before.generation + 9}", file=text, flush=True
+                )  # nobody is about to publish that
                 self.assertEqual(text.readline().split()[2], str(before.generation + 1))
 
     def test_its_blocks_come_from_the_present_service_and_not_from_postgresql(self) -> None:
@@ -287,20 +326,31 @@ class OneKeeper(Succeeding):
                 self.commit(primary, f"{number}", durable=True)
             before, row = self.keeping.place(), self.keeping.row()
             with psycopg.connect(self.keeping.url) as session:
-                block = session.execute("DELETE FROM pagelog_block WHERE log = %s AND lsn = 5 RETURNING log, lsn, crc, data", (row.id,)).fetchone()
+                block = session.execute(
+                    "DELETE FROM pagelog_block WHERE log = %s AND lsn = 5 RETURNING log, lsn, crc, data",
+                    (row.id,),
+                ).fetchone()
             self.keeping.word("succeed", "shop")
-            eventually(lambda: self.keeping.place().generation > before.generation or "was given up" in self.keeping.said(), "an end of it")
+            eventually(
+                lambda: self.keeping.place().generation > before.generation
+                or "was given up" in self.keeping.said(),
+                "an end of it",
+            )
             self.assertGreater(self.keeping.place().generation, before.generation)
             self.commit(primary, "9", durable=True)
             with psycopg.connect(self.keeping.url) as session:
-                session.execute("INSERT INTO pagelog_block (log, lsn, crc, data) VALUES (%s, %s, %s, %s)", block)
+                session.execute(
+                    "INSERT INTO pagelog_block (log, lsn, crc, data) VALUES (%s, %s, %s, %s)", block
+                )
         self.assertEqual(self.texts(), [f"{number}".encode() for number in range(1, 10)])
 
     def test_a_look_that_began_before_a_switch_does_not_undo_it(self) -> None:
         with self.keeping.primary() as primary:
             self.commit(primary, "1", durable=True)
             before = self.succeed(waits=False)
-            eventually(lambda: "generation: making" in self.keeping.said(), "the beginning of a succession")
+            eventually(
+                lambda: "generation: making" in self.keeping.said(), "the beginning of a succession"
+            )
             gate = Gate(self.keeping.url, "true", table="pagelog_keeper")
             gate.somebody_waits()
             eventually(lambda: self.keeping.row().generation > before.generation, "the switch")
@@ -318,17 +368,26 @@ class OneKeeper(Succeeding):
             self.commit(primary, "1", durable=True)
             before = self.succeed(waits=False)
             eventually(mark.exists, "the service of the next generation, which waits")
-            gate = Gate(self.keeping.url, "NEW.archived > OLD.archived AND NEW.generation = OLD.generation")
+            gate = Gate(
+                self.keeping.url, "NEW.archived > OLD.archived AND NEW.generation = OLD.generation"
+            )
             self.commit(primary, "2")
             gate.somebody_waits()
             for number in range(3, 32):
-                self.commit(primary, f"{number}")  # none of these was pulled when the present generation is closed
+                self.commit(
+                    primary, f"{number}"
+                )  # none of these was pulled when the present generation is closed
             primary.close()  # and nobody writes them again
             mark.unlink()
-            eventually(lambda: "is ready" in self.keeping.said(), "the service of the next generation")
+            eventually(
+                lambda: "is ready" in self.keeping.said(), "the service of the next generation"
+            )
             gate.open()
             self.keeping.place(least=before.generation + 1)
-            self.assertEqual((self.texts(), self.keeping.row().base), ([b"%d" % number for number in range(1, 32)], 31))
+            self.assertEqual(
+                (self.texts(), self.keeping.row().base),
+                ([b"%d" % number for number in range(1, 32)], 31),
+            )
 
 
 class Looked(Writer):
@@ -344,7 +403,9 @@ class Looked(Writer):
 
     def _beat(self) -> int:
         with psycopg.connect(self.url) as session:
-            [[beat]] = session.execute("SELECT beat FROM pagelog_keeper WHERE name = 'a'").fetchall()
+            [[beat]] = session.execute(
+                "SELECT beat FROM pagelog_keeper WHERE name = 'a'"
+            ).fetchall()
             return int(beat)
 
 
@@ -353,12 +414,18 @@ class Thresholds(Succeeding):
 
     def test_at_half_of_the_list_the_next_generation_is_made(self) -> None:
         with Looked(self.keeping) as writer:
-            eventually(lambda: "% full" in self.keeping.said() or writer.fault is not None, "half of the list")
+            eventually(
+                lambda: "% full" in self.keeping.said() or writer.fault is not None,
+                "half of the list",
+            )
         eventually(lambda: self.keeping.place().base > 0, "a generation with images")
         with Writer(self.keeping, len(writer.texts)) as second:
             second.has(5)
         self.assertEqual(self.texts(), writer.texts + second.texts)
-        self.assertRegex(self.keeping.said(), "(?s)its list or its memory is .* begins at position .*, from images at")
+        self.assertRegex(
+            self.keeping.said(),
+            "(?s)its list or its memory is .* begins at position .*, from images at",
+        )
 
 
 class NoMemory(Succeeding):
@@ -374,10 +441,16 @@ class NoMemory(Succeeding):
     def limit(self, pid: int, most: int | None = None) -> None:
         """What it has now, or so many bytes."""
         data = Path(f"/proc/{pid}/status").read_text().split("VmData:")[1].split()[0]
-        resource.prlimit(pid, resource.RLIMIT_DATA, (1024 * int(data) if most is None else most, resource.RLIM_INFINITY))
+        resource.prlimit(
+            pid,
+            resource.RLIMIT_DATA,
+            (1024 * int(data) if most is None else most, resource.RLIM_INFINITY),
+        )
 
     def test_a_writer_goes_on_in_the_next_generation(self) -> None:
-        with self.keeping.primary() as primary, patch.object(Keepers, "full", autospec=True, side_effect=Keepers.full) as full:
+        with self.keeping.primary() as primary, patch.object(
+            Keepers, "full", autospec=True, side_effect=Keepers.full
+        ) as full:
             self.commit(primary, "1", durable=True)
             before = self.keeping.place()
             self.limit(self.keeping.pid())
@@ -385,20 +458,32 @@ class NoMemory(Succeeding):
                 self.fill(primary, 20)
             self.assertGreaterEqual(full.call_count, 1)
             self.assertEqual(self.commit(primary, "2", durable=True), self.sent + 1)
-            self.assertIn("shop: prepare: its service had no memory for a writer\n", self.keeping.said())
-            eventually(lambda: self.keeping.said().endswith("shop: serves\n"), "the end of the succession")
+            self.assertIn(
+                "shop: prepare: its service had no memory for a writer\n", self.keeping.said()
+            )
+            eventually(
+                lambda: self.keeping.said().endswith("shop: serves\n"), "the end of the succession"
+            )
             archived = self.keeping.archive()
-            self.assertEqual((len(archived), self.texts()[0], self.texts()[-1]), (self.sent + 1, b"1", b"2"))
+            self.assertEqual(
+                (len(archived), self.texts()[0], self.texts()[-1]), (self.sent + 1, b"1", b"2")
+            )
             # What is told of a generation that is over, or of none, does nothing.
             after, told = self.keeping.row().generation, self.keeping.said()
             with self.keeping.line() as line:
-                print(f"full shop {before.generation}\nfull none 1\nfull shop {after + 1}\nwhere shop", file=line, flush=True)
+                print(
+                    f"full shop {before.generation}\nfull none 1\nfull shop {after + 1}\nwhere shop",
+                    file=line,
+                    flush=True,
+                )
                 self.assertEqual(line.readline().split()[:3], ["at", "shop", f"{after}"])
             self.fill(primary, 5)
             self.assertEqual((self.keeping.row().generation, self.keeping.said()), (after, told))
 
     def test_a_writer_of_sqlite_goes_on_in_the_next_generation(self) -> None:
-        with closing(sqlite_named.connected(self.keeping.addresses, move=int(1000 * PATIENCE))) as writer:
+        with closing(
+            sqlite_named.connected(self.keeping.addresses, move=int(1000 * PATIENCE))
+        ) as writer:
             writer.execute("create table t(n integer primary key, v blob)")
             before, count = self.keeping.place(), 0
             self.limit(self.keeping.pid())
@@ -408,7 +493,9 @@ class NoMemory(Succeeding):
             writer.execute("insert into t(v) values('more')")
             self.assertEqual(writer.execute("select count(*) from t").fetchone(), (count + 1,))
             self.assertEqual(writer.execute("pragma integrity_check").fetchone(), ("ok",))
-            self.assertIn("shop: prepare: its service had no memory for a writer\n", self.keeping.said())
+            self.assertIn(
+                "shop: prepare: its service had no memory for a writer\n", self.keeping.said()
+            )
 
     def test_a_writer_of_sqlite_is_told_where_nothing_follows(self) -> None:
         with closing(sqlite_named.connected(self.keeping.addresses, move=5000)) as writer:
@@ -419,11 +506,18 @@ class NoMemory(Succeeding):
             with self.assertRaises(sqlite3.OperationalError) as refused:
                 while True:
                     writer.execute("insert into t values(randomblob(100000))")
-            self.assertIn(refused.exception.sqlite_errorname, ("SQLITE_FULL", "SQLITE_IOERR_FSYNC"))  # the last one may be there
-            self.assertRegex(sqlite_named.error_of(writer), "the service has no memory left, and no other has followed it in time")
+            self.assertIn(
+                refused.exception.sqlite_errorname, ("SQLITE_FULL", "SQLITE_IOERR_FSYNC")
+            )  # the last one may be there
+            self.assertRegex(
+                sqlite_named.error_of(writer),
+                "the service has no memory left, and no other has followed it in time",
+            )
             self.keeping.word("resume", "shop")
             writer.close()
-            with closing(sqlite_named.connected(self.keeping.addresses, move=int(1000 * PATIENCE))) as other:
+            with closing(
+                sqlite_named.connected(self.keeping.addresses, move=int(1000 * PATIENCE))
+            ) as other:
                 other.execute("insert into t values('more')")
 
     def test_the_keeper_gets_no_memory_itself(self) -> None:
@@ -432,13 +526,17 @@ class NoMemory(Succeeding):
         self.keeping.kill("a")
         self.keeping.keeper = ("-c", SHORT.format(str(mark)))
         self.keeping.start("a")
-        with self.keeping.primary() as primary, patch.object(Keepers, "full", side_effect=AssertionError("a writer was refused")):
+        with self.keeping.primary() as primary, patch.object(
+            Keepers, "full", side_effect=AssertionError("a writer was refused")
+        ):
             self.commit(primary, "1", durable=True)
             before = self.keeping.place()
             mark.write_text(before.address)
             for number in range(2, 41):
                 self.commit(primary, str(number))
-            eventually(lambda: self.keeping.row().generation > before.generation, "the next generation")
+            eventually(
+                lambda: self.keeping.row().generation > before.generation, "the next generation"
+            )
             self.commit(primary, "41", durable=True)
         self.assertEqual(self.texts(), [str(number).encode() for number in range(1, 42)])
 
@@ -462,7 +560,9 @@ class NoMemory(Succeeding):
             eventually(lambda: "serves; paused" in self.keeping.said(), "the pause")
             self.limit(pid)
             primary.keepers.patience = 0.5
-            with self.assertRaises(OutOfMemory), patch.object(Operator, "failover", side_effect=AssertionError("an epoch of the same generation")):
+            with self.assertRaises(OutOfMemory), patch.object(
+                Operator, "failover", side_effect=AssertionError("an epoch of the same generation")
+            ):
                 while True:
                     self.fill(primary, 20)
             primary.keepers.patience = PATIENCE
@@ -485,7 +585,9 @@ class NoMemory(Succeeding):
         begin = Operator.failover
         with patch.object(Operator, "failover", failover), self.keeping.primary() as other:
             self.assertEqual(self.commit(other, "2", durable=True), 2)
-            eventually(lambda: self.keeping.row().generation > before.generation, "the next generation")
+            eventually(
+                lambda: self.keeping.row().generation > before.generation, "the next generation"
+            )
             self.assertEqual(self.commit(other, "3", durable=True), 3)
         self.assertEqual(self.texts(), [b"1", b"2", b"3"])
 
@@ -493,7 +595,9 @@ class NoMemory(Succeeding):
 class GivenUp(Succeeding):
     options = {"ttl": 4.0}
 
-    def test_the_present_generation_goes_on_where_the_next_service_dies_after_the_fence(self) -> None:
+    def test_the_present_generation_goes_on_where_the_next_service_dies_after_the_fence(
+        self,
+    ) -> None:
         mark = self.keeping.folder / "cut"
         self.keeping.kill("a")
         self.keeping.keeper = (CUTTING, "pulled", "next", mark)
@@ -532,7 +636,12 @@ class TwoKeepers(Succeeding):
             place = self.keeping.place()
             self.assertEqual((self.keeping.row().holder, place.base, place.shift), (other, 0, 0))
             # A fresh standby begins with the images.
-            eventually(lambda: any(standby.images == 30 for standby in self.keeping.referee.everything().standbys), "a fresh standby")
+            eventually(
+                lambda: any(
+                    standby.images == 30 for standby in self.keeping.referee.everything().standbys
+                ),
+                "a fresh standby",
+            )
             self.assertEqual(self.texts(), [b"%d" % number for number in range(1, 33)])
 
 
@@ -558,10 +667,18 @@ class Cuts(Succeeding):
             # What was asked for comes to pass in the end: it is asked for again, or a take-over has begun from images.
             after = self.keeping.place(least=before.generation + 1)
             if (step, deed) == ("filled", "next"):
-                self.assertGreater(after.generation, before.generation + 1, "the number of each one that was given up is a gap")
+                self.assertGreater(
+                    after.generation,
+                    before.generation + 1,
+                    "the number of each one that was given up is a gap",
+                )
             writer.has(5)
             if (step, deed) == ("switched", "away"):
-                self.assertEqual(self.keeping.place().generation, before.generation + 1, "what was switched is found out")
+                self.assertEqual(
+                    self.keeping.place().generation,
+                    before.generation + 1,
+                    "what was switched is found out",
+                )
         self.written += writer.texts
         self.assertEqual(self.texts(), self.written, f"{step}: {deed}")
         self.keeping.kill("a", signal.SIGTERM)

@@ -29,18 +29,41 @@ class FromNothing(unittest.TestCase):
     def test_a_commit_of_sqlite_is_durable_in_a_postgresql_that_had_nothing(self) -> None:
         subprocess.run(["make", "-s", "-C", str(C), "out/pagelog_preload.so"], check=True)
         folder = Path(self.enterContext(tempfile.TemporaryDirectory(prefix="pagelog-tasks-")))
-        for name, script in (("pagelog", f'exec {PROGRAM} "$@"'), ("pagelogctl", f'exec {sys.executable} -B -m pagelog "$@"')):
+        for name, script in (
+            ("pagelog", f'exec {PROGRAM} "$@"'),
+            ("pagelogctl", f'exec {sys.executable} -B -m pagelog "$@"'),
+        ):
             (folder / name).write_text(f"#!/bin/sh\n{script}\n")
             (folder / name).chmod(0o755)
-        environment = {**os.environ, "PATH": f"{folder}:{programs()}:{os.environ['PATH']}", "PYTHONPATH": str(SOURCE), "URL": postgres().url("tasks"),
-                       "PRELOAD": str(C / "out" / "pagelog_preload.so"), "TABLE": str(C / "table.toml")}  # fmt: skip
+        environment = {
+            **os.environ,
+            "PATH": f"{folder}:{programs()}:{os.environ['PATH']}",
+            "PYTHONPATH": str(SOURCE),
+            "URL": postgres().url("tasks"),
+            "PRELOAD": str(C / "out" / "pagelog_preload.so"),
+            "TABLE": str(C / "table.toml"),
+        }
         port = Port()
         self.addCleanup(port.close)
-        commands = (KEEPER + "echo $! > keeper.pid\n" + SQL + INSERT + INSERT.replace("create table item(name, price); ", "")).replace("7500", str(port.number))
+        commands = (
+            KEEPER
+            + "echo $! > keeper.pid\n"
+            + SQL
+            + INSERT
+            + INSERT.replace("create table item(name, price); ", "")
+        ).replace("7500", str(port.number))
         self.addCleanup(end_services, folder)
         try:
             with (folder / "said").open("w+") as said:
-                done = subprocess.run(["sh", "-ec", commands], cwd=folder, env=environment, stdin=subprocess.DEVNULL, stdout=said, stderr=said, timeout=PATIENCE)
+                done = subprocess.run(
+                    ["sh", "-ec", commands],
+                    cwd=folder,
+                    env=environment,
+                    stdin=subprocess.DEVNULL,
+                    stdout=said,
+                    stderr=said,
+                    timeout=PATIENCE,
+                )
                 said.seek(0)
                 text = said.read()
         finally:
@@ -61,7 +84,9 @@ class Tasks(Paged):
     def test_a_table_is_had_back_from_a_copy_of_the_past(self) -> None:
         subprocess.run(["make", "-s", "-C", str(C), "out/pagelog_preload.so"], check=True)
         (self.folder / "shop.cred").touch(mode=0o600)
-        (self.folder / "shop.cred").write_text(f"where {','.join(self.keeping.addresses)}\nid 2\ntoken {token(2)}\nop 1\noptoken {token(1)}\n")
+        (self.folder / "shop.cred").write_text(
+            f"where {','.join(self.keeping.addresses)}\nid 2\ntoken {token(2)}\nop 1\noptoken {token(1)}\n"
+        )
         with closing(connected(self.keeping.addresses)) as shop:
             shop.execute("CREATE TABLE item (name TEXT, price INT)")
             shop.execute("CREATE INDEX item_by_name ON item (name)")
@@ -75,7 +100,10 @@ class Tasks(Paged):
         self.assertIn(f"shop-then is shop at position {position}, for readers", said)
         self.run_printed(SQL + ROWS, **preload)
         with closing(connected(self.keeping.addresses, mode="ro", id=3)) as shop:
-            self.assertEqual(shop.execute("SELECT * FROM item").fetchall(), [("bread", 3), ("milk", 2), ("salt", 1)])
+            self.assertEqual(
+                shop.execute("SELECT * FROM item").fetchall(),
+                [("bread", 3), ("milk", 2), ("salt", 1)],
+            )
             self.assertEqual(shop.execute("SELECT * FROM item_now").fetchall(), [])
             names = shop.execute("SELECT name FROM sqlite_master ORDER BY name").fetchall()
             self.assertEqual(names, [("item",), ("item_by_name",), ("item_now",)])
@@ -83,17 +111,24 @@ class Tasks(Paged):
             shop.execute("DROP TABLE item")
         self.run_printed(SQL + GONE, **preload)
         with closing(connected(self.keeping.addresses, mode="ro", id=3)) as shop:
-            self.assertEqual(shop.execute("SELECT * FROM item").fetchall(), [("bread", 3), ("milk", 2), ("salt", 1)])
+            self.assertEqual(
+                shop.execute("SELECT * FROM item").fetchall(),
+                [("bread", 3), ("milk", 2), ("salt", 1)],
+            )
         self.run_printed(DROP, "y")
         self.assertFalse(self.keeping.knows("shop-then"))
 
     def test_a_database_is_deleted_and_a_switchover_cancelled(self) -> None:
-        self.assertTrue(self.keeping.referee.create("shop-old", self.keeping.table.read_text(), b"s" * 16))
+        self.assertTrue(
+            self.keeping.referee.create("shop-old", self.keeping.table.read_text(), b"s" * 16)
+        )
         self.assertIn("to be deleted: database shop-old", self.run_printed(DELETE, "y"))
         self.assertIsNone(self.keeping.referee.everything().row("shop-old"))
         self.keeping.word("pause", "shop")
         self.keeping.word("switchover", "shop")
-        self.assertEqual(self.run_printed(CANCEL), "cancelled the switchover of shop to another keeper\n")
+        self.assertEqual(
+            self.run_printed(CANCEL), "cancelled the switchover of shop to another keeper\n"
+        )
 
     def test_a_keeper_that_is_gone_is_forgotten(self) -> None:
         self.keeping.start("c")
@@ -107,7 +142,9 @@ class Tasks(Paged):
         self.assertIsNone(look.keeper("c"))
         self.assertNotIn("c", self.keeping.standbys())
         holder = self.keeping.row().holder
-        with self.assertRaisesRegex(AssertionError, f"{holder} holds shop: another keeper takes over"):
+        with self.assertRaisesRegex(
+            AssertionError, f"{holder} holds shop: another keeper takes over"
+        ):
             self.run_printed(FORGET.replace("forget c", f"forget {holder}"), "y")
         self.keeping.start("c")  # comes back in its folder, under its name
         eventually(lambda: "c" in self.keeping.standbys(), "its standby")

@@ -38,34 +38,60 @@ class NamedTop(Kept):
         facts = facts_of(look, self.keeping.row())
         return facts["state"], facts["standbys"], facts["entries_left"] not in (None, 1_000_000)
 
-    def page(self, *options: object, file: object = None, columns: int = 150, status: int = 0) -> str:
+    def page(
+        self, *options: object, file: object = None, columns: int = 150, status: int = 0
+    ) -> str:
         """What `top` prints of one look, or of as many as the options say."""
-        known = ["--interval", 0.1, "--count", 1, "--credentials", file or self.keeping.file, *options]
-        done = CliRunner().invoke(pagelogctl, ["top", *map(str, known)], env={"COLUMNS": str(columns)})
+        known = [
+            "--interval",
+            0.1,
+            "--count",
+            1,
+            "--credentials",
+            file or self.keeping.file,
+            *options,
+        ]
+        done = CliRunner().invoke(
+            pagelogctl, ["top", *map(str, known)], env={"COLUMNS": str(columns)}
+        )
         self.assertEqual(done.exit_code, status, done.output)
         return str(done.output)
 
     def test_json_of_each_look(self) -> None:
-        process = words("top", "--named", "--json", "--interval", "0.1", "--credentials", self.keeping.file)
+        process = words(
+            "top", "--named", "--json", "--interval", "0.1", "--credentials", self.keeping.file
+        )
         first = first_that(process, lambda _: True)
-        self.assertEqual((first["name"], first["archived"], first["commits_a_second"]), ("shop", 3, None))
+        self.assertEqual(
+            (first["name"], first["archived"], first["commits_a_second"]), ("shop", 3, None)
+        )
         gate = Gate(self.keeping.url, "NEW.archived > OLD.archived")
         self.commit(self.primary, "4")
         lags = first_that(process, lambda fields: fields["lag"] == 1)
         self.assertEqual((lags["archived"], lags["commits_a_second"]), (3, 0))
         gate.open()
-        self.assertGreater(first_that(process, lambda fields: fields["archived"] == 4)["commits_a_second"], 0)
-        whole = first_that(process, lambda fields: fields["lag"] == 0 and fields["standbys"] == {self.other: 4})
+        self.assertGreater(
+            first_that(process, lambda fields: fields["archived"] == 4)["commits_a_second"], 0
+        )
+        whole = first_that(
+            process, lambda fields: fields["lag"] == 0 and fields["standbys"] == {self.other: 4}
+        )
         process.send_signal(signal.SIGTERM)
         process.communicate(timeout=PATIENCE)
         self.assertEqual(process.returncode, 0)
         place = self.keeping.place()
-        self.assertEqual((whole["holder"], whole["generation"], whole["place"]), (self.holder, place.generation, place.address))
+        self.assertEqual(
+            (whole["holder"], whole["generation"], whole["place"]),
+            (self.holder, place.generation, place.address),
+        )
         self.assertTrue(900_000 < whole["entries_left"] < 1_000_000)
         self.assertIn(whole["memory"] + whole["memory_left"], (LIMIT >> 20, (LIMIT >> 20) - 1))
 
     def test_pages(self) -> None:
-        eventually(lambda: self.told() == ("serving", {self.other: 3}, True), "a holder that tells of its service, and a standby")
+        eventually(
+            lambda: self.told() == ("serving", {self.other: 3}, True),
+            "a holder that tells of its service, and a standby",
+        )
         alone = self.page("--named", "--count", 2)
         row = rf"shop +{self.keeping.place().generation} +{self.holder} +3 +0/s +0 +{self.other} -0 +999,\d+ +\d+ MiB +7,\d+ MiB +serving"
         self.assertEqual(len(re.findall(row, alone)), 1, alone)  # the first look knows no rate
@@ -76,9 +102,14 @@ class NamedTop(Kept):
         self.assertNotIn("…", narrow)
         with Service() as service:
             file = service.credentials_file(url=self.keeping.url)
-            self.assertRegex(self.page("--named", file=file), rf"(?s)\b0 +1 +2 +0 .*denied.*shop +{self.keeping.place().generation} +{self.holder} +3 ")
+            self.assertRegex(
+                self.page("--named", file=file),
+                rf"(?s)\b0 +1 +2 +0 .*denied.*shop +{self.keeping.place().generation} +{self.holder} +3 ",
+            )
             self.assertNotIn("shop", self.page(file=file))
-            both = [json.loads(line) for line in self.page("--named", "--json", file=file).splitlines()]
+            both = [
+                json.loads(line) for line in self.page("--named", "--json", file=file).splitlines()
+            ]
             self.assertEqual([fields.get("db", fields.get("name")) for fields in both], [0, "shop"])
         self.assertIn("operator", self.page(status=1))
         away = self.keeping.folder / "away.toml"
@@ -88,7 +119,9 @@ class NamedTop(Kept):
         self.assertIn("Away", json.loads(self.page("--named", "--json", file=away))["error"])
 
 
-def first_that(process: subprocess.Popen[str], is_so: Callable[[dict[str, Any]], bool]) -> dict[str, Any]:
+def first_that(
+    process: subprocess.Popen[str], is_so: Callable[[dict[str, Any]], bool]
+) -> dict[str, Any]:
     """The first look, of a `top --json`, of which this is so."""
     assert process.stdout is not None
     while not is_so(fields := json.loads(process.stdout.readline())):
@@ -109,8 +142,13 @@ class Warnings(Kept):
         self.keeping.kill("a")
         self.warning(watch)  # its last beat is seen now
         now[0] = SILENT
-        self.assertEqual(self.warning(watch), f"shop: nothing was heard of its holder a for {SILENT:.0f} s")
-        self.assertTrue(self.keeping.referee.release(self.keeping.row().id, str(self.keeping.row().run)) is not None)
+        self.assertEqual(
+            self.warning(watch), f"shop: nothing was heard of its holder a for {SILENT:.0f} s"
+        )
+        self.assertTrue(
+            self.keeping.referee.release(self.keeping.row().id, str(self.keeping.row().run))
+            is not None
+        )
         self.assertEqual(self.warning(watch), "shop: nobody has it")
         self.keeping.referee.pause("shop", True)
         self.assertEqual(self.warning(watch), "")

@@ -66,8 +66,13 @@ class Kept(Folder):
                 fill(self.primary, 100)
                 keeper.step()
             [one] = trail.lists()
-            self.assertEqual([piece.seen for piece in trail.pieces(one)], [MORNING, MORNING + 5, MORNING + 5])
-            self.assertEqual(trail.lines(one, 1), b"".join(map(encode_entry, self.asked()))[: one.kept * LINE_SIZE])
+            self.assertEqual(
+                [piece.seen for piece in trail.pieces(one)], [MORNING, MORNING + 5, MORNING + 5]
+            )
+            self.assertEqual(
+                trail.lines(one, 1),
+                b"".join(map(encode_entry, self.asked()))[: one.kept * LINE_SIZE],
+            )
             self.assertGreaterEqual(one.kept, 900)
 
     def test_lines_are_kept_in_sqlite(self) -> None:
@@ -115,7 +120,9 @@ class Kept(Folder):
         self.check_all_is_kept(2)
 
     def test_a_list_with_the_same_line_at_the_end_of_the_old_one_is_noticed(self) -> None:
-        with Service(workers=1) as service, service.operator() as operator, service.primary() as primary:
+        with Service(
+            workers=1
+        ) as service, service.operator() as operator, service.primary() as primary:
             keeper = TrailKeeper(operator, self.trail)
             for _ in range(2):
                 for _ in range(10):
@@ -126,7 +133,9 @@ class Kept(Folder):
             for _ in range(40):
                 primary.status()
             keeper.step()
-            self.assertEqual(b"".join(map(encode_entry, operator.audit(21, 1))), before[-LINE_SIZE:])
+            self.assertEqual(
+                b"".join(map(encode_entry, operator.audit(21, 1))), before[-LINE_SIZE:]
+            )
             self.assertEqual((self.kept(1), len(self.trail.lists())), (before, 2))
 
     def test_a_reply_and_what_is_known_come_from_one_service(self) -> None:
@@ -189,7 +198,9 @@ class Kept(Folder):
         self.assertEqual([one.ended for one in self.trail.lists()][1:], [None])
 
     def test_a_full_list_ends_and_says_so(self) -> None:
-        with Service(audit=50) as service, service.operator() as operator, service.primary() as primary:
+        with Service(
+            audit=50
+        ) as service, service.operator() as operator, service.primary() as primary:
             keeper = TrailKeeper(operator, self.trail)
             keeper.step()
             with self.assertRaises(AuditListFull):
@@ -227,9 +238,13 @@ class Kept(Folder):
         _, error = process.communicate(timeout=PATIENCE)
         [after] = self.trail.lists()
         today = datetime.now(timezone.utc).strftime("%Y-%m-%d")
-        self.assertEqual((process.returncode, after.pruned), (0, pieces[-1].first + pieces[-1].count - 1))
-        self.assertRegex(error, f"^pagelogctl: deletes lines 1 to {after.pruned} of list 1, seen before .*{today} 00:00:00 UTC")
-
+        self.assertEqual(
+            (process.returncode, after.pruned), (0, pieces[-1].first + pieces[-1].count - 1)
+        )
+        self.assertRegex(
+            error,
+            f"^pagelogctl: deletes lines 1 to {after.pruned} of list 1, seen before .*{today} 00:00:00 UTC",
+        )
 
     def test_tokens_are_not_kept(self) -> None:
         keeper = TrailKeeper(self.operator, self.trail, start=START)
@@ -238,7 +253,10 @@ class Kept(Folder):
         self.trail.close()
         stored = b"".join(file.read_bytes() for file in self.folder.iterdir())
         self.assertIn(b"[[principal]]", stored)
-        self.assertEqual([file.stat().st_mode & 0o077 for file in self.folder.iterdir()], [0 for _ in self.folder.iterdir()])
+        self.assertEqual(
+            [file.stat().st_mode & 0o077 for file in self.folder.iterdir()],
+            [0 for _ in self.folder.iterdir()],
+        )
         for token in (b"1" * 32, b"2" * 32, b"aB" * 16):
             self.assertNotIn(token, stored)
         escaped = START.table.replace(b"5" * 32, b"5" * 31 + b"\\u0035")
@@ -256,23 +274,53 @@ class Words(Folder):
         file = self.service.credentials_file(url=self.url)
         out = ends(words("record", "shop", "--credentials", file, "--table", TABLE, "--primary", 2))
         self.assertRegex(out, r"recorded \d+ of list 1\n")
-        found = [json.loads(line) for line in ends(words("trail", "shop", "--url", self.url, "--op", "failover", "--json")).splitlines()]
+        found = [
+            json.loads(line)
+            for line in ends(
+                words("trail", "shop", "--url", self.url, "--op", "failover", "--json")
+            ).splitlines()
+        ]
         self.assertEqual([(line["a"], line["allowed"]) for line in found], [(9, False), (5, True)])
-        denied = ends(words("trail", "shop", "--url", self.url, "--denied", "--principal", 1, "--op", "failover"))
+        denied = ends(
+            words(
+                "trail", "shop", "--url", self.url, "--denied", "--principal", 1, "--op", "failover"
+            )
+        )
         self.assertEqual(len(denied.splitlines()), 1)
         self.assertIn("UnlistedPrimary", denied)
         seen = datetime.fromisoformat(found[0]["seen"])
         self.assertLess(abs(seen.timestamp() - datetime.now(timezone.utc).timestamp()), PATIENCE)
-        for since, until, count in (("2020-01-01T00:00", None, 2), ("2020-01-01T00:00", "2020-01-02T00:00", 0)):
+        for since, until, count in (
+            ("2020-01-01T00:00", None, 2),
+            ("2020-01-01T00:00", "2020-01-02T00:00", 0),
+        ):
             options = ["--since", since] + (["--until", until] if until else [])
-            self.assertEqual(len(ends(words("trail", "shop", "--url", self.url, "--op", "failover", *options)).splitlines()), count)
-        counts = [json.loads(line) for line in ends(words("trail", "shop", "--url", self.url, "--summary", "--json")).splitlines()]
+            self.assertEqual(
+                len(
+                    ends(
+                        words("trail", "shop", "--url", self.url, "--op", "failover", *options)
+                    ).splitlines()
+                ),
+                count,
+            )
+        counts = [
+            json.loads(line)
+            for line in ends(
+                words("trail", "shop", "--url", self.url, "--summary", "--json")
+            ).splitlines()
+        ]
         self.assertEqual(sum(line["count"] for line in counts), self.trail.lists()[0].kept)
-        self.assertIn({"principal": 1, "rule": "UnlistedPrimary", "count": 1},
-                      [{key: line[key] for key in ("principal", "rule", "count")} for line in counts])  # fmt: skip
-        self.assertIn("UnlistedPrimary", ends(words("trail", "shop", "--url", self.url, "--summary")))
+        self.assertIn(
+            {"principal": 1, "rule": "UnlistedPrimary", "count": 1},
+            [{key: line[key] for key in ("principal", "rule", "count")} for line in counts],
+        )
+        self.assertIn(
+            "UnlistedPrimary", ends(words("trail", "shop", "--url", self.url, "--summary"))
+        )
         self.assertIn("no trail of 'other'", ends(words("trail", "other", "--url", self.url), 1))
-        self.assertIn("a time is as", ends(words("trail", "shop", "--url", self.url, "--since", "noon"), 2))
+        self.assertIn(
+            "a time is as", ends(words("trail", "shop", "--url", self.url, "--since", "noon"), 2)
+        )
 
     def test_a_picture_or_the_name_of_what_draws(self) -> None:
         self.operator.failover(2)
@@ -283,7 +331,9 @@ class Words(Folder):
         try:
             import pygal  # noqa: F401
         except ModuleNotFoundError:
-            self.assertEqual((process.returncode, "apt-get install python3-pygal" in error), (1, True))
+            self.assertEqual(
+                (process.returncode, "apt-get install python3-pygal" in error), (1, True)
+            )
             return
         self.assertEqual((process.returncode, error), (0, ""))
         drawn = picture.read_text()
@@ -296,20 +346,36 @@ class Words(Folder):
         keeper = TrailKeeper(self.operator, self.trail, start=START, clock=lambda: seen[0])
         fill(self.primary, 3)
         keeper.step()
-        shown = _lines(self.trail, None, Question(until=MORNING + 2_000_000), True, lambda: len(looks) > 9)
+        shown = _lines(
+            self.trail, None, Question(until=MORNING + 2_000_000), True, lambda: len(looks) > 9
+        )
 
         def waits(_: float) -> None:
             looks.append(len(looks))
             seen[0], now[0] = MORNING + len(looks) * 1_000_000, MORNING / 1e6 + len(looks) * 2
             keeper.step()
 
-        with patch("pagelog.desk.trail_words.time.sleep", waits), patch("pagelog.desk.trail_words.time.time", lambda: now[0]):
+        with patch("pagelog.desk.trail_words.time.sleep", waits), patch(
+            "pagelog.desk.trail_words.time.time", lambda: now[0]
+        ):
             found = {line.seen for line in shown if isinstance(line, Seen)}
         self.assertEqual((found, len(looks)), ({MORNING, MORNING + 1_000_000}, 4))
 
     def test_a_recorder_that_is_killed_or_told_to_end(self) -> None:
         file = self.service.credentials_file(url=self.url)
-        follow = ("record", "shop", "--credentials", file, "--table", TABLE, "--primary", 2, "--follow", "--idle", "0.01")
+        follow = (
+            "record",
+            "shop",
+            "--credentials",
+            file,
+            "--table",
+            TABLE,
+            "--primary",
+            2,
+            "--follow",
+            "--idle",
+            "0.01",
+        )
         for how, status in ((signal.SIGKILL, -signal.SIGKILL), (signal.SIGTERM, 0)):
             fill(self.primary, 200)
             process = words(*follow)
@@ -330,8 +396,17 @@ class Words(Folder):
         self.service.restart()
         ends(words(*record))
         shown = ends(words("trail", "shop", "--url", self.url)).splitlines()
-        [at] = [at for at, line in enumerate(shown) if re.search(r"list 1 ends behind line \d+, seen at .*: the service was restarted", line)]
-        self.assertTrue(all(" list 1: " in line for line in shown[:at]) and all(" list 2: " in line for line in shown[at + 1 :]))
+        [at] = [
+            at
+            for at, line in enumerate(shown)
+            if re.search(
+                r"list 1 ends behind line \d+, seen at .*: the service was restarted", line
+            )
+        ]
+        self.assertTrue(
+            all(" list 1: " in line for line in shown[:at])
+            and all(" list 2: " in line for line in shown[at + 1 :])
+        )
         self.assertIn("give both", ends(words("replay", "shop", "--url", self.url), 1))
 
 
@@ -340,7 +415,14 @@ class Times(unittest.TestCase):
         now = datetime(2026, 11, 28, 1, 0, tzinfo=timezone.utc)
         since = moment("23:50", None, now)
         self.assertEqual(since, datetime(2026, 11, 27, 23, 50, tzinfo=timezone.utc))
-        self.assertEqual(moment("00:10", since, now), datetime(2026, 11, 28, 0, 10, tzinfo=timezone.utc))
-        self.assertEqual(moment("00:30:15", None, now), datetime(2026, 11, 28, 0, 30, 15, tzinfo=timezone.utc))
-        self.assertEqual(moment("2026-01-02T03:04+01:00", None, now), datetime(2026, 1, 2, 2, 4, tzinfo=timezone.utc))
+        self.assertEqual(
+            moment("00:10", since, now), datetime(2026, 11, 28, 0, 10, tzinfo=timezone.utc)
+        )
+        self.assertEqual(
+            moment("00:30:15", None, now), datetime(2026, 11, 28, 0, 30, 15, tzinfo=timezone.utc)
+        )
+        self.assertEqual(
+            moment("2026-01-02T03:04+01:00", None, now),
+            datetime(2026, 1, 2, 2, 4, tzinfo=timezone.utc),
+        )
         self.assertRaises(ValueError, moment, "noon", None, now)

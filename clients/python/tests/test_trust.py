@@ -57,7 +57,10 @@ class OfService(unittest.TestCase):
 
 class Refused(OfService):
     def test_certificates_that_are_refused(self) -> None:
-        past, future = ("20200101000000Z", "20210101000000Z"), ("20980101000000Z", "20990101000000Z")
+        past, future = ("20200101000000Z", "20210101000000Z"), (
+            "20980101000000Z",
+            "20990101000000Z",
+        )
         cases = {
             AUTHORITY.make("wrong", "DNS:elsewhere.example,IP:127.0.0.9"): "IP address mismatch",
             AUTHORITY.make("expired", dates=past): "certificate has expired",
@@ -69,10 +72,17 @@ class Refused(OfService):
         for certificate, why in cases.items():
             with self.subTest(certificate):
                 front = self.front(certificate)
-                self.assertTrue(self.asked(front.address, trust).startswith(f"Unreachable: {front.address}: TLS: {why}"))
+                self.assertTrue(
+                    self.asked(front.address, trust).startswith(
+                        f"Unreachable: {front.address}: TLS: {why}"
+                    )
+                )
                 self.assertEqual(front.shaken, 0)
         front = self.front()
-        self.assertEqual([self.asked(address, trust) for address in (front.address, f"localhost:{front.port}")], ["", ""])
+        self.assertEqual(
+            [self.asked(address, trust) for address in (front.address, f"localhost:{front.port}")],
+            ["", ""],
+        )
         unnamed = self.front(AUTHORITY.make("unnamed", "", common="localhost"))
         self.assertIn("TLS: Hostname mismatch", self.asked(f"localhost:{unnamed.port}", trust))
         self.assertIn("unable to get local issuer", self.asked(front.address, Trust(OTHER)))
@@ -84,29 +94,53 @@ class Refused(OfService):
         """A client learns that its own is refused once it has sent something, or reads."""
         stranger = AUTHORITY.make("stranger", "", usage="clientAuth", ca="other")
         front = self.front(clients=CA)
-        for files, why in (({}, "alert certificate required"), ({"sslcert": f"{stranger}.pem", "sslkey": f"{stranger}.key"}, "alert unknown ca"),
-                           ({"sslcert": f"{GOOD}.pem", "sslkey": f"{GOOD}.key"}, "alert unsupported certificate")):  # fmt: skip
+        for files, why in (
+            ({}, "alert certificate required"),
+            ({"sslcert": f"{stranger}.pem", "sslkey": f"{stranger}.key"}, "alert unknown ca"),
+            ({"sslcert": f"{GOOD}.pem", "sslkey": f"{GOOD}.key"}, "alert unsupported certificate"),
+        ):
             self.assertIn(why, self.asked(front.address, Trust(CA, **files)))
         trust = Trust(CA, **OWN_FILES)
         self.assertEqual([self.asked(front.address, trust) for _ in range(2)], ["", ""])
 
     def test_words_that_are_refused(self) -> None:
         locked, shared = AUTHORITY / "locked.key", AUTHORITY / "shared.key"
-        subprocess.run(["openssl", "pkey", "-in", f"{OWN}.key", "-aes256", "-passout", "pass:secret", "-out", locked], check=True)
+        subprocess.run(
+            [
+                "openssl",
+                "pkey",
+                "-in",
+                f"{OWN}.key",
+                "-aes256",
+                "-passout",
+                "pass:secret",
+                "-out",
+                locked,
+            ],
+            check=True,
+        )
         Path(shared).write_bytes(Path(f"{OWN}.key").read_bytes())
         os.chmod(locked, 0o600), os.chmod(shared, 0o644)
         own = {"sslrootcert": CA, **OWN_FILES}
         cases: list[tuple[tuple[dict[str, str], ...], str]] = [
-            (({"sslmode": mode, "sslrootcert": CA},), f"sslmode is disable or verify-full, and not {mode}") for mode in ("require", "prefer", "verify-ca", "")
+            (
+                ({"sslmode": mode, "sslrootcert": CA},),
+                f"sslmode is disable or verify-full, and not {mode}",
+            )
+            for mode in ("require", "prefer", "verify-ca", "")
         ]
         cases += [
-            (({"sslmode": "verify-full"},), "sslrootcert: it is missing"), ((OWN_FILES,), "sslrootcert: it is missing"),
-            (({"sslmode": "disable", "sslrootcert": CA},), "contradicts"), (({"sslrootcert": CA}, {"sslmode": "disable"}), "contradicts"),
-            (({"sslrootcert": "/nowhere"},), "sslrootcert: /nowhere: No such file"), (({"sslrootcert": ""},), "sslrootcert: its path is empty"),
+            (({"sslmode": "verify-full"},), "sslrootcert: it is missing"),
+            ((OWN_FILES,), "sslrootcert: it is missing"),
+            (({"sslmode": "disable", "sslrootcert": CA},), "contradicts"),
+            (({"sslrootcert": CA}, {"sslmode": "disable"}), "contradicts"),
+            (({"sslrootcert": "/nowhere"},), "sslrootcert: /nowhere: No such file"),
+            (({"sslrootcert": ""},), "sslrootcert: its path is empty"),
             (({**own, "sslkey": f"{GOOD}.key"},), "sslkey: " + f"{GOOD}.key: key values mismatch"),
-            (({"sslrootcert": CA, "sslcert": f"{OWN}.pem"},), "sslkey: it is missing"), (({**own, "sslkey": shared},), "others may read it"),
+            (({"sslrootcert": CA, "sslcert": f"{OWN}.pem"},), "sslkey: it is missing"),
+            (({**own, "sslkey": shared},), "others may read it"),
             (({**own, "sslkey": locked},), f"{locked}: "),
-        ]  # fmt: skip
+        ]
         for layers, why in cases:
             with self.subTest(str(layers)), self.assertRaises(CredentialsError) as raised:
                 trust_of(*layers)
@@ -126,13 +160,38 @@ class Refused(OfService):
         told = pagelog.load(written(front.address, f'[tls]\nsslrootcert = "{CA}"\n'), {})
         with pagelog.Operator.open(told.account(pagelog.Role.OPERATOR)) as operator:
             self.assertEqual(operator.status().epoch, 1)
-        for tls, environment, words in ((f'[tls]\nsslrootcert = "{OTHER}"\n', {"PAGELOG_SSLROOTCERT": CA}, {}), ("", {"PAGELOG_SSLROOTCERT": OTHER}, {"sslrootcert": CA})):
-            account = pagelog.load(written(front.address, tls), environment, words).account(pagelog.Role.OPERATOR)
+        for tls, environment, words in (
+            (f'[tls]\nsslrootcert = "{OTHER}"\n', {"PAGELOG_SSLROOTCERT": CA}, {}),
+            ("", {"PAGELOG_SSLROOTCERT": OTHER}, {"sslrootcert": CA}),
+        ):
+            account = pagelog.load(written(front.address, tls), environment, words).account(
+                pagelog.Role.OPERATOR
+            )
             with pagelog.Operator.open(account) as operator:
                 self.assertEqual(operator.status().epoch, 1)
-        self.assertRaises(CredentialsError, pagelog.load, written(front.address, f'[tls]\nsslrootcert = "{CA}"\nsslroot = "x"\n'), {})
-        said = subprocess.run([sys.executable, "-m", "pagelog", "--sslrootcert", CA, "status", "--seconds", "0", "--credentials", written(front.address, "")],
-                              env={**os.environ, "PYTHONPATH": str(SOURCE)}, capture_output=True, text=True)  # fmt: skip
+        self.assertRaises(
+            CredentialsError,
+            pagelog.load,
+            written(front.address, f'[tls]\nsslrootcert = "{CA}"\nsslroot = "x"\n'),
+            {},
+        )
+        said = subprocess.run(
+            [
+                sys.executable,
+                "-m",
+                "pagelog",
+                "--sslrootcert",
+                CA,
+                "status",
+                "--seconds",
+                "0",
+                "--credentials",
+                written(front.address, ""),
+            ],
+            env={**os.environ, "PYTHONPATH": str(SOURCE)},
+            capture_output=True,
+            text=True,
+        )
         self.assertEqual((said.returncode, said.stderr), (0, ""))
         self.assertEqual(of_environment({"PAGELOG_SSLKEY": "k", "SSLCERT": "c"}), {"sslkey": "k"})
 
@@ -146,7 +205,10 @@ class Peers(OfService):
             self.assertEqual(self.asked(peer.address, trust), "")
             for left in range(0, peer.came - 600, 23):
                 peer.left = left
-                self.assertIn(self.asked(peer.address, Trust(CA)).partition(":")[0], ("Unreachable", "ConnectionLost", ""))
+                self.assertIn(
+                    self.asked(peer.address, Trust(CA)).partition(":")[0],
+                    ("Unreachable", "ConnectionLost", ""),
+                )
 
     def test_a_handshake_that_stands_still(self) -> None:
         front = self.front()
@@ -161,16 +223,22 @@ class Peers(OfService):
             primary.append(put(0, b"x" * 8000))
             primary.commit()
         for how in ({"record": 61}, {"record": 1500, "odd": True}, {"odd": True}):
-            connection = pagelog.Connection(self.front(**how).address, timeout=PATIENCE, trust=Trust(CA))
+            connection = pagelog.Connection(
+                self.front(**how).address, timeout=PATIENCE, trust=Trust(CA)
+            )
             with pagelog.Reader(connection, pagelog.Credentials.of(3, token(3))) as reader:
-                pages = reader.pages([0] * (4 if "record" in how and not how.get("odd") else 200), 1)
+                pages = reader.pages(
+                    [0] * (4 if "record" in how and not how.get("odd") else 200), 1
+                )
                 self.assertEqual({page.data[:8000] for page in pages}, {b"x" * 8000})
                 self.assertEqual(connection.connects, 1)
 
     def test_a_connection_that_another_thread_has_closed_reads_nothing_in_plain(self) -> None:
         """Whoever is on the way could answer then."""
         front = self.front()
-        made = Trust(CA).wrap(socket.create_connection(("127.0.0.1", front.port)), "127.0.0.1", PATIENCE)
+        made = Trust(CA).wrap(
+            socket.create_connection(("127.0.0.1", front.port)), "127.0.0.1", PATIENCE
+        )
         self.assertIsInstance(made, Secured)
         made.shutdown(socket.SHUT_RDWR)
         self.assertIsNotNone(made._sslobj)  # type: ignore[attr-defined]
@@ -205,7 +273,13 @@ class Peers(OfService):
         ca, other = Path(CA).read_bytes(), Path(OTHER).read_bytes()
         file.write_bytes(ca)
         trust = Trust(file)
-        for data, is_good in ((ca, True), (b"none", True), (other, False), (b"", False), (other + ca, True)):
+        for data, is_good in (
+            (ca, True),
+            (b"none", True),
+            (other, False),
+            (b"", False),
+            (other + ca, True),
+        ):
             beside = file.with_suffix(".new")
             beside.write_bytes(data)
             beside.replace(file)
@@ -248,20 +322,35 @@ class Lines(unittest.TestCase):
             case ["hello", _]:
                 return "hello 2\n"
             case ["where", *_]:
-                return f"at shop 1 run {self.told[0]} 0 {self.told[1]} 0 0 0 {of}{self.padding}".ljust(1020 if self.padding else 0, "x") + "\n"
+                return (
+                    f"at shop 1 run {self.told[0]} 0 {self.told[1]} 0 0 0 {of}{self.padding}".ljust(
+                        1020 if self.padding else 0, "x"
+                    )
+                    + "\n"
+                )
             case ["durable", _, generation, position, *_]:
                 return f"durable shop {generation} {position} {of}\n"
         return ""  # of a ring
 
     @contextmanager
     def fronts(self, service: str = GOOD, lines: str = GOOD, **how: Any) -> Iterator[str]:
-        with Terminator(service, self.service.address, **how) as of_service, Terminator(lines, self.plain, **how) as of_lines:
+        with Terminator(service, self.service.address, **how) as of_service, Terminator(
+            lines, self.plain, **how
+        ) as of_lines:
             self.told = [of_service.address, of_lines.address]
             yield of_lines.address
 
     def committed(self, lines: str, patience: float = PATIENCE, **files: str) -> str:
-        writer = pagelog.Primary.named("shop", keepers=[lines], principal=2, token=token(2), operator=(1, token(1)), patience=patience,
-                                       timeout=min(patience, 5.0), trust=Trust(CA, **files))  # fmt: skip
+        writer = pagelog.Primary.named(
+            "shop",
+            keepers=[lines],
+            principal=2,
+            token=token(2),
+            operator=(1, token(1)),
+            patience=patience,
+            timeout=min(patience, 5.0),
+            trust=Trust(CA, **files),
+        )
         with writer:
             writer.append(put(0, b"hello"))
             return said_by(lambda: writer.commit(durable=True))
@@ -271,7 +360,9 @@ class Lines(unittest.TestCase):
         for how, self.padding in (({}, ""), ({"record": 1}, ""), ({}, " key=")):
             with self.fronts(**how) as lines:
                 self.assertEqual(self.committed(lines), "")
-                with pagelog.Reader.named("shop", keepers=[lines], principal=3, token=token(3), trust=Trust(CA)) as reader:
+                with pagelog.Reader.named(
+                    "shop", keepers=[lines], principal=3, token=token(3), trust=Trust(CA)
+                ) as reader:
                     self.assertEqual(reader.page(0).data[:5], b"hello")
 
     def test_no_answer_takes_it_away(self) -> None:
@@ -281,9 +372,17 @@ class Lines(unittest.TestCase):
             self.told[0] = self.service.address
             self.assertIn("TLS: ", self.committed(lines, patience=0.2))
         with self.fronts(lines=wrong) as lines:
-            self.assertIn("NoKeeper: no keeper answers: " + lines + ": TLS: IP address mismatch", self.committed(lines))
+            self.assertIn(
+                "NoKeeper: no keeper answers: " + lines + ": TLS: IP address mismatch",
+                self.committed(lines),
+            )
         with self.fronts(clients=CA) as lines:
-            self.assertIn("NoKeeper: no keeper answers: " + lines + ": TLS: tlsv13 alert certificate required", self.committed(lines))
+            self.assertIn(
+                "NoKeeper: no keeper answers: "
+                + lines
+                + ": TLS: tlsv13 alert certificate required",
+                self.committed(lines),
+            )
             self.assertEqual(self.committed(lines, **OWN_FILES), "")
 
     def test_who_believes_another_asks_by_itself(self) -> None:
@@ -291,13 +390,19 @@ class Lines(unittest.TestCase):
         with self.fronts() as lines:
             trust = Trust(CA)
             place = Keepers("shop", [lines], trust=trust).place()
-            polls = [poll_of("shop", [lines], place, each) for each in (trust, Trust(CA), Trust(OTHER), None)]
+            polls = [
+                poll_of("shop", [lines], place, each)
+                for each in (trust, Trust(CA), Trust(OTHER), None)
+            ]
             self.assertEqual([poll is polls[0] for poll in polls], [True, True, False, False])
 
 
 class OfTheLibrary(unittest.TestCase):
     def test_the_names_are_those_of_the_package(self) -> None:
-        self.assertTrue({Trust, NoKeeper, Unreachable, ConnectionLost} <= {getattr(pagelog, name) for name in pagelog.__all__})
+        self.assertTrue(
+            {Trust, NoKeeper, Unreachable, ConnectionLost}
+            <= {getattr(pagelog, name) for name in pagelog.__all__}
+        )
 
 
 if __name__ == "__main__":

@@ -88,7 +88,13 @@ class Rules(unittest.TestCase):
         self.assertEqual((self.b.lines, self.c.lines), ([], ["turn shop other"]))
 
     def test_another_has_written_between(self) -> None:
-        for who, told in ((self.a, "other"), (self.a, "same"), (self.b, "other"), (self.a, "other"), (self.a, "same")):
+        for who, told in (
+            (self.a, "other"),
+            (self.a, "same"),
+            (self.b, "other"),
+            (self.a, "other"),
+            (self.a, "same"),
+        ):
             self.ask(who)
             self.assertEqual(who.last(), f"turn shop {told}")
             self.back(who)
@@ -122,7 +128,10 @@ class Rules(unittest.TestCase):
     def test_a_turn_is_kept_until_it_is_wanted(self) -> None:
         self.keep()
         self.ask(self.b)
-        self.assertEqual((self.a.last(), self.b.lines, [each for each, _ in self.clock.open]), ("wanted shop", [], [GRACE]))
+        self.assertEqual(
+            (self.a.last(), self.b.lines, [each for each, _ in self.clock.open]),
+            ("wanted shop", [], [GRACE]),
+        )
         self.back(self.a)
         self.assertEqual((self.b.lines, self.clock.open), (["turn shop other"], []))
 
@@ -150,9 +159,15 @@ class Rules(unittest.TestCase):
             self.keep(heartbeat=True)
             self.ask(self.b, now=True, heartbeat=True)
             self.ask(self.c, now=True)
-            self.assertEqual((self.a.last(), self.b.lines, self.c.lines), ("wanted shop", ["soon shop"], ["busy shop"]))
+            self.assertEqual(
+                (self.a.last(), self.b.lines, self.c.lines),
+                ("wanted shop", ["soon shop"], ["busy shop"]),
+            )
             answer(self.a)
-            self.assertEqual(self.b.lines, ["soon shop", "turn shop other" if answer == self.back else "busy shop"])
+            self.assertEqual(
+                self.b.lines,
+                ["soon shop", "turn shop other" if answer == self.back else "busy shop"],
+            )
             self.assertNotIn(self.b if answer == self.hold else self.a, self.turns)
             self.assertEqual(self.clock.open, [])
 
@@ -193,11 +208,16 @@ class Rules(unittest.TestCase):
         for others_wait in (True, False):
             self.setUp()
             self.slice(self.a)
-            self.assertEqual((self.a.lines, [each for each, _ in self.clock.open]), (["turn shop other kept slice=10"], [SLICE]))
+            self.assertEqual(
+                (self.a.lines, [each for each, _ in self.clock.open]),
+                (["turn shop other kept slice=10"], [SLICE]),
+            )
             if others_wait:
                 self.slice(self.b)
                 self.ask(self.c, now=True, heartbeat=True)
-                self.assertEqual((len(self.a.lines), self.b.lines, self.c.lines), (1, [], ["soon shop"]))
+                self.assertEqual(
+                    (len(self.a.lines), self.b.lines, self.c.lines), (1, [], ["soon shop"])
+                )
             self.clock.end()
             self.assertEqual((self.a.last(), len(self.clock.open)), ("wanted shop", others_wait))
             self.back(self.a)
@@ -273,7 +293,9 @@ class Rules(unittest.TestCase):
         self.assertEqual([each for each, _ in self.clock.open], [GRACE])
         self.hold(self.a)
         self.ask(self.c, heartbeat=True)
-        self.assertEqual((self.a.lines[-2:], self.clock.open), (["turn shop same kept", "wanted shop"], []))
+        self.assertEqual(
+            (self.a.lines[-2:], self.clock.open), (["turn shop same kept", "wanted shop"], [])
+        )
 
     def test_who_waits_behind_another_is_waited_for_with_heartbeats_too(self) -> None:
         for who in (self.a, self.b, self.c):
@@ -298,7 +320,10 @@ class Rules(unittest.TestCase):
         self.assertEqual(self.b.lines, ["elsewhere shop"])
         every.take(self.b, ["turn", "shop"], 2)  # type: ignore[arg-type]
         every.take(self.c, ["turn", "shop", "now"], 2)  # type: ignore[arg-type]
-        self.assertEqual((self.b.lines, self.c.lines, [each for each, _ in self.clock.open]), (["elsewhere shop"], [], [EARLY]))
+        self.assertEqual(
+            (self.b.lines, self.c.lines, [each for each, _ in self.clock.open]),
+            (["elsewhere shop"], [], [EARLY]),
+        )
         self.clock.end()
         self.assertEqual(self.c.lines, ["busy shop"])
         every.take(self.c, ["turn", "shop", "now"], None)  # type: ignore[arg-type]
@@ -356,14 +381,20 @@ class Rules(unittest.TestCase):
                 self.assertIsNot(first, again)
             now.return_value += 0.9
             every.expect("shop", 2)
-            self.assertEqual(([each is again for each in self.clock.open], self.a.lines), ([True], []))
+            self.assertEqual(
+                ([each is again for each in self.clock.open], self.a.lines), ([True], [])
+            )
             self.clock.end()
             every.expect("shop", 2)
             self.assertEqual((self.clock.open, self.a.lines), ([], ["turn shop other"]))
 
     def test_a_question_of_the_generation_before_is_such_a_one(self) -> None:
         """Of one who has proved a token."""
-        for generation, may, expected in (1, True, [mock.call("shop", 2)]), (1, False, []), (2, True, []):
+        for generation, may, expected in (
+            (1, True, [mock.call("shop", 2)]),
+            (1, False, []),
+            (2, True, []),
+        ):
             keeper, of = mock.Mock(), mock.Mock()
             keeper._named.return_value.row.identity = of.database
             keeper._held.return_value, keeper._may.return_value = 2, may
@@ -381,10 +412,16 @@ class Rules(unittest.TestCase):
             self.assertEqual((self.a.lines, self.b.lines), ([], []))
             if not is_alone:
                 self.turns.ask(self.c, now=True, mine=True)  # type: ignore[arg-type]
-                self.assertEqual((self.a.lines, self.b.lines, self.c.lines), (["busy shop"], ["busy shop"], ["turn shop other"]))
+                self.assertEqual(
+                    (self.a.lines, self.b.lines, self.c.lines),
+                    (["busy shop"], ["busy shop"], ["turn shop other"]),
+                )
             self.clock.end()
             if is_alone:
-                self.assertEqual((self.a.lines, self.b.lines, self.c.lines), (["turn shop other"], ["busy shop"], []))
+                self.assertEqual(
+                    (self.a.lines, self.b.lines, self.c.lines),
+                    (["turn shop other"], ["busy shop"], []),
+                )
 
     def test_who_had_the_turn_before_comes_first(self) -> None:
         self.turns = Turns("shop", 2, self.clock)
@@ -410,23 +447,33 @@ class Lines(Kept):
         self.keeping.place()
         with self.keeping.line() as second:
             with self.keeping.line() as first:
-                for line, words in ((first, "turn shop"), (second, "turn shop now"), (second, "turn shop")):
+                for line, words in (
+                    (first, "turn shop"),
+                    (second, "turn shop now"),
+                    (second, "turn shop"),
+                ):
                     line.write(words + "\n")
                     line.flush()
                     if words != "turn shop" or line is first:
-                        self.assertEqual(line.readline().strip(), "turn shop other" if line is first else "busy shop")
+                        self.assertEqual(
+                            line.readline().strip(),
+                            "turn shop other" if line is first else "busy shop",
+                        )
                 for words, told in (("turn blog", "elsewhere blog"), ("nothing", "what nothing")):
                     first.write(words + "\n")
                     first.flush()
                     self.assertEqual(first.readline().strip(), told)
             self.assertEqual(second.readline().strip(), "turn shop other")
 
-
     def test_an_epoch_is_told_to_who_knows_keys(self) -> None:
         self.keeping.place()
         for greeting, told in ("hello 2\n", "turn shop other epoch=7"), ("", "turn shop other"):
             with self.keeping.line() as second, self.keeping.line() as first:
-                for line, words, answers in (first, "turn shop\n", 1), (second, greeting + "turn shop\nnothing\n", 1 + bool(greeting)):
+                for line, words, answers in (first, "turn shop\n", 1), (
+                    second,
+                    greeting + "turn shop\nnothing\n",
+                    1 + bool(greeting),
+                ):
                     line.write(words)
                     line.flush()
                     for _ in range(answers):

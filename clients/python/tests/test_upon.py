@@ -40,12 +40,21 @@ class Upon(Movable):
 
     def enter_and_be_killed(self, first: int, count: int) -> None:
         """Another process commits so many numbers, and ends before they are durable: nobody sends them again."""
-        words = [str(Path(__file__).parent), ",".join(self.keeping.addresses), str(first), str(count)]
-        self.assertEqual(subprocess.run([sys.executable, "-B", "-c", KILLED, *words]).returncode, -signal.SIGKILL)
+        words = [
+            str(Path(__file__).parent),
+            ",".join(self.keeping.addresses),
+            str(first),
+            str(count),
+        ]
+        self.assertEqual(
+            subprocess.run([sys.executable, "-B", "-c", KILLED, *words]).returncode, -signal.SIGKILL
+        )
 
     def numbers(self, connection: sqlite3.Connection) -> tuple[int, ...]:
         """How many there are: of what was durable, of who was killed before the loss and after it, and of `mine`."""
-        found = connection.execute("select sum(n = 1), sum(n / 100000 = 1), sum(n / 100000 = 2), sum(n = 2) from t").fetchone()
+        found = connection.execute(
+            "select sum(n = 1), sum(n / 100000 = 1), sum(n / 100000 = 2), sum(n = 2) from t"
+        ).fetchone()
         return tuple(found)
 
     def lose(self, mine: sqlite3.Connection, count: int) -> None:
@@ -53,7 +62,11 @@ class Upon(Movable):
         generation = self.keeping.place().generation
         os.kill(self.keeping.pid(), signal.SIGKILL)
         self.let_in()
-        eventually(lambda: self.keeping.row().generation > generation and self.keeping.row().address is not None, "the next generation")
+        eventually(
+            lambda: self.keeping.row().generation > generation
+            and self.keeping.row().address is not None,
+            "the next generation",
+        )
         self.enter_and_be_killed(200_000, count)
         with self.assertRaisesRegex(sqlite3.OperationalError, "disk I/O error"):
             mine.execute("select * from t").fetchall()
@@ -61,7 +74,10 @@ class Upon(Movable):
         self.assertEqual(self.numbers(mine), (1, 0, count, 0))
         mine.execute("insert into t values(3)")
         with closing(connected(self.keeping.addresses, id=3, mode="ro")) as reader:
-            self.assertEqual((reader.execute("pragma integrity_check").fetchone(), self.numbers(reader)), (("ok",), (1, 0, count, 0)))
+            self.assertEqual(
+                (reader.execute("pragma integrity_check").fetchone(), self.numbers(reader)),
+                (("ok",), (1, 0, count, 0)),
+            )
 
     def test_of_a_writer_that_came_where_much_was_not_durable(self) -> None:
         self.cut_off()

@@ -16,7 +16,7 @@ from unittest import mock
 
 import pagelog
 from pagelog.archive import Archive
-from pagelog.archiving import Archiver
+from pagelog.archive.archiving import Archiver
 from pagelog.audit_list import AuditRoom
 from pagelog.comparing import all_blocks
 from pagelog.desk.archive_words import Follower
@@ -42,14 +42,26 @@ class Archived(unittest.TestCase):
         self.folder = Path(self.enterContext(tempfile.TemporaryDirectory()))
         self.url = f"sqlite:///{self.folder}/archive.db"
         self.service = self.enterContext(Service(table=WIDE_TABLE))
-        with self.service.primary() as primary, self.service.reader() as reader, Archive(self.url, create=True) as archive:
+        with self.service.primary() as primary, self.service.reader() as reader, Archive(
+            self.url, create=True
+        ) as archive:
             fill(primary, 100)
             Archiver(reader, archive).run(follow=False)
         self.waiting, self.keys = self.folder / "waiting.toml", self.folder / "restore.toml"
 
     def make(self) -> None:
-        done = said(words("waiting-table", self.service.table, "--credentials", self.service.credentials_file(), "--out", self.waiting,
-                          "--keys", self.keys))  # fmt: skip
+        done = said(
+            words(
+                "waiting-table",
+                self.service.table,
+                "--credentials",
+                self.service.credentials_file(),
+                "--out",
+                self.waiting,
+                "--keys",
+                self.keys,
+            )
+        )
         self.assertEqual(done, (0, "", ""))
 
     def start_with_the_waiting_table(self) -> None:
@@ -68,7 +80,9 @@ class Waiting(Archived):
             while not done.is_set():
                 try:
                     with self.service.operator() as operator:
-                        writer = pagelog.Primary.take_over(self.service.connection(), pagelog.Credentials.of(2, token(2)), operator)
+                        writer = pagelog.Primary.take_over(
+                            self.service.connection(), pagelog.Credentials.of(2, token(2)), operator
+                        )
                         writer.append(put(50, b"the application"))
                         told.append(writer.commit())
                         writer.close()
@@ -83,7 +97,17 @@ class Waiting(Archived):
                 done.wait(0.01)
             with self.service.operator() as operator, self.assertRaises(pagelog.UnknownPrincipal):
                 operator.status()
-            status, out, error = said(words("restore", "--credentials", self.keys, "--url", self.url, "--table", self.service.table))
+            status, out, error = said(
+                words(
+                    "restore",
+                    "--credentials",
+                    self.keys,
+                    "--url",
+                    self.url,
+                    "--table",
+                    self.service.table,
+                )
+            )
             thread.join(PATIENCE)
         finally:
             done.set()
@@ -109,7 +133,9 @@ class Waiting(Archived):
         self.make()
         self.start_with_the_waiting_table()
         for table in ((), ("--table", self.service.table)):
-            status, _, error = said(words("restore", "--credentials", self.keys, "--url", self.url, *table))
+            status, _, error = said(
+                words("restore", "--credentials", self.keys, "--url", self.url, *table)
+            )
             self.assertEqual((status, error), (0, ""))
         self.assertEqual(self.service.operator().status().hard, 100)
 
@@ -132,7 +158,17 @@ class Followers(Archived):
     """What follows a service, and is denied A1 while the next one waits for its restore."""
 
     def restore(self) -> None:
-        status, _, error = said(words("restore", "--credentials", self.keys, "--url", self.url, "--table", self.service.table))
+        status, _, error = said(
+            words(
+                "restore",
+                "--credentials",
+                self.keys,
+                "--url",
+                self.url,
+                "--table",
+                self.service.table,
+            )
+        )
         self.assertEqual((status, error), (0, ""))
 
     def wait_for(self, stream: IO[str] | None, text: str) -> None:
@@ -144,8 +180,19 @@ class Followers(Archived):
         self.make()
         file = self.service.credentials_file()
         archives = words("archive", "--follow", "--credentials", file, "--url", self.url)
-        audits = words("audit", "--follow", "--denied", "--first", "-1", "--credentials", file, PYTHONUNBUFFERED="1")
-        records = words("record", "shop", "--follow", "--idle", "0.1", "--credentials", file, "--url", self.url)
+        audits = words(
+            "audit",
+            "--follow",
+            "--denied",
+            "--first",
+            "-1",
+            "--credentials",
+            file,
+            PYTHONUNBUFFERED="1",
+        )
+        records = words(
+            "record", "shop", "--follow", "--idle", "0.1", "--credentials", file, "--url", self.url
+        )
         self.wait_for(archives.stdout, "archived 100 of 100")
         self.wait_for(records.stdout, "of list 1")
         with self.service.operator() as operator, self.assertRaises(pagelog.OlderEpoch):
@@ -170,7 +217,9 @@ class Followers(Archived):
 
     def follower(self, archive: Archive, reader: pagelog.Reader, **guard: Any) -> Follower:
         archiver = Archiver(reader, archive)
-        return Follower(archiver, 0.1, self.ends, ListGuard(archiver=archiver, **guard) if guard else None)
+        return Follower(
+            archiver, 0.1, self.ends, ListGuard(archiver=archiver, **guard) if guard else None
+        )
 
     def ends(self) -> bool:
         self.asked += 1
@@ -180,7 +229,9 @@ class Followers(Archived):
 
     def test_what_was_seen_and_not_archived_is_lost_with_the_service(self) -> None:
         self.make()
-        with self.service.reader() as reader, self.service.operator() as operator, Archive(self.url) as archive:
+        with self.service.reader() as reader, self.service.operator() as operator, Archive(
+            self.url
+        ) as archive:
             follower = self.follower(archive, reader, room=AuditRoom(operator))
             with self.service.primary() as primary:
                 fill(primary, 5)
@@ -196,7 +247,9 @@ class Followers(Archived):
 
     def test_a_service_that_is_let_in_and_was_not_restored_is_told(self) -> None:
         self.make()
-        with self.service.reader() as reader, Archive(self.url) as archive, mock.patch("time.sleep"):
+        with self.service.reader() as reader, Archive(self.url) as archive, mock.patch(
+            "time.sleep"
+        ):
             follower = self.follower(archive, reader)
             follower.follow()
             self.start_with_the_waiting_table()
@@ -208,19 +261,25 @@ class Followers(Archived):
 
     def test_a_token_that_was_never_right_is_not_waited_for(self) -> None:
         wrong = pagelog.Credentials.of(3, "ab" * 16), pagelog.Credentials.of(1, "ab" * 16)
-        with self.service.reader() as reader, self.service.operator() as operator, Archive(self.url) as archive:
+        with self.service.reader() as reader, self.service.operator() as operator, Archive(
+            self.url
+        ) as archive:
             guard = {"room": AuditRoom(operator), "fence_at": 1, "table": TableText(WIDE_TABLE)}
             with self.assertRaises(pagelog.UnknownPrincipal):
                 operator.credentials = wrong[1]
                 self.follower(archive, reader, **guard).follow()
             self.assertEqual((reader.was_let_in, operator.was_let_in), (True, False))
-        with self.service.reader() as reader, Archive(self.url) as archive, self.assertRaises(pagelog.UnknownPrincipal):
+        with self.service.reader() as reader, Archive(self.url) as archive, self.assertRaises(
+            pagelog.UnknownPrincipal
+        ):
             reader.credentials = wrong[0]
             self.follower(archive, reader).follow()
 
     def test_an_operator_that_was_let_in_is_not_blind_afterwards(self) -> None:
         self.make()
-        with self.service.reader() as reader, self.service.operator() as operator, Archive(self.url) as archive:
+        with self.service.reader() as reader, self.service.operator() as operator, Archive(
+            self.url
+        ) as archive:
             guard = ListGuard(AuditRoom(operator), Archiver(reader, archive))
             guard.check()
             self.start_with_the_waiting_table()
@@ -232,7 +291,9 @@ class Tables(unittest.TestCase):
     """Tables that are made of others, judged by a service."""
 
     def test_writes_are_denied_to_all_and_nothing_else_is(self) -> None:
-        with Service(table=WIDE_TABLE) as service, service.operator() as operator, service.primary() as primary, service.reader() as reader:
+        with Service(
+            table=WIDE_TABLE
+        ) as service, service.operator() as operator, service.primary() as primary, service.reader() as reader:
             fill(primary, 3)
             operator.set_table(TableText(WIDE_TABLE).without_writes())
             primary.append(put(0, b"no"))
@@ -253,7 +314,14 @@ class Tables(unittest.TestCase):
             self.assertLess(operator.count_of_entries(before), before + 80)
 
     def test_what_no_table_can_be_made_of(self) -> None:
-        for text in ("[[principal", "principal = 1\n", 'row = "x"\n', "x = 1\n", "", "principal = [1]\n"):
+        for text in (
+            "[[principal",
+            "principal = 1\n",
+            'row = "x"\n',
+            "x = 1\n",
+            "",
+            "principal = [1]\n",
+        ):
             with self.subTest(text), self.assertRaises(TableError):
                 TableText(text)
         with self.assertRaisesRegex(TableError, "does not list principal 1 and principal 9"):

@@ -17,7 +17,9 @@ from service import PATIENCE, PROGRAM, TABLE, WIDE_TABLE, Service, fill, put, to
 from test_archive import words
 
 SIX = "copies = 6\nquorum = 4\n"
-ENDING = TABLE.read_text().replace('who = 3\nrole = "secondary"\n', 'who = 3\nrole = "secondary"\nthrough = 40\n')
+ENDING = TABLE.read_text().replace(
+    'who = 3\nrole = "secondary"\n', 'who = 3\nrole = "secondary"\nthrough = 40\n'
+)
 
 
 def takes(text: str) -> bool:
@@ -44,7 +46,11 @@ class SixCopies(unittest.TestCase):
         self.reader = self.enterContext(self.service.reader())
 
     def copies_of_writes(self) -> list[int]:
-        return [entry.b for entry in self.operator.entries(1) if entry.operation is pagelog.Operation.WRITE]
+        return [
+            entry.b
+            for entry in self.operator.entries(1)
+            if entry.operation is pagelog.Operation.WRITE
+        ]
 
     def test_a_commit_goes_to_four_copies(self) -> None:
         with self.service.primary(quorum=4) as primary:
@@ -65,13 +71,17 @@ class SixCopies(unittest.TestCase):
                     primary.commit()
             self.assertEqual((primary.durable, self.reader.status().hard), (0, 0))
         with self.service.connection() as connection:
-            taken = Primary.take_over(connection, pagelog.Credentials.of(2, token(2)), self.operator, quorum=4)
+            taken = Primary.take_over(
+                connection, pagelog.Credentials.of(2, token(2)), self.operator, quorum=4
+            )
             taken.append(put(0, b"b"))
             self.assertEqual(taken.commit(), 1)
 
     def test_a_failover_keeps_what_stands_in_four_and_no_less(self) -> None:
         for stands, kept in ((4, 1), (3, 0)):
-            with Service(table=SIX + WIDE_TABLE) as service, service.operator() as operator, service.primary(quorum=4) as primary:
+            with Service(
+                table=SIX + WIDE_TABLE
+            ) as service, service.operator() as operator, service.primary(quorum=4) as primary:
                 requests = primary._requests
 
                 def with_a_failover(*arguments):  # type: ignore[no-untyped-def]
@@ -84,7 +94,9 @@ class SixCopies(unittest.TestCase):
                 primary.append(put(0, b"a"))
                 primary._prepare()
                 primary._close_block()
-                harden = primary._harden([[sent.block for sent in primary._unhardened]], in_flight=1)
+                harden = primary._harden(
+                    [[sent.block for sent in primary._unhardened]], in_flight=1
+                )
                 if kept:
                     self.assertEqual(list(harden), [1])
                 else:
@@ -102,12 +114,20 @@ class SixCopies(unittest.TestCase):
                 primary.append(put(0, b"b"))
                 self.assertEqual(primary.commit(), 2)
             with service.connection() as connection:
-                taken = Primary.take_over(connection, pagelog.Credentials.of(2, token(2)), operator, quorum=4)
+                taken = Primary.take_over(
+                    connection, pagelog.Credentials.of(2, token(2)), operator, quorum=4
+                )
                 taken.append(put(0, b"c"))
                 self.assertEqual(taken.commit(), 3)
 
     def test_a_table_of_other_numbers_is_none(self) -> None:
-        for text in ("copies = 3\nquorum = 3\n", "copies = 6\n", "quorum = 2\n", "copies = 7\nquorum = 4\n", 'copies = "6"\nquorum = 4\n'):
+        for text in (
+            "copies = 3\nquorum = 3\n",
+            "copies = 6\n",
+            "quorum = 2\n",
+            "copies = 7\nquorum = 4\n",
+            'copies = "6"\nquorum = 4\n',
+        ):
             with self.subTest(text), self.assertRaises(pagelog.NoTable) as raised:
                 self.operator.set_table(text + WIDE_TABLE)
             self.assertIs(raised.exception.fault, rules.TableFault.COPIES_AND_QUORUM)
@@ -166,7 +186,9 @@ class RowsThatEnd(unittest.TestCase):
             return replies
 
         self.reader._ask_all = sets_a_table_amid  # type: ignore[method-assign]
-        with Archive(f"sqlite:///{self.service.folder}/archive.db", create=True) as archive, self.service.reader() as reader:
+        with Archive(
+            f"sqlite:///{self.service.folder}/archive.db", create=True
+        ) as archive, self.service.reader() as reader:
             Archiver(self.reader, archive).run(follow=False)
             self.assertEqual(list(archive.blocks()), list(all_blocks(reader, 1, 100)))
 
@@ -181,8 +203,19 @@ class RowsThatEnd(unittest.TestCase):
 
     def test_explain_asks_at_an_lsn(self) -> None:
         table = Table(self.service.table)
-        for question, place in {"get 0 at 40": "row 4", "get 0 at 41": "B0", "get 0": "row 4", "pull 0..3 at 41": "B0", "status": "row 4"}.items():
-            decision = explain(table, Question.parse(f"principal 3 {'as secondary ' if question == 'status' else ''}{question}"))
+        for question, place in {
+            "get 0 at 40": "row 4",
+            "get 0 at 41": "B0",
+            "get 0": "row 4",
+            "pull 0..3 at 41": "B0",
+            "status": "row 4",
+        }.items():
+            decision = explain(
+                table,
+                Question.parse(
+                    f"principal 3 {'as secondary ' if question == 'status' else ''}{question}"
+                ),
+            )
             self.assertEqual(decision.place, place, question)
         self.assertIn("through 40", str(explain(table, Question.parse("principal 3 pull at 7"))))
 
@@ -196,8 +229,15 @@ class AtAnLsn(unittest.TestCase):
         act = Question.parse("principal 2 write 1,4 at 9").act(b"")
         self.assertIsInstance(act, Write)
         self.assertEqual((act.block.lsn, act.block.partitions), (9, (1, 4)))  # type: ignore[union-attr]
-        self.assertEqual(explain(Table(TABLE), Question.parse("principal 3 pull 0..3 at 500")).place, "row 4")
-        for text in ("principal 1 tidy at 5", "principal 3 get 7 at x", "principal 3 pull at 0", "principal 3 get at 281474976710657"):
+        self.assertEqual(
+            explain(Table(TABLE), Question.parse("principal 3 pull 0..3 at 500")).place, "row 4"
+        )
+        for text in (
+            "principal 1 tidy at 5",
+            "principal 3 get 7 at x",
+            "principal 3 pull at 0",
+            "principal 3 get at 281474976710657",
+        ):
             with self.subTest(text), self.assertRaises(ExplainError):
                 Question.parse(text).act(b"")
 
@@ -210,7 +250,11 @@ class AtAnLsn(unittest.TestCase):
 
             def denies_from_the_second_batch_on(acts, *rest):  # type: ignore[no-untyped-def]
                 replies = ask_all(acts[:2], *rest)
-                operator.set_table(TABLE.read_text().replace('who = 3\nrole = "secondary"\n', 'who = 3\nrole = "primary"\n'))
+                operator.set_table(
+                    TABLE.read_text().replace(
+                        'who = 3\nrole = "secondary"\n', 'who = 3\nrole = "primary"\n'
+                    )
+                )
                 return replies + ask_all(acts[2:], *rest)
 
             first = reader.span(1, pulls=1)

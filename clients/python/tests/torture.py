@@ -7,11 +7,14 @@ import itertools
 import json
 import os
 import random
+import re
+import shutil
 import signal
 import socket
 import stat
 import subprocess
 import sys
+import tempfile
 import threading
 import time
 from collections import Counter
@@ -26,19 +29,32 @@ import psycopg  # noqa: E402
 from by_tls import VARIABLE, trust  # noqa: E402
 from keepers import Keeping, eventually  # noqa: E402
 from long_runs import STOP, LongRun, is_client, text_of, texts_of  # noqa: E402
-from pagelog import Block, Group, Lost, NamedPrimary, PagelogError, Primary, Put, Reader, Unwritten  # noqa: E402
+from pagelog import (
+    Block,
+    Group,
+    Lost,
+    NamedPrimary,
+    PagelogError,
+    Primary,
+    Put,
+    Reader,
+    Unwritten,
+)  # noqa: E402
 from pagelog.keeper.rows import Row  # noqa: E402
 from pagelog.keeper.run import fronts_of  # noqa: E402
 from pagelog.place import Keepers  # noqa: E402
 from replicated import Pair  # noqa: E402
 from secured import Secured  # noqa: E402
-from service import PATIENCE, token  # noqa: E402
+from service import PATIENCE, TOP, token  # noqa: E402
 from torture_copies import Copies, look
 from torture_secrets import Secrets
 
 TTL = 2.0
 NAME = "shop"
-REQUIRE, BY_TLS = "--require-standby", "--tls"
+REQUIRE, BY_TLS, STORE = "--require-standby", "--tls", "--store"
+VERIFY = os.environ.get("PAGELOG_VERIFY") or str(
+    TOP / "crates" / "pagelog_verify" / "out" / "pagelog_verify"
+)
 THREADS = 6
 PIDFD_GETFD = 438
 """The number of this call of Linux, which Python does not have."""
@@ -56,8 +72,16 @@ def write(folder: Path, who: str, addresses: list[str], seed: float) -> None:
         books.write(json.dumps({"what": what, **facts}) + "\n")
 
     def new() -> object:
-        return Primary.named(NAME, keepers=addresses, principal=id, token=token(id), operator=(1, token(1)), patience=20.0, timeout=TTL,
-                             trust=trust())  # fmt: skip
+        return Primary.named(
+            NAME,
+            keepers=addresses,
+            principal=id,
+            token=token(id),
+            operator=(1, token(1)),
+            patience=20.0,
+            timeout=TTL,
+            trust=trust(),
+        )
 
     primary = new()
     while not (stops := (folder / STOP).exists()) or open_commits:
@@ -72,8 +96,15 @@ def write(folder: Path, who: str, addresses: list[str], seed: float) -> None:
                 note("try", text=text)
                 primary.append(Put(0, 0, text.encode() + b"." * chance.randrange(60)))
                 open_commits[primary.commit()] = text
-            for position in [position for position in open_commits if position <= primary.durable_end]:
-                note("durable", text=open_commits.pop(position), position=position, generation=primary.place.generation)
+            for position in [
+                position for position in open_commits if position <= primary.durable_end
+            ]:
+                note(
+                    "durable",
+                    text=open_commits.pop(position),
+                    position=position,
+                    generation=primary.place.generation,
+                )
         except Lost as lost:
             for position in [position for position in open_commits if position >= lost.position]:
                 note("lost", text=open_commits.pop(position), position=position)
@@ -108,10 +139,21 @@ class Sharing:
         self.note("end")
 
     def _share(self) -> None:
-        with Primary.named(NAME, keepers=self._addresses, principal=self._id, token=token(self._id), operator=(1, token(1)), patience=5.0,
-                           timeout=TTL, trust=trust()) as primary:  # fmt: skip
+        with Primary.named(
+            NAME,
+            keepers=self._addresses,
+            principal=self._id,
+            token=token(self._id),
+            operator=(1, token(1)),
+            patience=5.0,
+            timeout=TTL,
+            trust=trust(),
+        ) as primary:
             group, self._begun = Group(primary), []
-            threads = [threading.Thread(target=self._commit, args=(primary, group, thread)) for thread in range(THREADS)]
+            threads = [
+                threading.Thread(target=self._commit, args=(primary, group, thread))
+                for thread in range(THREADS)
+            ]
             for thread in threads:
                 thread.start()
             for thread in threads:
@@ -132,7 +174,13 @@ class Sharing:
                 position = group.commit(Put(0, 0, text.encode()))
                 assert primary.place is not None
                 # It may have moved on meanwhile: then the end that is compared is a later one.
-                self.note("durable", text=text, position=position, generation=primary.place.generation, thread=thread)
+                self.note(
+                    "durable",
+                    text=text,
+                    position=position,
+                    generation=primary.place.generation,
+                    thread=thread,
+                )
             except Lost as lost:
                 return self.note("lost", text=text, position=lost.position)
             except Unwritten:
@@ -151,15 +199,29 @@ def read(folder: Path, who: str, addresses: list[str], _: float) -> None:
     """Follows what is durable, and notes each block."""
     id = int(who)
     books = (folder / f"reader{id}").open("a", buffering=1)
-    reader = Reader.named(NAME, keepers=addresses, principal=id, token=token(id), durable_only=True, patience=60.0, timeout=TTL, trust=trust())
+    reader = Reader.named(
+        NAME,
+        keepers=addresses,
+        principal=id,
+        token=token(id),
+        durable_only=True,
+        patience=60.0,
+        timeout=TTL,
+        trust=trust(),
+    )
     position = 1
     while not (folder / STOP).exists():
         try:
             for block in reader.blocks(position, idle=0.1, stop=(folder / STOP).exists):
-                books.write(json.dumps({"what": "read", "position": block.lsn, "text": text_of(block)}) + "\n")
+                books.write(
+                    json.dumps({"what": "read", "position": block.lsn, "text": text_of(block)})
+                    + "\n"
+                )
                 position = block.lsn + 1
         except PagelogError as error:
-            books.write(json.dumps({"what": "ended", "why": f"{type(error).__name__}: {error}"}) + "\n")
+            books.write(
+                json.dumps({"what": "ended", "why": f"{type(error).__name__}: {error}"}) + "\n"
+            )
             reader.close()
             time.sleep(0.1)
 
@@ -215,18 +277,43 @@ class SecureAlone(Secured):
 
 
 class Torture(LongRun):
-    def __init__(self, seconds: float, seed: int, *, requires_standby: bool, by_tls: bool) -> None:
+    def __init__(
+        self,
+        seconds: float,
+        seed: int,
+        *,
+        requires_standby: bool,
+        by_tls: bool,
+        store: bool = False,
+    ) -> None:
         self.seconds, self.chance = seconds, random.Random(seed)
         self.pair = Pair()
         more = "unproved = false\n" + "require_standby = true\n" * requires_standby
-        super().__init__(__file__, (SecureAlone if by_tls else Keeping)(ttl=TTL, url=self.pair.url, more=more))
+        more += "trail = 1\n" * store
+        super().__init__(
+            __file__, (SecureAlone if by_tls else Keeping)(ttl=TTL, url=self.pair.url, more=more)
+        )
+        self.folder = Path(tempfile.mkdtemp(prefix="pagelog-torture-")) if store else None
+        if self.folder is not None:
+            self.keeping.stores(self.folder, seal="64KiB", age="1s", tail="1s")
         self.done: Counter[str] = Counter()
         self.is_first_round, self.shut = True, 0
         self.deeds: list[tuple[int, Callable[[], None]]] = [
-            (4, self.kill_service), (2, self.stop_service), (3, self.kill_keeper), (1, self.kill_keeper_for_long),
-            (2, self.stop_keeper), (1, self.stop_machine), (2, self.switch_over), (1, self.end_keeper), (2, self.cut_lines),
-            (2, self.shut_lines), (1, self.fail_over_postgresql), (1, self.zombie_postgresql), (2, self.kill_pages), (2, self.stop_pages),
-        ]  # fmt: skip
+            (4, self.kill_service),
+            (2, self.stop_service),
+            (3, self.kill_keeper),
+            (1, self.kill_keeper_for_long),
+            (2, self.stop_keeper),
+            (1, self.stop_machine),
+            (2, self.switch_over),
+            (1, self.end_keeper),
+            (2, self.cut_lines),
+            (2, self.shut_lines),
+            (1, self.fail_over_postgresql),
+            (1, self.zombie_postgresql),
+            (2, self.kill_pages),
+            (2, self.stop_pages),
+        ]
         if by_tls:
             self.deeds += [(3, self.kill_front), (1, self.stop_front), (1, self.renew)]
         self.copies = Copies(self.keeping, self.chance)
@@ -290,7 +377,11 @@ class Torture(LongRun):
 
     def some_keeper(self) -> str:
         holder = self.row().holder
-        return holder if holder in self.names() and self.chance.random() < 0.8 else self.chance.choice(self.names())
+        return (
+            holder
+            if holder in self.names() and self.chance.random() < 0.8
+            else self.chance.choice(self.names())
+        )
 
     def kill_keeper(self) -> None:
         name = self.some_keeper()
@@ -329,14 +420,22 @@ class Torture(LongRun):
     def cut_lines(self) -> None:
         """PostgreSQL ends all sessions of keepers, and says so."""
         try:
-            with psycopg.connect(self.pair.url + "&target_session_attrs=read-write", autocommit=True) as boss:
-                boss.execute("SELECT pg_terminate_backend(pid) FROM pg_stat_activity WHERE application_name LIKE 'pagelog keeper%'")
+            with psycopg.connect(
+                self.pair.url + "&target_session_attrs=read-write", autocommit=True
+            ) as boss:
+                boss.execute(
+                    "SELECT pg_terminate_backend(pid) FROM pg_stat_activity WHERE application_name LIKE 'pagelog keeper%'"
+                )
         except psycopg.Error:
             pass
 
     def shut_lines(self) -> None:
         """Of a process, lines are cut at this end: to PostgreSQL, to services, keepers or clients. Nobody is told."""
-        processes = [*(self.keeping.processes[name].pid for name in self.names()), *(client.pid for client in self.clients), self.service()]
+        processes = [
+            *(self.keeping.processes[name].pid for name in self.names()),
+            *(client.pid for client in self.clients),
+            self.service(),
+        ]
         pid = self.chance.choice(processes)
         share = self.chance.choice([0.3, 1.0])
         if pid is not None:
@@ -349,11 +448,16 @@ class Torture(LongRun):
         """The old leader goes on beside the new one for longer than a ttl, and until something has become durable without it."""
 
         def beside() -> None:
-            with psycopg.connect(f"postgresql://pagelog@/kept?host={self.pair.leader.folder}", autocommit=True) as session:
+            with psycopg.connect(
+                f"postgresql://pagelog@/kept?host={self.pair.leader.folder}", autocommit=True
+            ) as session:
                 archived = "SELECT archived FROM pagelog_log WHERE name = %s"
                 before = session.execute(archived, (NAME,)).fetchone()
                 time.sleep(2.5 * TTL)
-                eventually(lambda: session.execute(archived, (NAME,)).fetchone() != before, "a durable commit beside an old leader")
+                eventually(
+                    lambda: session.execute(archived, (NAME,)).fetchone() != before,
+                    "a durable commit beside an old leader",
+                )
 
         self.pair.fail_over_beside(beside)
 
@@ -361,7 +465,10 @@ class Torture(LongRun):
         """Each one once, and then as they are drawn. In the first round there is a holder, and a service, for them to meet."""
         deeds, weights = [deed for _, deed in self.deeds], [weight for weight, _ in self.deeds]
         for deed in self.chance.sample(deeds, len(deeds)):
-            eventually(lambda: self.row().holder in self.names() and self.service() is not None, "a service")
+            eventually(
+                lambda: self.row().holder in self.names() and self.service() is not None,
+                "a service",
+            )
             yield deed
         self.is_first_round = False
         while True:
@@ -381,7 +488,10 @@ class Torture(LongRun):
         keeping.start("a", "b")
         keeping.place()
         self.copies.start()
-        clients = [self.client(what, id, self.chance.random()) for what, id in (("write", 2), ("share", 5), ("read", 3), ("look", 3))]
+        clients = [
+            self.client(what, id, self.chance.random())
+            for what, id in (("write", 2), ("share", 5), ("read", 3), ("look", 3))
+        ]
         began = time.monotonic()
         for fault in self.deeds_in_turn():
             if time.monotonic() - began > self.seconds and not self.is_first_round:
@@ -393,24 +503,60 @@ class Torture(LongRun):
         eventually(lambda: keeping.place() is not None)
         (keeping.folder / STOP).touch()
         ended = [self.ended(client, PATIENCE) for client in clients]
-        return self.report(Check(keeping).violations() + self.copies.violations() + self.faults(ended) + secrets.found())
+        return self.report(
+            Check(keeping).violations()
+            + self.copies.violations()
+            + self.faults(ended)
+            + secrets.found()
+            + self.unverified()
+        )
+
+    def unverified(self) -> list[str]:
+        """What pagelog-verify says of each list of the trail that is of no database, if there are trails and that is built."""
+        if self.folder is None or not os.access(VERIFY, os.X_OK):
+            return []
+        said = self.keeping.word("trail", NAME, "--export", self.folder / "trail")
+        found = re.findall(r"^  pagelog-verify (.*)$", said, flags=re.M)
+        ended = [
+            subprocess.run([VERIFY, *words.split()], capture_output=True, text=True)
+            for words in found
+        ]
+        agreed = [done.stdout for done in ended if done.returncode == 0]
+        lines = [int(text.split()[1]) for text in agreed]
+        print(f"trail: {len(found)} lists are exported, {len(lines)} agree, of {sum(lines)} lines")
+        return [
+            f"{words}: {done.stdout}{done.stderr}"
+            for words, done in zip(found, ended)
+            if done.returncode != 0
+        ]
 
     def report(self, violations: list[str]) -> int:
         for violation in violations[:20]:
             print(f"violation: {violation}")
         books = Check(self.keeping).books
         counts = Counter(line["what"] for line in books if line["what"] != "end")
-        print("faults: " + ", ".join(f"{name} {count}" for name, count in self.done.most_common()) + f"; {self.shut} lines were shut")
-        print("page servers: " + ", ".join(f"{what} {count}" for what, count in self.copies.done.most_common()))
+        print(
+            "faults: "
+            + ", ".join(f"{name} {count}" for name, count in self.done.most_common())
+            + f"; {self.shut} lines were shut"
+        )
+        print(
+            "page servers: "
+            + ", ".join(f"{what} {count}" for what, count in self.copies.done.most_common())
+        )
         print("told: " + ", ".join(f"{what} {count}" for what, count in counts.most_common()))
-        print(f"torture: {counts['durable']} durable commits over {self.keeping.row(NAME).generation} generations, "
-              f"{sum(self.done.values())} faults, {len(violations)} violations")  # fmt: skip
+        print(
+            f"torture: {counts['durable']} durable commits over {self.keeping.row(NAME).generation} generations, "
+            f"{sum(self.done.values())} faults, {len(violations)} violations"
+        )
         return 1 if violations or not counts["durable"] else 0
 
     def stop(self) -> None:
         self.copies.stop()
         super().stop()
         self.pair.stop()
+        if self.folder is not None:
+            shutil.rmtree(self.folder, ignore_errors=True)
 
 
 class Check:
@@ -420,10 +566,14 @@ class Check:
         self.keeping = keeping
         self.books: list[dict[str, object]] = []
         for file in (*keeping.folder.glob("writer*"), *keeping.folder.glob("reader*")):
-            self.books += [json.loads(line) | {"who": file.name} for line in file.read_text().splitlines()]
+            self.books += [
+                json.loads(line) | {"who": file.name} for line in file.read_text().splitlines()
+            ]
 
     def violations(self) -> list[str]:
-        texts = dict(enumerate((texts_of(Block.decode(block)) for block in self.keeping.archive(NAME)), 1))
+        texts = dict(
+            enumerate((texts_of(Block.decode(block)) for block in self.keeping.archive(NAME)), 1)
+        )
         counts = Counter(text for each in texts.values() for text in each)
         found = [f"{text!r} is there {count} times" for text, count in counts.items() if count > 1]
         tried = {line["text"] for line in self.books if line["what"] == "try"}
@@ -439,7 +589,11 @@ class Check:
             if line["what"] == "found" and line["text"] not in counts:
                 found.append(f"{line} and it is not there")
         for who in {(line["who"], line.get("thread")) for line in self.books}:
-            told = [line for line in self.books if (line["who"], line.get("thread")) == who and line["what"] in ("durable", "read")]
+            told = [
+                line
+                for line in self.books
+                if (line["who"], line.get("thread")) == who and line["what"] in ("durable", "read")
+            ]
             positions = [line["position"] for line in told]
             if positions != sorted(set(positions)):  # type: ignore[type-var]
                 found.append(f"{who} was told positions out of order")
@@ -448,16 +602,24 @@ class Check:
     def ends(self) -> dict[int, int]:
         """Where each generation that is over ended."""
         with psycopg.connect(self.keeping.url + "&target_session_attrs=read-write") as connection:
-            rows = connection.execute("SELECT generation, base FROM pagelog_generation ORDER BY generation").fetchall()
+            rows = connection.execute(
+                "SELECT generation, base FROM pagelog_generation ORDER BY generation"
+            ).fetchall()
         return {generation: base for (generation, _), (_, base) in zip(rows, rows[1:])}
 
 
 def main(words: list[str]) -> int:
     if is_client(words, {"write": write, "share": share, "read": read, "look": look}):
         return 0
-    requires_standby, by_tls = REQUIRE in words, BY_TLS in words
-    words = [word for word in words if word not in (REQUIRE, BY_TLS)]
-    return Torture(float(words[0]) if words else 120.0, int(words[1]) if len(words) > 1 else 1, requires_standby=requires_standby, by_tls=by_tls).whole()
+    requires_standby, by_tls, store = (word in words for word in (REQUIRE, BY_TLS, STORE))
+    words = [word for word in words if word not in (REQUIRE, BY_TLS, STORE)]
+    return Torture(
+        float(words[0]) if words else 120.0,
+        int(words[1]) if len(words) > 1 else 1,
+        requires_standby=requires_standby,
+        by_tls=by_tls,
+        store=store,
+    ).whole()
 
 
 if __name__ == "__main__":

@@ -49,7 +49,9 @@ class Past:
     def lose(self, loss: Loss, copied: float, back: float) -> None:
         """PostgreSQL was set back: drops between the copy and that did not happen."""
         self.losses.append(loss)
-        self.drops = [drop for drop in self.drops if not (drop.began > copied and drop.ended < back)]
+        self.drops = [
+            drop for drop in self.drops if not (drop.began > copied and drop.ended < back)
+        ]
 
     def lost(self, began: float, ended: float) -> bool:
         return any(loss.excuses(began, ended) for loss in self.losses)
@@ -58,10 +60,21 @@ class Past:
         """Whether what was acknowledged then may have been dropped with its database since."""
         return any(drop.name == name and drop.ended >= began for drop in self.drops)
 
+    def went(self, name: str, tried: float, looked: float) -> bool:
+        """Whether what was tried had gone with its database at a look, which may have it for a while still."""
+        return any(
+            drop.name == name
+            and drop.ended >= tried
+            and drop.began <= looked <= drop.ended + self.bound
+            for drop in self.drops
+        )
+
     def changed(self, name: str, began: float, ended: float) -> bool:
         """Whether a database may have become another, or less, between these times, as far as a reader sees it a while later."""
-        return any(drop.name == name and drop.began <= ended and drop.ended + self.bound >= began for drop in self.drops) or any(
-            loss.kept <= ended and loss.over + self.bound >= began for loss in self.losses)  # fmt: skip
+        return any(
+            drop.name == name and drop.began <= ended and drop.ended + self.bound >= began
+            for drop in self.drops
+        ) or any(loss.kept <= ended and loss.over + self.bound >= began for loss in self.losses)
 
 
 class Chains:
@@ -85,7 +98,10 @@ class Chains:
         return found
 
     def has(self, look: Note, link: Note) -> bool:
-        return bool(link["seq"] <= look["seq"] and self.chain(look["sum"], look["seq"]).get(link["seq"]) == link["sum"])
+        return bool(
+            link["seq"] <= look["seq"]
+            and self.chain(look["sum"], look["seq"]).get(link["seq"]) == link["sum"]
+        )
 
 
 def _same(one: Note, other: Note) -> bool:
@@ -137,8 +153,19 @@ class Check:
             self.shown[note["name"], note["life"], note.get("writer"), note.get("first")].add(note)
 
     def violations(self) -> list[str]:
-        found = [f"{note['who']}: {note['text']}" for note in self.notes if note["what"] == "violation"]
-        found += [*self._moved(), *self._invented(), *self._lost(), *self._refused(), *self._after_drops(), *self._back(), *self._stale(), *self._restored()]
+        found = [
+            f"{note['who']}: {note['text']}" for note in self.notes if note["what"] == "violation"
+        ]
+        found += [
+            *self._moved(),
+            *self._invented(),
+            *self._lost(),
+            *self._refused(),
+            *self._after_drops(),
+            *self._back(),
+            *self._stale(),
+            *self._restored(),
+        ]
         return found
 
     def counts(self) -> Counter[str]:
@@ -167,12 +194,22 @@ class Check:
                     unknown = self._numbers(look) - self.tries[str(name), str(life), look["writer"]]
                     if unknown:
                         yield f"invented: {sorted(unknown)[:5]} of {look['writer']} in life {life} of {name}, for {look['who']}"
-                elif look["seq"] and len(chain := self.chains[self._origin(str(name)), str(life)].chain(look["sum"], look["seq"])) < look["seq"]:
+                elif (
+                    look["seq"]
+                    and len(
+                        chain := self.chains[self._origin(str(name)), str(life)].chain(
+                            look["sum"], look["seq"]
+                        )
+                    )
+                    < look["seq"]
+                ):
                     yield f"invented: link {look['seq'] - len(chain)} of life {life} of {name}, for {look['who']}"
 
     def _origin(self, name: str) -> str:
         """The database that a copy is of."""
-        return next((restored.name for restored in self.past.restored if restored.copy == name), name)
+        return next(
+            (restored.name for restored in self.past.restored if restored.copy == name), name
+        )
 
     def _numbers(self, look: Note) -> set[int]:
         bits = int(look["bits"], 16)
@@ -185,20 +222,39 @@ class Check:
             if not note["durable"] or self.past.lost(note["began"], note["noted"]):
                 continue
             shown = self._shown_of(note, link)
-            late, last = shown.after(note["noted"] + self.bound), shown.looks[-1] if shown.looks else None
-            final = last if last is not None and ".final-" in last["who"] and last["began"] > note["noted"] else None
-            lacking = [look for look in (late, final) if look is not None and not self._has(look, note, link)]
+            late, last = (
+                shown.after(note["noted"] + self.bound),
+                shown.looks[-1] if shown.looks else None,
+            )
+            final = (
+                last
+                if last is not None and ".final-" in last["who"] and last["began"] > note["noted"]
+                else None
+            )
+            lacking = [
+                look
+                for look in (late, final)
+                if look is not None and not self._has(look, note, link)
+            ]
             if lacking:
-                yield (f"lost or stale: {self._named(note, link)}, noted at {note['noted']:.2f}, not for {lacking[-1]['who']} "
-                       f"at {lacking[-1]['began']:.2f}")  # fmt: skip
-            elif final is None and self._is_over(link) and not self.past.dropped(link["name"], note["began"]):
+                yield (
+                    f"lost or stale: {self._named(note, link)}, noted at {note['noted']:.2f}, not for {lacking[-1]['who']} "
+                    f"at {lacking[-1]['began']:.2f}"
+                )
+            elif (
+                final is None
+                and self._is_over(link)
+                and not self.past.dropped(link["name"], note["began"])
+            ):
                 yield f"lost: {self._named(note, link)}, whose life is gone, and nobody dropped it"
 
     def _shown_of(self, note: Note, link: Note) -> Shown:
         """The looks that were at what is linked."""
         if "sum" in link:
             return self.shown[link["name"], link["life"], None, None]
-        return self.shown[link["name"], link["life"], note["who"], note["number"] // ENTRIES * ENTRIES]
+        return self.shown[
+            link["name"], link["life"], note["who"], note["number"] // ENTRIES * ENTRIES
+        ]
 
     def _is_over(self, link: Note) -> bool:
         """Whether the last look at the database was at another life."""
@@ -206,7 +262,11 @@ class Check:
 
     @functools.cache
     def _last_life(self, name: str) -> str:
-        ends = [(shown.looks[-1]["began"], str(life)) for (of, life, *_), shown in self.shown.items() if of == name and shown.looks]
+        ends = [
+            (shown.looks[-1]["began"], str(life))
+            for (of, life, *_), shown in self.shown.items()
+            if of == name and shown.looks
+        ]
         return max(ends)[1] if ends else ""
 
     def _has(self, look: Note, note: Note, link: Note) -> bool:
@@ -221,17 +281,25 @@ class Check:
                     yield note, link
 
     def _named(self, note: Note, link: Note) -> str:
-        return f"number {note['number']} of {note['who']} in life {link['life']} of {link['name']}" + (f", link {link['seq']}" if "seq" in link else "")
+        return (
+            f"number {note['number']} of {note['who']} in life {link['life']} of {link['name']}"
+            + (f", link {link['seq']}" if "seq" in link else "")
+        )
 
     # What was refused for good, and is there.
 
     def _refused(self) -> Iterator[str]:
         """Of a transaction to two databases the last one has refused it; the first is changed back, unless that is refused too."""
-        refused = {(note["who"], note["number"]) for note in self.notes if note["what"] in ("refused", "lost")}
+        refused = {
+            (note["who"], note["number"])
+            for note in self.notes
+            if note["what"] in ("refused", "lost")
+        }
         for note, link in self._links("try"):
             if (note["who"], note["number"]) in refused and link is note["links"][-1]:
                 for look in self._shown_of(note, link).looks[-1:]:
-                    if look["kind"] == "durable" and self._has(look, note, link):
+                    went = self.past.went(link["name"], note["noted"], look["began"])
+                    if look["kind"] == "durable" and not went and self._has(look, note, link):
                         yield f"refused, and yet there: {self._named(note, link)}"
 
     # What was acknowledged in a database that was dropped before.
@@ -239,7 +307,10 @@ class Check:
     def _after_drops(self) -> Iterator[str]:
         for drop in self.past.drops:
             for note, link in self._links("acknowledged"):
-                is_old = link["name"] == drop.name and self.lives[link["name"], link["life"]] < drop.began
+                is_old = (
+                    link["name"] == drop.name
+                    and self.lives[link["name"], link["life"]] < drop.began
+                )
                 if drop.is_done and note["durable"] and is_old and note["began"] > drop.ended:
                     yield f"acknowledged after its database was dropped: {self._named(note, link)}, {note['began'] - drop.ended:.1f} s after"
 
@@ -250,23 +321,46 @@ class Check:
         shown: defaultdict[tuple[object, ...], list[Note]] = defaultdict(list)
         for note in self.notes:
             if note["what"] == "look" and note["kind"] == "durable":
-                of = (note["who"], note["opened"], note["writer"], note["first"]) if "bits" in note else (note["name"],)
+                of = (
+                    (note["who"], note["opened"], note["writer"], note["first"])
+                    if "bits" in note
+                    else (note["name"],)
+                )
                 shown[note.get("process"), *of].append(note)
         opened: dict[tuple[str, int], float] = {}
         for looks in shown.values():
             for number, note in enumerate(looks):
                 since = opened.setdefault((note["who"], note["opened"]), note["began"])
-                own = next((each for each in reversed(looks[:number]) if _same(each, note) and each["noted"] < note["began"]), None)
-                others = [each for each in looks[:number] if not _same(each, note) and each["noted"] < since]
-                for before in [each for each in (own, max(others, key=lambda each: int(each["seq"]), default=None)) if each is not None]:
-                    if not self._follows(before, note) and not self.past.changed(note["name"], before["began"], note["noted"]):
+                own = next(
+                    (
+                        each
+                        for each in reversed(looks[:number])
+                        if _same(each, note) and each["noted"] < note["began"]
+                    ),
+                    None,
+                )
+                others = [
+                    each
+                    for each in looks[:number]
+                    if not _same(each, note) and each["noted"] < since
+                ]
+                for before in [
+                    each
+                    for each in (own, max(others, key=lambda each: int(each["seq"]), default=None))
+                    if each is not None
+                ]:
+                    if not self._follows(before, note) and not self.past.changed(
+                        note["name"], before["began"], note["noted"]
+                    ):
                         yield f"{note['who']} went back: {before} and then {note}"
 
     def _follows(self, before: Note, note: Note) -> bool:
         if "bits" in note:
             old = int(before["bits"], 16)
             is_one_life = before["life"] in ("", note["life"])
-            return is_one_life and bool(note["end"] >= before["end"] and int(note["bits"], 16) & old == old)
+            return is_one_life and bool(
+                note["end"] >= before["end"] and int(note["bits"], 16) & old == old
+            )
         chains, last = self.chains[note["name"], before["life"]], before
         while last["sum"] in self._halves and last["seq"] > 1:
             earlier = chains.before[last["sum"]]["before"]
@@ -278,8 +372,14 @@ class Check:
     @functools.cached_property
     def _halves(self) -> set[str]:
         """Links of transactions to two databases that were not acknowledged: one of them may be changed back after it was there."""
-        acknowledged = {(note["who"], note["number"]) for note in self.notes if note["what"] == "acknowledged"}
-        return {link["sum"] for note, link in self._links("try") if len(note["links"]) > 1 and (note["who"], note["number"]) not in acknowledged}
+        acknowledged = {
+            (note["who"], note["number"]) for note in self.notes if note["what"] == "acknowledged"
+        }
+        return {
+            link["sum"]
+            for note, link in self._links("try")
+            if len(note["links"]) > 1 and (note["who"], note["number"]) not in acknowledged
+        }
 
     # Copies of a position, which have what was acknowledged up to there.
 
@@ -291,8 +391,15 @@ class Check:
                 look = shown.looks[-1]
                 chain = self.chains[restored.name, str(life)].chain(look["sum"], look["seq"])
                 for note, link in self._links("acknowledged"):
-                    is_of_it = (link["name"], link["life"]) == (restored.name, life) and note["noted"] < restored.began
-                    if is_of_it and 0 < note.get("position", 0) <= restored.at and chain.get(link["seq"]) != link["sum"] and not self._excused(note):
+                    is_of_it = (link["name"], link["life"]) == (restored.name, life) and note[
+                        "noted"
+                    ] < restored.began
+                    if (
+                        is_of_it
+                        and 0 < note.get("position", 0) <= restored.at
+                        and chain.get(link["seq"]) != link["sum"]
+                        and not self._excused(note)
+                    ):
                         yield f"not in the copy {restored.copy} of position {restored.at}: {self._named(note, link)}, position {note['position']}"
 
     def _excused(self, note: Note) -> bool:
@@ -310,7 +417,11 @@ class Check:
             if name != self._origin(str(name)):
                 continue
             first = self.lives[str(name), str(life)]
-            over = [at for (of, other), at in began.items() if of == name and other != life and life and self.lives[of, other] > first]
+            over = [
+                at
+                for (of, other), at in began.items()
+                if of == name and other != life and life and self.lives[of, other] > first
+            ]
             late = shown.after(min(over) + self.bound) if over else None
             if late is not None:
                 yield f"stale: {late['who']} ({late['kind']}) at life {life} of {name}, {late['began'] - min(over):.0f} s after the next one's first commit"

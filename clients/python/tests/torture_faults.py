@@ -27,7 +27,9 @@ DISK, KEEPERS_DISK, PAGES_DISK = 400 << 20, 24 << 20, 256 << 20
 class Strike:
     """A death: what is done while the subcommands of a round are under way, and after them."""
 
-    def __init__(self, meanwhile: Callable[[], None] = lambda: None, after: Callable[[], None] = lambda: None) -> None:
+    def __init__(
+        self, meanwhile: Callable[[], None] = lambda: None, after: Callable[[], None] = lambda: None
+    ) -> None:
         self.meanwhile, self.after = meanwhile, after
 
 
@@ -49,7 +51,9 @@ class Faults:
         if not os.environ.get("PAGELOG_TORTURE_MOUNTS"):
             return False
         folder.mkdir(exist_ok=True)
-        subprocess.run(["mount", "-t", "tmpfs", "-o", f"size={size},mode={mode}", "tmpfs", folder], check=True)
+        subprocess.run(
+            ["mount", "-t", "tmpfs", "-o", f"size={size},mode={mode}", "tmpfs", folder], check=True
+        )
         self.mounted.append(folder)
         return True
 
@@ -110,7 +114,9 @@ class Faults:
             loss = segment.postgres.go_back(kept[0])
             if loss is not None:
                 segment.past.lose(loss, kept[1], began)
-                segment.log(f"PostgreSQL went back from {began:.2f} to {kept[0]:.2f}, until {loss.over:.2f}")
+                segment.log(
+                    f"PostgreSQL went back from {began:.2f} to {kept[0]:.2f}, until {loss.over:.2f}"
+                )
 
         if self.chance.random() < 0.5:
             remember()
@@ -131,9 +137,12 @@ class Faults:
     def some(self, death: str) -> Iterator[None]:
         """One of them, the one that has come least often, or none. A PostgreSQL that is restarted has room."""
         kinds: dict[str, Callable[[], Callable[[], None]]] = {
-            "memory of a service": self._little_memory, "descriptors of a keeper": self._few_descriptors, "a keeper stands": self._keeper_stands,
-            "a service stands": self._service_stands, "a client is killed": self._client_is_killed,
-        }  # fmt: skip
+            "memory of a service": self._little_memory,
+            "descriptors of a keeper": self._few_descriptors,
+            "a keeper stands": self._keeper_stands,
+            "a service stands": self._service_stands,
+            "a client is killed": self._client_is_killed,
+        }
         folder, pages = self.segment.folder, self.segment.pages
         if self.mounted:
             kinds["the keepers' disk is full"] = lambda: self._fill(folder / "disk")
@@ -162,7 +171,11 @@ class Faults:
 
     def _little_memory(self) -> Callable[[], None]:
         pid = self._some_service()
-        return self._limit(pid, resource.RLIMIT_AS, 1024 * _status(pid, "VmSize")) if pid else lambda: None
+        return (
+            self._limit(pid, resource.RLIMIT_AS, 1024 * _status(pid, "VmSize"))
+            if pid
+            else lambda: None
+        )
 
     def _few_descriptors(self) -> Callable[[], None]:
         pid = self.segment.keepers.processes[self.chance.choice("ab")].pid
@@ -175,7 +188,11 @@ class Faults:
         def limit(most: int) -> None:
             try:
                 hard = resource.prlimit(pid, what)[1]
-                resource.prlimit(pid, what, (most if hard == resource.RLIM_INFINITY or 0 <= most <= hard else hard, hard))
+                resource.prlimit(
+                    pid,
+                    what,
+                    (most if hard == resource.RLIM_INFINITY or 0 <= most <= hard else hard, hard),
+                )
             except (OSError, ValueError):
                 pass  # it has ended
 

@@ -35,7 +35,9 @@ def link(before: str, life: str, who: str, number: int) -> str:
 
 def entry(life: str, who: str, number: int) -> bytes:
     """Twenty bytes of a page that no other life, writer or number has."""
-    return number.to_bytes(4, "big") + hashlib.sha256(f"{life}|{who}|{number}".encode()).digest()[:16]
+    return (
+        number.to_bytes(4, "big") + hashlib.sha256(f"{life}|{who}|{number}".encode()).digest()[:16]
+    )
 
 
 class Notes:
@@ -52,7 +54,12 @@ class Notes:
             os.write(self._file, b"\n")  # behind what may be half a line
 
     def __call__(self, what: str, **facts: object) -> None:
-        os.write(self._file, (json.dumps({"what": what, "noted": now(), "process": os.getpid(), **facts}) + "\n").encode())
+        os.write(
+            self._file,
+            (
+                json.dumps({"what": what, "noted": now(), "process": os.getpid(), **facts}) + "\n"
+            ).encode(),
+        )
 
 
 def notes_of(file: Path, offset: int = 0) -> tuple[list[dict[str, Any]], int]:
@@ -61,7 +68,9 @@ def notes_of(file: Path, offset: int = 0) -> tuple[list[dict[str, Any]], int]:
         lines.seek(offset)
         text = lines.read()
     whole = text[: text.rfind(b"\n") + 1]
-    return [{**note, "who": file.stem} for note in map(_note, whole.splitlines()) if note is not None], offset + len(whole)
+    return [
+        {**note, "who": file.stem} for note in map(_note, whole.splitlines()) if note is not None
+    ], offset + len(whole)
 
 
 def _note(line: bytes) -> dict[str, Any] | None:
@@ -99,7 +108,14 @@ class Job:
             time.sleep(pause * 2 * chance.random())
 
     def words(self) -> list[str]:
-        return [str(self.folder), ",".join(self.addresses), self.name, self.who, str(self.seed), self.other]
+        return [
+            str(self.folder),
+            ",".join(self.addresses),
+            self.name,
+            self.who,
+            str(self.seed),
+            self.other,
+        ]
 
     @classmethod
     def of(cls, words: list[str]) -> Job:

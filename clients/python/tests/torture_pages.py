@@ -9,7 +9,18 @@ import uuid
 from typing import Callable
 
 from by_tls import trust
-from pagelog import AboveTheEnd, BelowBase, Group, Lost, NamedPrimary, PagelogError, Primary, Put, Reader, Unwritten
+from pagelog import (
+    AboveTheEnd,
+    BelowBase,
+    Group,
+    Lost,
+    NamedPrimary,
+    PagelogError,
+    Primary,
+    Put,
+    Reader,
+    Unwritten,
+)
 from service import token
 from torture_notes import ENTRIES, SIZE, Job, Notes, entry, now
 
@@ -33,8 +44,15 @@ def puts(life: str, who: str, number: int) -> list[Put]:
 
 def life_at(job: Job) -> str:
     """The life of the database that is there now; an empty text where it has none yet."""
-    with Reader.named(job.name, keepers=job.addresses, principal=3, token=token(3), patience=PATIENCE, timeout=TIMEOUT,
-                      trust=trust()) as reader:  # fmt: skip
+    with Reader.named(
+        job.name,
+        keepers=job.addresses,
+        principal=3,
+        token=token(3),
+        patience=PATIENCE,
+        timeout=TIMEOUT,
+        trust=trust(),
+    ) as reader:
         if not reader.end():
             return ""
         return reader.page(LIFE).data[:12].strip(b"\0").decode()
@@ -53,8 +71,16 @@ class Session:
         before = life_at(self.job)
         if not before and not self.who.endswith("-0"):
             return False  # the first writer of a database begins its life
-        self.primary = Primary.named(self.job.name, keepers=self.job.addresses, principal=2, token=token(2), operator=(1, token(1)),
-                                     patience=PATIENCE, timeout=TIMEOUT, trust=trust())  # fmt: skip
+        self.primary = Primary.named(
+            self.job.name,
+            keepers=self.job.addresses,
+            principal=2,
+            token=token(2),
+            operator=(1, token(1)),
+            patience=PATIENCE,
+            timeout=TIMEOUT,
+            trust=trust(),
+        )
         self.life = before or uuid.uuid4().hex[:12]
         self.primary.append(Put(HELLO, 0, b"hello") if before else Put(LIFE, 0, self.life.encode()))
         self.primary.commit()
@@ -73,7 +99,13 @@ def _sessions(job: Job, notes: Notes, use: Callable[[Session], None]) -> None:
             if session.begin():
                 use(session)
         except PagelogError as error:
-            notes("failed", stage="session", error=type(error).__name__, why=str(error)[:100], took=round(now() - began, 2))
+            notes(
+                "failed",
+                stage="session",
+                error=type(error).__name__,
+                why=str(error)[:100],
+                took=round(now() - began, 2),
+            )
             time.sleep(chance.uniform(0, 1))
         finally:
             session.close()
@@ -128,7 +160,14 @@ def _settle(session: Session, due: dict[int, tuple[int, float]]) -> None:
     for position in [each for each in sorted(due) if lost is None or each >= lost.position]:
         number, began = due.pop(position)
         why = {} if lost is None else {"why": f"{position}: {lost}"}
-        session.notes("acknowledged" if lost is None else "lost", number=number, links=[link], began=began, durable=True, **why)
+        session.notes(
+            "acknowledged" if lost is None else "lost",
+            number=number,
+            links=[link],
+            began=began,
+            durable=True,
+            **why,
+        )
     if lost is not None:
         _settle(session, due)  # what was before is not lost
         raise lost
@@ -142,7 +181,9 @@ def groups(job: Job) -> None:
     def use(session: Session) -> None:
         assert session.primary is not None
         group = Group(session.primary)
-        threads = [threading.Thread(target=_share, args=(session, group, numbers)) for _ in range(4)]
+        threads = [
+            threading.Thread(target=_share, args=(session, group, numbers)) for _ in range(4)
+        ]
         for thread in threads:
             thread.start()
         for thread in threads:
@@ -163,7 +204,13 @@ def _share(session: Session, group: Group, numbers: Numbers) -> None:
         except (Lost, Unwritten):
             return session.notes("lost", number=number, links=[link], began=began)
         except PagelogError as error:
-            return session.notes("failed", number=number, stage="commit", error=type(error).__name__, why=str(error)[:100])
+            return session.notes(
+                "failed",
+                number=number,
+                stage="commit",
+                error=type(error).__name__,
+                why=str(error)[:100],
+            )
 
 
 # Readers.
@@ -181,8 +228,17 @@ class Looker:
 
     def open(self) -> None:
         self.opened += 1
-        self.reader = Reader.named(self.job.name, keepers=self.job.addresses, principal=3, token=token(3), durable_only=self.durable, pages=self.pages,
-                                   patience=PATIENCE, timeout=TIMEOUT, trust=trust())  # fmt: skip
+        self.reader = Reader.named(
+            self.job.name,
+            keepers=self.job.addresses,
+            principal=3,
+            token=token(3),
+            durable_only=self.durable,
+            pages=self.pages,
+            patience=PATIENCE,
+            timeout=TIMEOUT,
+            trust=trust(),
+        )
 
     def look(self, who: str) -> bool:
         """At all pages of a writer. Returns whether it was shown any."""
@@ -193,7 +249,13 @@ class Looker:
         except (AboveTheEnd, BelowBase):
             pass  # a run was lost, or an old one is read
         except PagelogError as error:
-            self.notes("failed", stage="look", error=type(error).__name__, why=str(error)[:100], took=round(now() - began, 2))
+            self.notes(
+                "failed",
+                stage="look",
+                error=type(error).__name__,
+                why=str(error)[:100],
+                took=round(now() - began, 2),
+            )
             self.reader.close()
             self.open()
         return found
@@ -203,14 +265,29 @@ class Looker:
         end = self.reader.end()
         if not end:
             return False
-        top, one, other = (each.data for each in self.reader.pages((LIFE, page, page + MIRROR), end))
+        top, one, other = (
+            each.data for each in self.reader.pages((LIFE, page, page + MIRROR), end)
+        )
         life = top[:12].strip(b"\0").decode()
         if one != other:
-            self.notes("violation", text=f"torn for a {self.kind} reader of {self.job.name}: page {page} at {end}")
+            self.notes(
+                "violation",
+                text=f"torn for a {self.kind} reader of {self.job.name}: page {page} at {end}",
+            )
         first = (page - page_of(who, 0)) * ENTRIES
         bits = self._bits(one, life, who, first, end)
-        self.notes("look", kind=self.kind, name=self.job.name, opened=self.opened, life=life, end=end, writer=who, first=first, bits=hex(bits),
-                   began=began)  # fmt: skip
+        self.notes(
+            "look",
+            kind=self.kind,
+            name=self.job.name,
+            opened=self.opened,
+            life=life,
+            end=end,
+            writer=who,
+            first=first,
+            bits=hex(bits),
+            began=began,
+        )
         return bits != 0
 
     def _bits(self, data: bytes, life: str, who: str, first: int, end: int) -> int:
@@ -221,8 +298,11 @@ class Looker:
             if slot == bytes(SIZE):
                 continue
             if slot != entry(life, who, first + index):
-                self.notes("violation", text=f"invented for a {self.kind} reader of {self.job.name}: number {first + index} of {who} at {end}, "
-                                             f"life {life}: {slot.hex()}")  # fmt: skip
+                self.notes(
+                    "violation",
+                    text=f"invented for a {self.kind} reader of {self.job.name}: number {first + index} of {who} at {end}, "
+                    f"life {life}: {slot.hex()}",
+                )
             bits |= 1 << index
         return bits
 
@@ -257,5 +337,8 @@ def page_final(job: Job) -> None:
 
 
 KINDS: dict[str, Callable[[Job], None]] = {
-    "writes": writes, "groups": groups, "page_readers": page_readers, "page_final": page_final,
-}  # fmt: skip
+    "writes": writes,
+    "groups": groups,
+    "page_readers": page_readers,
+    "page_final": page_final,
+}

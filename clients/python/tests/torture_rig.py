@@ -50,7 +50,9 @@ class Lone(Server):
         self.leader = self
         self.setting("max_wal_size", "64MB")
         Server.url(self, "kept")
-        self.copy = Path(tempfile.mkdtemp(prefix="pagelog-copy-", dir=os.environ.get("PAGELOG_TORTURE_COPIES")))
+        self.copy = Path(
+            tempfile.mkdtemp(prefix="pagelog-copy-", dir=os.environ.get("PAGELOG_TORTURE_COPIES"))
+        )
 
     @property
     def kept_url(self) -> str:
@@ -136,8 +138,22 @@ class Two(Pair):
 
 
 def _ask(server: Server, statement: str) -> str:
-    done = server.call([shutil.which("psql") or "psql", "-h", str(server.folder), "-U", "pagelog", "-d", "postgres", "-XAtqc", statement],
-                       stdout=subprocess.PIPE, stderr=subprocess.DEVNULL, cwd=server.folder)  # fmt: skip
+    done = server.call(
+        [
+            shutil.which("psql") or "psql",
+            "-h",
+            str(server.folder),
+            "-U",
+            "pagelog",
+            "-d",
+            "postgres",
+            "-XAtqc",
+            statement,
+        ],
+        stdout=subprocess.PIPE,
+        stderr=subprocess.DEVNULL,
+        cwd=server.folder,
+    )
     return str(done.stdout.decode().strip())
 
 
@@ -153,10 +169,15 @@ class Keepers:
         self.processes: dict[str, subprocess.Popen[bytes]] = {}
         self.file = folder / "keeper.toml"
         self.file.touch(mode=0o600)
-        self.file.write_text(f'[archive]\nurl = "{url}"\n[keeper]\nttl = {TTL}\nstandby = {str(kind != "alone").lower()}\naudit = 400000\n'
-                             f'trail = {int(trail)}\nrequire_standby = {str(kind == "synchronous").lower()}\n')  # fmt: skip
+        self.file.write_text(
+            f'[archive]\nurl = "{url}"\n[keeper]\nttl = {TTL}\nstandby = {str(kind != "alone").lower()}\naudit = 400000\n'
+            f'trail = {int(trail)}\nrequire_standby = {str(kind == "synchronous").lower()}\n'
+        )
         self.table = folder / "table.toml"
-        self.table.write_text("".join(f'[[principal]]\nid = {id}\ntoken = "{token(id)}"\n' for id in (1, 2, 3)) + '[[row]]\nverdict = "allow"\n')
+        self.table.write_text(
+            "".join(f'[[principal]]\nid = {id}\ntoken = "{token(id)}"\n' for id in (1, 2, 3))
+            + '[[row]]\nverdict = "allow"\n'
+        )
         self.secure: dict[str, Port] = {}
         """Where they are reached, where clients speak TLS."""
         if VARIABLE in os.environ:
@@ -173,15 +194,35 @@ class Keepers:
             return self.file
         file, pair = self.folder / f"{name}.toml", Path(os.environ[VARIABLE]).with_name("good.both")
         file.touch(mode=0o600)
-        file.write_text(f'{self.file.read_text()}tls = "{pair}"\ntls_lines = "{self.secure[name].address}"\ntls_ports = 64\nplain = false\n')
+        file.write_text(
+            f'{self.file.read_text()}tls = "{pair}"\ntls_lines = "{self.secure[name].address}"\ntls_ports = 64\nplain = false\n'
+        )
         return file
 
     def start(self, name: str, *, called: str | None = None) -> subprocess.Popen[bytes]:
         """`called`: the name of another keeper, whose file is copied."""
-        words = [sys.executable, "-m", "pagelog", "keep", "--name", called or name, "--lines", self.ports[name].address, "--serve", "127.0.0.1",
-                 "--folder", self.disk / name, "--program", PROGRAM, "--credentials", self.file_of(name)]  # fmt: skip
+        words = [
+            sys.executable,
+            "-m",
+            "pagelog",
+            "keep",
+            "--name",
+            called or name,
+            "--lines",
+            self.ports[name].address,
+            "--serve",
+            "127.0.0.1",
+            "--folder",
+            self.disk / name,
+            "--program",
+            PROGRAM,
+            "--credentials",
+            self.file_of(name),
+        ]
         with (self.folder / f"{name}.log").open("a") as log:
-            self.processes[name] = subprocess.Popen(list(map(str, words)), stdout=subprocess.DEVNULL, stderr=log, env=environment())
+            self.processes[name] = subprocess.Popen(
+                list(map(str, words)), stdout=subprocess.DEVNULL, stderr=log, env=environment()
+            )
         return self.processes[name]
 
     @property
@@ -284,7 +325,11 @@ def _run(words: list[str], said: Path, cut: tuple[int, bool] | None) -> None:
         if cut is not None:
             _cut_at(*cut)
         done = CliRunner().invoke(pagelogctl, words)
-        more = "" if done.exception is None or isinstance(done.exception, SystemExit) else repr(done.exception)
+        more = (
+            ""
+            if done.exception is None or isinstance(done.exception, SystemExit)
+            else repr(done.exception)
+        )
         said.write_text(done.output + more)
         status = done.exit_code
     finally:
@@ -312,7 +357,19 @@ def _cut_at(number: int, behind: bool) -> None:
 
 # Counts.
 
-SUBCOMMANDS = ("create", "drop", "prune", "keep", "rescue", "restore", "succeed", "switchover", "cancel", "pause", "resume")
+SUBCOMMANDS = (
+    "create",
+    "drop",
+    "prune",
+    "keep",
+    "rescue",
+    "restore",
+    "succeed",
+    "switchover",
+    "cancel",
+    "pause",
+    "resume",
+)
 DEATHS = ("none", "subcommand", "keeper", "service", "postgresql", "set back")
 
 
@@ -330,7 +387,13 @@ class Counts:
         return self.of.get(f"{subcommand}/{death}/{kind}", 0)
 
     def rarest_death(self, kind: str, chance: random.Random) -> str:
-        return min(DEATHS, key=lambda death: (sum(self.get(each, death, kind) for each in SUBCOMMANDS), chance.random()))
+        return min(
+            DEATHS,
+            key=lambda death: (
+                sum(self.get(each, death, kind) for each in SUBCOMMANDS),
+                chance.random(),
+            ),
+        )
 
     def rarest(self, subcommands: list[str], death: str, kind: str, chance: random.Random) -> str:
         return min(subcommands, key=lambda each: (self.get(each, death, kind), chance.random()))
@@ -342,5 +405,7 @@ class Counts:
             for kind in KINDS:
                 counts = [self.get(subcommand, death, kind) for death in DEATHS]
                 if any(counts):
-                    lines.append(f"{subcommand:12}{kind:14}" + "".join(f"{count:12}" for count in counts))
+                    lines.append(
+                        f"{subcommand:12}{kind:14}" + "".join(f"{count:12}" for count in counts)
+                    )
         return "\n".join(lines)

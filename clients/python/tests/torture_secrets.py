@@ -7,9 +7,10 @@ import json
 import os
 import secrets
 import stat
+import zlib
 from contextlib import suppress
 from pathlib import Path
-from typing import Iterator
+from typing import Any, Iterator
 
 import psycopg
 
@@ -17,6 +18,9 @@ from keepers import Keeping
 from pagelog.keeper.referee import KeeperError, Referee
 from pagelog.keeper.sealed import Keys
 from pagelog.keeper.table import keeper_of, token_of, tokens_of
+
+
+_PIECES = "pagelog_trail_piece"
 
 
 class Secrets:
@@ -27,8 +31,13 @@ class Secrets:
         self.keys = keeping.folder / "keys"
         self.keys.touch(mode=0o600)
         self.keys.write_text(f"{self._key}\n")
-        keeping.file.write_text(keeping.file.read_text().replace("[keeper]", f'key_file = "{self.keys}"\n[keeper]'))
-        self._known = {self._key: "the key", secrets.token_hex(16): "the password of the keepers' environment"}
+        keeping.file.write_text(
+            keeping.file.read_text().replace("[keeper]", f'key_file = "{self.keys}"\n[keeper]')
+        )
+        self._known = {
+            self._key: "the key",
+            secrets.token_hex(16): "the password of the keepers' environment",
+        }
         keeping.environment["PGPASSWORD"] = list(self._known)[1]
 
     def learn(self) -> None:
@@ -37,9 +46,16 @@ class Secrets:
         referee = Referee(keeping.url, keys=Keys(self.keys))
         try:
             for row in referee.everything().rows:
-                runs = [run for run, in referee._ask("SELECT run FROM pagelog_generation WHERE log = %s", (row.id,))]
+                runs = [
+                    run
+                    for run, in referee._ask(
+                        "SELECT run FROM pagelog_generation WHERE log = %s", (row.id,)
+                    )
+                ]
                 if not row.dropped:
-                    self._learn_of(row.name, runs, referee.table(row.id).text, referee.table(row.id).secret)
+                    self._learn_of(
+                        row.name, runs, referee.table(row.id).text, referee.table(row.id).secret
+                    )
         except KeeperError:
             pass  # PostgreSQL is away: what is known is looked for
         finally:
@@ -49,14 +65,28 @@ class Secrets:
         self._known[secret.hex()] = f"the secret of {name}"
         for id, token in tokens_of(text).items():
             self._known[token.hex()] = f"the token of principal {id} of {name}"
-            self._known.update({token_of(token, name, run).hex(): f"the token of principal {id} in run {run}" for run in runs})
-        self._known.update({keeper_of(secret, name, run).token.hex(): f"the keeper's token in run {run}" for run in runs})
+            self._known.update(
+                {
+                    token_of(token, name, run).hex(): f"the token of principal {id} in run {run}"
+                    for run in runs
+                }
+            )
+        self._known.update(
+            {
+                keeper_of(secret, name, run).token.hex(): f"the keeper's token in run {run}"
+                for run in runs
+            }
+        )
 
     def found(self) -> list[str]:
         """What was found, and where."""
         self.learn()
-        return [f"{what} is in {where}" for where, there in self._places() for secret, what in self._known.items()
-                if secret.encode() in there or bytes.fromhex(secret) in there]  # fmt: skip
+        return [
+            f"{what} is in {where}"
+            for where, there in self._places()
+            for secret, what in self._known.items()
+            if secret.encode() in there or bytes.fromhex(secret) in there
+        ]
 
     @property
     def count(self) -> int:
@@ -79,10 +109,21 @@ class Secrets:
 
     def _rows(self) -> Iterator[tuple[str, bytes]]:
         with psycopg.connect(self._keeping.url, target_session_attrs="read-write") as session:
-            tables = session.execute("SELECT relname FROM pg_class WHERE relnamespace = 'public'::regnamespace AND relkind = 'r'").fetchall()
-            for table, in tables:
-                for row, in session.execute(f"SELECT t::text FROM {table} t"):
+            tables = session.execute(
+                "SELECT relname FROM pg_class WHERE relnamespace = 'public'::regnamespace AND relkind = 'r'"
+            ).fetchall()
+            for (table,) in tables:
+                if table == _PIECES:
+                    yield from _of_pieces(session)
+                    continue
+                for (row,) in session.execute(f"SELECT t::text FROM {table} t"):
                     yield f"a row of {table}", str(row).encode()
+
+
+def _of_pieces(session: psycopg.Connection[Any]) -> Iterator[tuple[str, bytes]]:
+    """Lines of audit lists, as they were before they were compressed: what is compressed may look like a token of one digit."""
+    for row, data in session.execute(f"SELECT (to_jsonb(t) - 'data')::text, data FROM {_PIECES} t"):
+        yield f"a row of {_PIECES}", str(row).encode() + zlib.decompress(data)
 
 
 def _of_process(process: Path) -> Iterator[tuple[str, bytes]]:

@@ -35,8 +35,21 @@ class Torn(Exception):
 def build() -> None:
     LIBRARY.parent.mkdir(exist_ok=True)
     made = LIBRARY.with_suffix(f".{os.getpid()}")
-    words = ["gcc", "-std=c11", "-D_GNU_SOURCE", "-fPIC", "-O2", "-g", "-fvisibility=hidden", "-shared", "-o", made, *sorted(SOURCES.glob("pagelog*.c")),
-             "-lssl", "-lcrypto"]
+    words = [
+        "gcc",
+        "-std=c11",
+        "-D_GNU_SOURCE",
+        "-fPIC",
+        "-O2",
+        "-g",
+        "-fvisibility=hidden",
+        "-shared",
+        "-o",
+        made,
+        *sorted(SOURCES.glob("pagelog*.c")),
+        "-lssl",
+        "-lcrypto",
+    ]
     subprocess.run(list(map(str, words)), check=True)
     made.replace(LIBRARY)
 
@@ -54,12 +67,27 @@ def uri(job: Job, name: str, **settings: object) -> str:
     id = 3 if reads else 2
     may_write = {} if reads else {"op": 1, "optoken": token(1)}
     file = settings.pop("file", name)
-    words = {"vfs": "pagelog", "where": ",".join(job.addresses), "name": name, "id": id, "token": token(id), "move": 8000, **may_write, **settings}
+    words = {
+        "vfs": "pagelog",
+        "where": ",".join(job.addresses),
+        "name": name,
+        "id": id,
+        "token": token(id),
+        "move": 8000,
+        **may_write,
+        **settings,
+    }
     return f"file:{file}?{'&'.join(f'{word}={value}' for word, value in words.items())}"
 
 
 def connect(job: Job, name: str, **settings: object) -> sqlite3.Connection:
-    return sqlite3.connect(uri(job, name, **settings), uri=True, isolation_level=None, timeout=5, check_same_thread=False)
+    return sqlite3.connect(
+        uri(job, name, **settings),
+        uri=True,
+        isolation_level=None,
+        timeout=5,
+        check_same_thread=False,
+    )
 
 
 def name_of(error: sqlite3.Error) -> str:
@@ -92,7 +120,14 @@ class Writer:
             self.notes("try", number=self.number, links=list(links.values()))
             self.stage, began = "commit", now()
             connection.execute("COMMIT")
-            self.notes("acknowledged", number=self.number, links=list(links.values()), began=began, durable=level == "FULL", **self._position())
+            self.notes(
+                "acknowledged",
+                number=self.number,
+                links=list(links.values()),
+                began=began,
+                durable=level == "FULL",
+                **self._position(),
+            )
             self.errors = 0
         except sqlite3.Error as error:
             self._fail(error, began)
@@ -102,14 +137,18 @@ class Writer:
         if self.job.other or self.connection is None:
             return {}
         try:
-            return {"position": int(self.connection.execute("PRAGMA pagelog_position").fetchone()[0])}
+            return {
+                "position": int(self.connection.execute("PRAGMA pagelog_position").fetchone()[0])
+            }
         except sqlite3.Error:
             return {}
 
     def _opened(self) -> sqlite3.Connection:
         connection = connect(self.job, self.job.name, **self.settings)
         if self.job.other:
-            connection.execute("ATTACH ? AS other", (uri(self.job, self.job.other, **self.settings),))
+            connection.execute(
+                "ATTACH ? AS other", (uri(self.job, self.job.other, **self.settings),)
+            )
         return connection
 
     def _set(self, connection: sqlite3.Connection, level: str) -> None:
@@ -118,15 +157,30 @@ class Writer:
 
     def _add(self, connection: sqlite3.Connection, schema: str) -> dict[str, object]:
         """Adds a link, whose part takes the place of an older one, and moves something from one account to another."""
-        if not connection.execute(f"SELECT 1 FROM {schema}.sqlite_master WHERE name = 'life'").fetchone():
+        if not connection.execute(
+            f"SELECT 1 FROM {schema}.sqlite_master WHERE name = 'life'"
+        ).fetchone():
             self._begin_life(connection, schema)
         [life] = connection.execute(f"SELECT text FROM {schema}.life").fetchone()
-        seq, before = connection.execute(f"SELECT seq, sum FROM {schema}.led ORDER BY seq DESC LIMIT 1").fetchone() or (0, GENESIS)
+        seq, before = connection.execute(
+            f"SELECT seq, sum FROM {schema}.led ORDER BY seq DESC LIMIT 1"
+        ).fetchone() or (0, GENESIS)
         sum = link(before, life, self.notes.who, self.number)
-        connection.execute(f"INSERT INTO {schema}.led VALUES (?, ?, ?, ?)", (seq + 1, self.notes.who, self.number, sum))
-        connection.execute(f"INSERT OR REPLACE INTO {schema}.part VALUES (?, ?, ?)", ((seq + 1) % PARTS, seq + 1, sum * COPIES))
-        connection.execute(f"UPDATE {schema}.account SET balance = balance - 1 WHERE id = ?", (self.number % 20,))
-        connection.execute(f"UPDATE {schema}.account SET balance = balance + 1 WHERE id = ?", (self.number * 7 % 20,))
+        connection.execute(
+            f"INSERT INTO {schema}.led VALUES (?, ?, ?, ?)",
+            (seq + 1, self.notes.who, self.number, sum),
+        )
+        connection.execute(
+            f"INSERT OR REPLACE INTO {schema}.part VALUES (?, ?, ?)",
+            ((seq + 1) % PARTS, seq + 1, sum * COPIES),
+        )
+        connection.execute(
+            f"UPDATE {schema}.account SET balance = balance - 1 WHERE id = ?", (self.number % 20,)
+        )
+        connection.execute(
+            f"UPDATE {schema}.account SET balance = balance + 1 WHERE id = ?",
+            (self.number * 7 % 20,),
+        )
         name = self.job.name if schema == "main" else self.job.other
         return {"name": name, "life": life, "seq": seq + 1, "before": before, "sum": sum}
 
@@ -134,12 +188,21 @@ class Writer:
         for statement in SCHEMA.split(";"):
             connection.execute(statement.replace("TABLE ", f"TABLE {schema}."))
         connection.execute(f"INSERT INTO {schema}.life VALUES (?)", (uuid.uuid4().hex[:12],))
-        connection.executemany(f"INSERT INTO {schema}.account VALUES (?, 0)", [(id,) for id in range(20)])
+        connection.executemany(
+            f"INSERT INTO {schema}.account VALUES (?, 0)", [(id,) for id in range(20)]
+        )
 
     def _fail(self, error: sqlite3.Error, began: float) -> None:
         code = name_of(error)
         refused = self.stage == "commit" and code in REFUSED
-        self.notes("refused" if refused else "failed", number=self.number, stage=self.stage, error=code, why=str(error)[:80], took=round(now() - began, 2))
+        self.notes(
+            "refused" if refused else "failed",
+            number=self.number,
+            stage=self.stage,
+            error=code,
+            why=str(error)[:80],
+            took=round(now() - began, 2),
+        )
         self.errors += 1
         try:
             if self.connection is not None and self.connection.in_transaction:
@@ -269,13 +332,18 @@ class Chain:
                 connection.execute("ROLLBACK")
 
     def _follow(self, connection: sqlite3.Connection) -> None:
-        for seq, who, number, sum in connection.execute("SELECT * FROM led WHERE seq > ? ORDER BY seq", (self.seq,)).fetchall():
+        for seq, who, number, sum in connection.execute(
+            "SELECT * FROM led WHERE seq > ? ORDER BY seq", (self.seq,)
+        ).fetchall():
             if seq != self.seq + 1 or sum != link(self.sum, self.life, who, number):
                 raise Torn(f"link {seq} of {who} does not follow link {self.seq}")
             self.seq, self.sum = seq, sum
 
     def _look_at_parts(self, connection: sqlite3.Connection) -> None:
-        found = connection.execute("SELECT p.seq, p.text = replace(hex(zeroblob(?)), '00', l.sum) FROM part p JOIN led l ON l.seq = p.seq", (COPIES,)).fetchall()
+        found = connection.execute(
+            "SELECT p.seq, p.text = replace(hex(zeroblob(?)), '00', l.sum) FROM part p JOIN led l ON l.seq = p.seq",
+            (COPIES,),
+        ).fetchall()
         expected = set(range(max(1, self.seq - PARTS + 1), self.seq + 1))
         if {seq for seq, _ in found} != expected or not all(same for _, same in found):
             raise Torn(f"parts {found} at link {self.seq}")
@@ -303,15 +371,28 @@ class Looker:
         self.looks += 1
         try:
             if self.connection is None:
-                self.connection, self.opened = connect(self.job, self.job.name, reads=True, **self.settings), self.opened + 1
+                self.connection, self.opened = (
+                    connect(self.job, self.job.name, reads=True, **self.settings),
+                    self.opened + 1,
+                )
             self.chain.look(self.connection, whole=whole or self.looks % WHOLE == 0)
-            self.notes("look", kind=self.kind, name=self.job.name, opened=self.opened, life=self.chain.life, seq=self.chain.seq,
-                       sum=self.chain.sum, began=began)  # fmt: skip
+            self.notes(
+                "look",
+                kind=self.kind,
+                name=self.job.name,
+                opened=self.opened,
+                life=self.chain.life,
+                seq=self.chain.seq,
+                sum=self.chain.sum,
+                began=began,
+            )
             return True
         except sqlite3.Error as error:
             self.notes("failed", stage="look", error=name_of(error), took=round(now() - began, 2))
         except Torn as torn:
-            self.notes("violation", text=f"torn for a {self.kind} reader of {self.job.name}: {torn}")
+            self.notes(
+                "violation", text=f"torn for a {self.kind} reader of {self.job.name}: {torn}"
+            )
         self.close()
         return False
 
@@ -352,9 +433,20 @@ def _look_back(job: Job) -> Callable[[], None]:
                 if not position:
                     continue
                 then = Looker(job, "at", looker.notes, at=position)
-                if then.step() and (then.chain.life, then.chain.seq, then.chain.sum) != (looker.chain.life, looker.chain.seq, looker.chain.sum):
+                if then.step() and (then.chain.life, then.chain.seq, then.chain.sum) != (
+                    looker.chain.life,
+                    looker.chain.seq,
+                    looker.chain.sum,
+                ):
                     lives = [looker.chain.life, then.chain.life]
-                    looker.notes("moved", name=job.name, began=began, lives=lives, position=position, seqs=[looker.chain.seq, then.chain.seq])
+                    looker.notes(
+                        "moved",
+                        name=job.name,
+                        began=began,
+                        lives=lives,
+                        position=position,
+                        seqs=[looker.chain.seq, then.chain.seq],
+                    )
                 then.close()
 
     return work
@@ -362,7 +454,13 @@ def _look_back(job: Job) -> Callable[[], None]:
 
 def readers(job: Job) -> None:
     """Plain ones, durable ones, and those of a position."""
-    together([_look_on(job, "plain", mode="ro"), _look_on(job, "durable", mode="ro", durable=1), _look_back(job)])
+    together(
+        [
+            _look_on(job, "plain", mode="ro"),
+            _look_on(job, "durable", mode="ro", durable=1),
+            _look_back(job),
+        ]
+    )
 
 
 def final(job: Job) -> None:
@@ -381,5 +479,12 @@ def together(works: list[Callable[[], None]]) -> None:
 
 
 KINDS: dict[str, Callable[[Job], None]] = {
-    "full": full, "normal": normal, "behind": behind, "pool": pool, "forks": forks, "attached": attached, "readers": readers, "final": final,
-}  # fmt: skip
+    "full": full,
+    "normal": normal,
+    "behind": behind,
+    "pool": pool,
+    "forks": forks,
+    "attached": attached,
+    "readers": readers,
+    "final": final,
+}

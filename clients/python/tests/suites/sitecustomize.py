@@ -32,7 +32,10 @@ def _name_of(file: object) -> str | None:
     if not isinstance(file, str):
         return None
     base = os.path.basename(file.removeprefix("file:").partition("?")[0])
-    return next((name for start, name in _FILES.items() if start != ":memory:" and base.startswith(start)), None)
+    return next(
+        (name for start, name in _FILES.items() if start != ":memory:" and base.startswith(start)),
+        None,
+    )
 
 
 def _uri_of(name: str, file: str = "") -> str:
@@ -51,10 +54,16 @@ def _go_on(status: int, _: int, __: int) -> None:
 
 def make_empty(name: str, patience: float = 60.0) -> None:
     """As a file that is deleted: what it has is replaced by a database without anything. Raises `InUse`."""
-    target, nothing = _connect(_uri_of(name), uri=True, timeout=patience, isolation_level=None), _connect(":memory:")
+    target, nothing = _connect(
+        _uri_of(name), uri=True, timeout=patience, isolation_level=None
+    ), _connect(":memory:")
     try:
         target.execute("BEGIN EXCLUSIVE")
-        is_empty = target.execute("SELECT count(*) FROM sqlite_master").fetchone() == target.execute("PRAGMA user_version").fetchone() == (0,)
+        is_empty = (
+            target.execute("SELECT count(*) FROM sqlite_master").fetchone()
+            == target.execute("PRAGMA user_version").fetchone()
+            == (0,)
+        )
         target.execute("ROLLBACK")
         if not is_empty:
             nothing.backup(target, progress=_go_on)
@@ -127,7 +136,11 @@ def unlink(path: Any, *arguments: Any, **named: Any) -> None:
 
 def _note(outcome: str, add: Callable[..., None]) -> Callable[..., None]:
     def noted(result: unittest.TestResult, test: unittest.TestCase, *more: Any) -> None:
-        why = str(more[0][1] if isinstance(more[0], tuple) else more[0]) if more and more[0] is not None else ""
+        why = (
+            str(more[0][1] if isinstance(more[0], tuple) else more[0])
+            if more and more[0] is not None
+            else ""
+        )
         note(test.id(), outcome, why)
         add(result, test, *more)
 
@@ -155,7 +168,11 @@ def _install() -> None:
 
     def add_sub(result: Any, test: Any, subtest: Any, error: Any) -> None:
         if error is not None:
-            note(subtest.id(), "Failure" if issubclass(error[0], test.failureException) else "Error", str(error[1]))
+            note(
+                subtest.id(),
+                "Failure" if issubclass(error[0], test.failureException) else "Error",
+                str(error[1]),
+            )
         sub(result, test, subtest, error)
 
     unittest.TestResult.addSubTest = add_sub  # type: ignore[method-assign]
