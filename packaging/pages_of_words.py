@@ -41,7 +41,11 @@ def page_of(context: click.Context, more: str = "") -> str:
     command, name = context.command, context.command_path.replace(" ", "-")
     text = inspect.cleandoc(command.help or "")
     short = " ".join(text.split("\n\n")[0].split()).partition(". ")[0].rstrip(".")
-    records = [record for option in command.get_params(context) if (record := option.get_help_record(context))]
+    records = [
+        record
+        for option in command.get_params(context)
+        if (record := option.get_help_record(context))
+    ]
     usage = " ".join([context.command_path, *command.collect_usage_pieces(context)])
     return f""".TH {name.upper()} 1 "" "pagelog {pagelog.__version__}"
 .SH NAME

@@ -48,6 +48,12 @@ override_dh_auto_install:
 	install -D -m 644 $(MADE)/completion.zsh debian/pagelog-tools/usr/share/zsh/vendor-completions/_pagelogctl
 	install -D -m 644 $(MADE)/completion.fish debian/pagelog-tools/usr/share/fish/vendor_completions.d/pagelogctl.fish
 	install -D -m 644 $(C)/table.toml debian/pagelog/usr/share/pagelog/table.toml
+ifneq ($(VERIFY),)
+	install -D $(VERIFY) debian/pagelog/usr/bin/pagelog-verify
+	mkdir -p debian/pagelog/usr/share/man/man1
+	help2man -N --version-string=$(RELEASE) -n 'says whether a trail of pagelog is of a database' \
+	    -o debian/pagelog/usr/share/man/man1/pagelog-verify.1 debian/pagelog/usr/bin/pagelog-verify
+endif
 
 # Its tests are of the test command.
 override_dh_auto_test:

@@ -19,7 +19,11 @@ OWNERS = {"etcd": "etcd", "postgresql": "postgres"}
 PROGRAMS = {key: os.environ[key] for key in ("PATH", "PYTHONPATH")}
 """Where a unit finds programs; it gets nothing else of the environment of the trial."""
 ETC, RUN = Path("/etc"), Path("/run")
-STATE = Path(subprocess.run(["systemd-path", "system-state-private"], check=True, capture_output=True, text=True).stdout.strip())
+STATE = Path(
+    subprocess.run(
+        ["systemd-path", "system-state-private"], check=True, capture_output=True, text=True
+    ).stdout.strip()
+)
 
 
 def run(*words: object) -> None:
@@ -30,7 +34,15 @@ def mount(folder: Path) -> None:
     """The machine's own files lie over those of /etc, and hide all state and sockets of the real machine."""
     for name in ("work", "state"):
         (folder / name).mkdir(exist_ok=True)
-    run("mount", "-t", "overlay", "overlay", "-o", f"lowerdir={ETC},upperdir={folder}/etc,workdir={folder}/work", ETC)
+    run(
+        "mount",
+        "-t",
+        "overlay",
+        "overlay",
+        "-o",
+        f"lowerdir={ETC},upperdir={folder}/etc,workdir={folder}/work",
+        ETC,
+    )
     run("mount", "--bind", folder / "state", STATE)
     run("mount", "-t", "tmpfs", "-o", "mode=755", "tmpfs", RUN)
     run("ip", "link", "set", "lo", "up")
@@ -41,7 +53,9 @@ def mount(folder: Path) -> None:
     for name, owner in OWNERS.items():
         own_folder(STATE / name, owner)
     own_folder(RUN / "postgresql", "postgres")
-    own_folder(RUN / "pagelog-runner", "pagelog-run")  # it makes its socket there, as no systemd does
+    own_folder(
+        RUN / "pagelog-runner", "pagelog-run"
+    )  # it makes its socket there, as no systemd does
     (RUN / "pagelog-runner").chmod(0o755)
 
 
@@ -60,10 +74,16 @@ class Unit:
     @classmethod
     def read(cls, name: str) -> Unit:
         own, debian = ETC / "systemd/system", Path("/lib/systemd/system")
-        first = next(folder / f"{name}.service" for folder in (own, debian) if (folder / f"{name}.service").is_file())
+        first = next(
+            folder / f"{name}.service"
+            for folder in (own, debian)
+            if (folder / f"{name}.service").is_file()
+        )
         found: dict[str, list[str]] = {}
         for file in (first, *sorted((own / f"{name}.service.d").glob("*.conf"))):
-            for key, value in re.findall(r"^(\w+)=(.*)$", file.read_text().replace("\\\n", " "), flags=re.M):
+            for key, value in re.findall(
+                r"^(\w+)=(.*)$", file.read_text().replace("\\\n", " "), flags=re.M
+            ):
                 found.setdefault(key, []).append(value)
         return cls(name, found)
 
@@ -80,8 +100,13 @@ class Unit:
         lines = self.directives.get("Environment", [])
         for file in self.directives.get("EnvironmentFile", []):
             place = Path(self.specified(file.removeprefix("-")))
-            lines = lines + (place.read_text().splitlines() if place.exists() or not file.startswith("-") else [])
-        return {key: self.specified(value) for key, value in re.findall(r"^(\w+)=(.*)$", "\n".join(lines), flags=re.M)}
+            lines = lines + (
+                place.read_text().splitlines() if place.exists() or not file.startswith("-") else []
+            )
+        return {
+            key: self.specified(value)
+            for key, value in re.findall(r"^(\w+)=(.*)$", "\n".join(lines), flags=re.M)
+        }
 
     def start(self, log: Path) -> int:
         """The process that runs it now."""
@@ -89,20 +114,45 @@ class Unit:
         if self.last("StateDirectory"):
             own_folder(STATE / self.last("StateDirectory"), user)
         folder = self.specified(self.last("WorkingDirectory", "/"))
-        line = re.sub(r"\$(?:\{(\w+)\}|(\w+))", lambda found: own[found[1] or found[2]], self.specified(self.last("ExecStart")))
-        words = ["env", "--chdir", folder, "setpriv", "--reuid", user, "--regid", user, "--init-groups", *line.split()]
+        line = re.sub(
+            r"\$(?:\{(\w+)\}|(\w+))",
+            lambda found: own[found[1] or found[2]],
+            self.specified(self.last("ExecStart")),
+        )
+        words = [
+            "env",
+            "--chdir",
+            folder,
+            "setpriv",
+            "--reuid",
+            user,
+            "--regid",
+            user,
+            "--init-groups",
+            *line.split(),
+        ]
         # No Popen, which may take its exit status before `main` does.
-        return os.posix_spawnp("env", words, PROGRAMS | own, file_actions=[
-            (os.POSIX_SPAWN_OPEN, 0, os.devnull, os.O_RDONLY, 0),
-            (os.POSIX_SPAWN_OPEN, 1, log, os.O_WRONLY | os.O_CREAT | os.O_APPEND, 0o644), (os.POSIX_SPAWN_DUP2, 1, 2),
-        ])  # fmt: skip
+        return os.posix_spawnp(
+            "env",
+            words,
+            PROGRAMS | own,
+            file_actions=[
+                (os.POSIX_SPAWN_OPEN, 0, os.devnull, os.O_RDONLY, 0),
+                (os.POSIX_SPAWN_OPEN, 1, log, os.O_WRONLY | os.O_CREAT | os.O_APPEND, 0o644),
+                (os.POSIX_SPAWN_DUP2, 1, 2),
+            ],
+        )
 
     def is_restarted(self, status: int) -> bool:
         """Whether systemd would start it again, now that its process has ended so."""
         how, code = self.last("Restart", "no"), os.waitstatus_to_exitcode(status)
         if str(code) in self.last("RestartPreventExitStatus").split():
             return False
-        return how == "always" or (how == "on-failure" and code != 0) or (how == "on-abnormal" and code < 0)
+        return (
+            how == "always"
+            or (how == "on-failure" and code != 0)
+            or (how == "on-abnormal" and code < 0)
+        )
 
 
 def main(folder: Path) -> None:

@@ -32,7 +32,15 @@ def token(principal: int) -> str:
 
 
 def writer(keepers: list[str]) -> NamedPrimary:
-    return Primary.named(NAME, keepers=keepers, principal=2, token=token(2), operator=(1, token(1)), patience=PATIENCE, timeout=TIMEOUT)
+    return Primary.named(
+        NAME,
+        keepers=keepers,
+        principal=2,
+        token=token(2),
+        operator=(1, token(1)),
+        patience=PATIENCE,
+        timeout=TIMEOUT,
+    )
 
 
 def write(books: Books, keepers: list[str], stop: Path) -> None:
@@ -59,7 +67,15 @@ def read(books: Books, keepers: list[str], stop: Path) -> None:
     """Follows what is durable."""
     position = 1
     while not stop.exists():
-        with Reader.named(NAME, keepers=keepers, principal=3, token=token(3), durable_only=True, patience=PATIENCE, timeout=TIMEOUT) as reader:
+        with Reader.named(
+            NAME,
+            keepers=keepers,
+            principal=3,
+            token=token(3),
+            durable_only=True,
+            patience=PATIENCE,
+            timeout=TIMEOUT,
+        ) as reader:
             try:
                 for block in reader.blocks(position, idle=0.05, stop=stop.exists):
                     books.note("read", position=block.lsn, text=text_of(block))

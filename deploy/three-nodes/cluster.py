@@ -57,7 +57,11 @@ class Server:
 
 def server_of(member: dict[str, object]) -> Server:
     lag = member.get("lag", 0)
-    return Server(str(member["role"]), int(str(member.get("timeline", 0))), lag if isinstance(lag, int) else None)
+    return Server(
+        str(member["role"]),
+        int(str(member.get("timeline", 0))),
+        lag if isinstance(lag, int) else None,
+    )
 
 
 class Cluster:
@@ -72,11 +76,17 @@ class Cluster:
         for name in names:
             members = asked(f"{ADDRESSES[name]}:8008", "/cluster").get("members")
             if isinstance(members, list):
-                return {member["name"]: server_of(member) for member in members if member["state"] == "running"}
+                return {
+                    member["name"]: server_of(member)
+                    for member in members
+                    if member["state"] == "running"
+                }
         return {}
 
     def leader(self, names: Iterable[str] = ADDRESSES) -> str | None:
-        return next((name for name, server in self.servers(names).items() if server.role == "leader"), None)
+        return next(
+            (name for name, server in self.servers(names).items() if server.role == "leader"), None
+        )
 
     # Keepers.
 
@@ -96,8 +106,13 @@ class Cluster:
     def has_quick_way(self) -> bool:
         """Whether a session asks now, or has asked last, for what the quick way alone asks: to keep one block."""
         try:
-            with psycopg.connect(plain_url(self._url), target_session_attrs="read-write") as connection:
-                found = connection.execute("SELECT count(*) FROM pg_stat_activity WHERE query LIKE %s AND pid <> pg_backend_pid()", (ONE_BLOCK,))
+            with psycopg.connect(
+                plain_url(self._url), target_session_attrs="read-write"
+            ) as connection:
+                found = connection.execute(
+                    "SELECT count(*) FROM pg_stat_activity WHERE query LIKE %s AND pid <> pg_backend_pid()",
+                    (ONE_BLOCK,),
+                )
                 return found.fetchall() != [(0,)]
         except psycopg.Error:
             return False
@@ -116,7 +131,11 @@ class Cluster:
 
         def is_held() -> bool:
             row = self.row()
-            found[:] = [row.holder] if row is not None and row.holder is not None and row.address is not None else []
+            found[:] = (
+                [row.holder]
+                if row is not None and row.holder is not None and row.address is not None
+                else []
+            )
             return bool(found)
 
         eventually(is_held, "a holder")
@@ -131,14 +150,24 @@ class Cluster:
 
     def is_well(self) -> bool:
         """Whether each machine has an etcd with a quorum, a server of PostgreSQL that leads or follows, and a keeper that follows."""
-        etcds = [asked(f"{address}:2379", "/health").get("health") == "true" for address in ADDRESSES.values()]
-        return all(etcds) and all(self._servers_follow(name) for name in ADDRESSES) and self._keepers_follow()
+        etcds = [
+            asked(f"{address}:2379", "/health").get("health") == "true"
+            for address in ADDRESSES.values()
+        ]
+        return (
+            all(etcds)
+            and all(self._servers_follow(name) for name in ADDRESSES)
+            and self._keepers_follow()
+        )
 
     def _servers_follow(self, name: str) -> bool:
         """Whether two servers follow the third, by what Patroni of this machine says: one that was cut off has another timeline."""
         servers = self.servers([name]).values()
-        return (sorted(server.role for server in servers) == ["leader", "replica", "sync_standby"]
-                and len({server.timeline for server in servers}) == 1 and all(server.lag is not None and server.lag < NEAR for server in servers))  # fmt: skip
+        return (
+            sorted(server.role for server in servers) == ["leader", "replica", "sync_standby"]
+            and len({server.timeline for server in servers}) == 1
+            and all(server.lag is not None and server.lag < NEAR for server in servers)
+        )
 
     def _keepers_follow(self) -> bool:
         """Whether the two keepers that do not hold the database have what is archived now."""
@@ -149,7 +178,11 @@ class Cluster:
         deadline = time.monotonic() + 5
         while time.monotonic() < deadline:
             look = self._look()
-            if look is not None and {each.keeper for each in look.standbys_of(row.id) if each.reached >= wanted} >= others:
+            if (
+                look is not None
+                and {each.keeper for each in look.standbys_of(row.id) if each.reached >= wanted}
+                >= others
+            ):
                 return True
             time.sleep(0.2)
         return False
@@ -158,7 +191,9 @@ class Cluster:
         """All blocks of the database, in order; they have been compared with the digest of them."""
         row = self.row()
         assert row is not None
-        found = [block for piece in self._referee.blocks(row.id, 1, row.archived) for block in piece]
+        found = [
+            block for piece in self._referee.blocks(row.id, 1, row.archived) for block in piece
+        ]
         if digest(b"", found) != row.chain:
             raise SystemExit("trial: the digest of the archived blocks is another one")
         return found

@@ -16,7 +16,9 @@ ADDRESSES = {"a": "10.77.0.1", "b": "10.77.0.2", "c": "10.77.0.3"}
 
 def ip(*words: object) -> str:
     """What the command `ip` prints."""
-    return subprocess.run(["ip", *map(str, words)], check=True, capture_output=True, text=True).stdout
+    return subprocess.run(
+        ["ip", *map(str, words)], check=True, capture_output=True, text=True
+    ).stdout
 
 
 def make_bridge() -> None:
@@ -43,10 +45,26 @@ class Node:
     def start(self) -> None:
         """Switches it on, with its link."""
         self.join()
-        words = ["ip", "netns", "exec", self.name, "unshare", "--mount", "--pid", "--fork", "--kill-child", "--mount-proc",
-                 sys.executable, "-B", HERE / "boot.py", self.folder]  # fmt: skip
+        words = [
+            "ip",
+            "netns",
+            "exec",
+            self.name,
+            "unshare",
+            "--mount",
+            "--pid",
+            "--fork",
+            "--kill-child",
+            "--mount-proc",
+            sys.executable,
+            "-B",
+            HERE / "boot.py",
+            self.folder,
+        ]
         with (self.folder / "boot.log").open("a") as log:
-            self._first = subprocess.Popen(list(map(str, words)), stdin=subprocess.DEVNULL, stdout=log, stderr=log)
+            self._first = subprocess.Popen(
+                list(map(str, words)), stdin=subprocess.DEVNULL, stdout=log, stderr=log
+            )
 
     def kill(self) -> None:
         """Its power goes: its link first, so that nobody is told, and then all of its processes at once."""

@@ -47,9 +47,11 @@ def leave_alone(node: Node, others: list[Node]) -> None:
 
 
 FAULTS: dict[str, tuple[Callable[[Node, list[Node]], None], Callable[[Node], None]]] = {
-    "kill": (lambda node, _: node.kill(), Node.start), "cut": (lambda node, _: node.cut(), Node.join),
-    "stop": (lambda node, _: node.stop(), Node.go_on), "alone": (leave_alone, Node.start),
-}  # fmt: skip
+    "kill": (lambda node, _: node.kill(), Node.start),
+    "cut": (lambda node, _: node.cut(), Node.join),
+    "stop": (lambda node, _: node.stop(), Node.go_on),
+    "alone": (leave_alone, Node.start),
+}
 
 
 @dataclass(frozen=True)
@@ -72,27 +74,40 @@ class Books:
     def longest_pause(self, who: str, what: str, since: float) -> float:
         """The longest time between two things that it was told, of which the later came after `since`."""
         times = self.times(who, what)
-        return max((later - earlier for earlier, later in zip(times, times[1:]) if later > since), default=0.0)
+        return max(
+            (later - earlier for earlier, later in zip(times, times[1:]) if later > since),
+            default=0.0,
+        )
 
 
 class Trial:
     def __init__(self, folder: Path, program: str) -> None:
-        subprocess.run(["mount", "-t", "tmpfs", "tmpfs", "/run"], check=True)  # the names of network namespaces stand in it
+        subprocess.run(
+            ["mount", "-t", "tmpfs", "tmpfs", "/run"], check=True
+        )  # the names of network namespaces stand in it
         self.folder, self.began = folder, time.monotonic()
         self.books, self.clients = Books(folder), dict[str, subprocess.Popen[bytes]]()
         install(folder, program)
         make_bridge()
         machines = [f"{name}={address}" for name, address in ADDRESSES.items()]
-        subprocess.run([sys.executable, "-B", HERE / "configure", folder / "machines", *machines], check=True, stdout=subprocess.DEVNULL)
+        subprocess.run(
+            [sys.executable, "-B", HERE / "configure", folder / "machines", *machines],
+            check=True,
+            stdout=subprocess.DEVNULL,
+        )
         (folder / "machines").chmod(0o711)
         for name in ADDRESSES:
             for unit in UNITS:
                 shutil.copy(unit, folder / "machines" / name / "etc" / "systemd" / "system")
         self.nodes = {name: Node(name, folder / "machines" / name) for name in ADDRESSES}
-        self.keeper_file = folder / "keeper.toml"  # outside of the machines the CA has another place
+        self.keeper_file = (
+            folder / "keeper.toml"
+        )  # outside of the machines the CA has another place
         self.keeper_file.touch(mode=0o600)
         text = (folder / "machines" / "a" / "etc" / "pagelog" / "keeper.toml").read_text()
-        self.keeper_file.write_text(text.replace("/etc/patroni/ca.pem", str(folder / "machines" / "ca.pem")))
+        self.keeper_file.write_text(
+            text.replace("/etc/patroni/ca.pem", str(folder / "machines" / "ca.pem"))
+        )
         self.cluster = Cluster(self.keeper_file)
 
     def say(self, text: str) -> None:
@@ -100,7 +115,11 @@ class Trial:
 
     def word(self, *words: object) -> bool:
         """Whether a word of pagelogctl succeeds."""
-        done = subprocess.run(["pagelogctl", *map(str, words), "--credentials", self.keeper_file], capture_output=True, text=True)
+        done = subprocess.run(
+            ["pagelogctl", *map(str, words), "--credentials", self.keeper_file],
+            capture_output=True,
+            text=True,
+        )
         return done.returncode == 0
 
     def start(self) -> None:
@@ -111,7 +130,15 @@ class Trial:
             raise SystemExit("trial: the database was not made")
         eventually(self.cluster.is_well, "three machines that are well")
         for what in ("write", "read"):
-            words = [sys.executable, "-B", HERE / "clients.py", what, self.folder / what, self.folder / f"{what}.stop", ",".join(KEEPERS)]
+            words = [
+                sys.executable,
+                "-B",
+                HERE / "clients.py",
+                what,
+                self.folder / what,
+                self.folder / f"{what}.stop",
+                ",".join(KEEPERS),
+            ]
             self.clients[what] = subprocess.Popen(words)
         eventually(lambda: len(self.books.times("read", "read")) > GO_ON, "a reader that reads")
         eventually(self.cluster.has_quick_way, "the quick way")
@@ -137,7 +164,11 @@ class Trial:
         node = self.node_for(word)
         eventually(self.cluster.is_well, "three machines that are well")
         do, undo = FAULTS[fault]
-        generation, leads, holds = self.cluster.generation(), self.cluster.leader() == node.name, self.cluster.holder() == node.name
+        generation, leads, holds = (
+            self.cluster.generation(),
+            self.cluster.leader() == node.name,
+            self.cluster.holder() == node.name,
+        )
         others = [each for each in self.nodes.values() if each is not node]
         self.say(f"{fault} {node.name}; {self.holder_and_leader()}")
         began = time.monotonic()
@@ -155,7 +186,10 @@ class Trial:
         self.say(f"  {self.pauses(began)}; others had taken over after {went_on - began:.1f} s")
 
     def pauses(self, since: float) -> str:
-        writer, reader = (self.books.longest_pause(*what, since) for what in (("write", "durable"), ("read", "read")))
+        writer, reader = (
+            self.books.longest_pause(*what, since)
+            for what in (("write", "durable"), ("read", "read"))
+        )
         return f"longest pause: writer {writer:.1f} s, reader {reader:.1f} s"
 
     def stop(self, what: str) -> None:
@@ -175,22 +209,38 @@ class Trial:
         for violation in found[:20]:
             print(f"violation: {violation}")
         counts = Counter(line["what"] for line in self.books.lines("write"))
-        self.say(f"{counts['durable']} commits durable, {counts['lost']} lost before they were, {counts['doubt']} in doubt; {self.pauses(0)}")
-        self.say(f"{len(texts)} blocks in the database, of generation {self.cluster.generation()}: {len(found)} violations")
+        self.say(
+            f"{counts['durable']} commits durable, {counts['lost']} lost before they were, {counts['doubt']} in doubt; {self.pauses(0)}"
+        )
+        self.say(
+            f"{len(texts)} blocks in the database, of generation {self.cluster.generation()}: {len(found)} violations"
+        )
         return 1 if found or not counts["durable"] else 0
 
 
-def violations(texts: list[str], written: list[dict[str, object]], read: list[dict[str, object]]) -> list[str]:
+def violations(
+    texts: list[str], written: list[dict[str, object]], read: list[dict[str, object]]
+) -> list[str]:
     """What was told to a client and is not so in the database, whose texts these are, in order."""
     there = dict(enumerate(texts, 1))
-    found = [f"{text!r} is there {count} times" for text, count in Counter(texts).items() if count > 1]
+    found = [
+        f"{text!r} is there {count} times" for text, count in Counter(texts).items() if count > 1
+    ]
     for line in [line for line in (*written, *read) if line["what"] in ("durable", "read")]:
         if there.get(line["position"]) != line["text"]:  # type: ignore[call-overload]
             found.append(f"{line}, and the database has {there.get(line['position'])!r}")  # type: ignore[call-overload]
-    found += [f"{line}, and it is there" for line in written if line["what"] == "lost" and line["text"] in set(texts)]
+    found += [
+        f"{line}, and it is there"
+        for line in written
+        if line["what"] == "lost" and line["text"] in set(texts)
+    ]
     for who, lines in (("writer", written), ("reader", read)):
         positions = [int(line["position"]) for line in lines if line["what"] in ("durable", "read")]  # type: ignore[call-overload]
-        found += [f"the {who} was told position {after} after {before}" for before, after in zip(positions, positions[1:]) if after <= before]
+        found += [
+            f"the {who} was told position {after} after {before}"
+            for before, after in zip(positions, positions[1:])
+            if after <= before
+        ]
     return found
 
 
@@ -199,7 +249,9 @@ def install(folder: Path, program: str) -> None:
     programs = folder / "programs"
     programs.mkdir()
     shutil.copy(program, programs / "pagelog")
-    shutil.copytree(SOURCE, folder / "python" / "pagelog", ignore=shutil.ignore_patterns("__pycache__"))
+    shutil.copytree(
+        SOURCE, folder / "python" / "pagelog", ignore=shutil.ignore_patterns("__pycache__")
+    )
     (programs / "pagelogctl").write_text(f'#!/bin/sh\nexec {sys.executable} -B -m pagelog "$@"\n')
     for file in programs.iterdir():
         file.chmod(0o755)
@@ -210,7 +262,9 @@ def step(word: str) -> tuple[str, str]:
     """FAULT:NODE."""
     fault, _, node = word.partition(":")
     if fault not in FAULTS or node not in (*ADDRESSES, "holder", "leader", "both"):
-        raise argparse.ArgumentTypeError(f"{word!r} is none of kill, cut, stop and alone, with :a, :b, :c, :holder, :leader or :both")
+        raise argparse.ArgumentTypeError(
+            f"{word!r} is none of kill, cut, stop and alone, with :a, :b, :c, :holder, :leader or :both"
+        )
     return fault, node
 
 
@@ -222,7 +276,9 @@ def main() -> int:
     told = parser.parse_intermixed_args()
     if quick_calls.library() is None:
         sys.exit("trial: the quick way is not built")
-    signal.signal(signal.SIGTERM, lambda *_: sys.exit("trial: it was ended"))  # with this first process all others end
+    signal.signal(
+        signal.SIGTERM, lambda *_: sys.exit("trial: it was ended")
+    )  # with this first process all others end
     trial = Trial(told.folder, os.environ["PAGELOG"])
     try:
         trial.start()
