@@ -686,15 +686,16 @@ class Together(Near):
     def test_each_look_is_at_one_transaction_over_deaths_of_all(self) -> None:
         servers = self.servers()
         self.wrong: list[object] = []
-        self.copied: list[int] = []
         ended = threading.Event()
         with self.keeping.primary() as primary:
             primary.append(Put(1, 0, b"%08d" % 0), Put(2, 0, b"%08d" % 0))
             self.follows_to(primary.commit(durable=True))
             eventually(lambda: self.keeping.place().pages == 1, "that keepers tell of it")
             readers = ({}, {"durable_only": True}, {"pages": "only"})
+            self.copied = [0] * len(readers)
             threads = [
-                threading.Thread(target=self.look, args=(options, ended)) for options in readers
+                threading.Thread(target=self.look, args=(number, options, ended))
+                for number, options in enumerate(readers)
             ]
             for thread in threads:
                 thread.start()
@@ -709,14 +710,19 @@ class Together(Near):
                             if follower._process is not None:
                                 os.kill(follower._process.pid, signal.SIGKILL)
                 primary.durable(position)
+                eventually(
+                    lambda: min(self.copied) > 20
+                    or not all(map(threading.Thread.is_alive, threads)),
+                    "that each reader has pages of a page server",
+                )
             finally:
                 ended.set()
                 for thread in threads:
                     thread.join()
         self.assertEqual(self.wrong, [])
-        self.assertEqual([count > 20 for count in self.copied], [True] * len(readers), self.copied)
+        self.assertGreater(min(self.copied), 20, self.copied)  # else a reader broke off
 
-    def look(self, options: dict[str, Any], ended: threading.Event) -> None:
+    def look(self, number: int, options: dict[str, Any], ended: threading.Event) -> None:
         with self.keeping.reader(**options) as reader:
             last = seen = 0
             while not ended.is_set():
@@ -730,8 +736,8 @@ class Together(Near):
                 if first != second or (options and int(first) < seen):
                     self.wrong.append((options, end, first, second, seen))
                 last, seen = end, int(first)
-            assert reader._copies is not None
-            self.copied.append(reader._copies.asked_of)
+                assert reader._copies is not None
+                self.copied[number] = reader._copies.asked_of
 
 
 if __name__ == "__main__":
