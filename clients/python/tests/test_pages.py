@@ -643,7 +643,9 @@ class Told(Served):
             os.kill(self.keeping.pid(), signal.SIGKILL)
             self.comes(last := self.commit(primary, 201))
             quick = self.follower()._looks
-        self.assertLess(sorted(took)[len(took) // 2], 0.1)
+        self.assertLess(
+            sorted(took)[len(took) // 2], 0.9
+        )  # a question is answered after 1 s anyhow
         self.assertLess(quick, 20)
         reader = self.reader(run, address)
         for n in range(198, 202):
@@ -742,13 +744,21 @@ class Told(Served):
             other = f"of={'0' * 8}-{'0' * 4}-4{'0' * 3}-8{'0' * 3}-{'0' * 12}"
             self.assertEqual(asked(f"confirmed shop 0 {other}"), ["elsewhere", "shop", "0", other])
             self.assertEqual(asked("confirmed shop 0"), ["elsewhere", "shop", "0"])
-            line.write(f"confirmed shop {position} {of}\nconfirmed shop {position} {of}\n")
+            told = ["confirmed", "shop", str(position)]
+
+            def is_at_once() -> bool:
+                """The first question is answered as there is a second, which is after a second."""
+                line.write(f"confirmed shop {position} {of}\nconfirmed shop {position} {of}\n")
+                line.flush()
+                began = time.monotonic()
+                self.assertEqual(line.readline().split()[:3], told)
+                took = time.monotonic() - began
+                self.assertEqual(line.readline().split()[:3], told)
+                return took < 0.9
+
+            eventually(is_at_once, "an answer before its time")
+            line.write(f"confirmed shop {position} {of}\n")
             line.flush()
-            began = time.monotonic()
-            self.assertEqual(
-                line.readline().split()[:3], ["confirmed", "shop", str(position)]
-            )  # the first, as there is a second
-            self.assertLess(time.monotonic() - began, 0.9)
             after = self.commit(primary, 1)
             self.assertEqual(line.readline().split()[:3], ["confirmed", "shop", str(after)])
 
