@@ -1570,7 +1570,10 @@ def test_a_commit_that_finds_no_room_is_not_done():
         same("told", "SQLITE_IOERR", code)
         same("it is not there", number, one(connection, "select count(*) from t"))
         keeper.is_archiving = True
-        fill(connection, 1, size=6000, first=number)
+        until(
+            lambda: code_of(lambda: fill(connection, 1, size=6000, first=number)) is None,
+            "room, once it is archived",
+        )
         same(
             "all of it",
             ([*range(number + 1)], "ok"),
