@@ -13,6 +13,7 @@ MEASURED = "clients/c", "crates"
 HEAD = """# What README says of speed, by bench/sqlite.py --note: the last commit that changed {}, whether it ran before all else of the machine
 # (chrt -r), and medians a second.
 commit = "{}"
+build = "{}"
 processors = {}
 load = {:.0f}
 first = {}
@@ -23,11 +24,12 @@ def git(*arguments):
     return subprocess.run(["git", *arguments], cwd=ROOT, capture_output=True, text=True)
 
 
-def note(processors, load, systems):
-    """Writes the medians of each system's rates, by its name."""
-    commit = git("log", "-1", "--format=%H", "--", *MEASURED).stdout.strip()
+def note(build, processors, load, systems):
+    """Writes the medians of each system's rates, by its name; `build` says what the program is, as `quick build`."""
+    commit = git("log", "-1", "--format=%H", "--", *MEASURED, ":!*.md").stdout.strip()
     was_first = os.sched_getscheduler(0) in (os.SCHED_RR, os.SCHED_FIFO)
-    lines = [HEAD.format(" or ".join(MEASURED), commit, processors, load, str(was_first).lower())]
+    was_first = str(was_first).lower()
+    lines = [HEAD.format(" or ".join(MEASURED), commit, build, processors, load, was_first)]
     for name, system in systems.items():
         medians = {
             column: statistics.median(found) for column, found in system.rates.items() if found
@@ -48,7 +50,7 @@ def sentences():
         found[name] for name in ("service", "follower", "synced", "stock")
     )
     text = (
-        f"Commit {found['commit'][:8]}, {found['processors']} processors, load {found['load']}"
+        f"Commit {found['commit'][:8]}, {found['build']}, {found['processors']} processors, load {found['load']}"
         f"{', run before all else (`chrt`)' if found['first'] else ''}; medians a second (`bench/sqlite.py`). SQLite's COMMITs of "
         f"one row over a service: {service['inserts']:,}; of stock SQLite in WAL with fsync: {synced['inserts']:,}, without: "
         f"{stock['inserts']:,}. Warm reads: {service['warm']:,}, stock {stock['warm']:,}. A reader's cold reads: {follower['cold']:,}, "

@@ -1,7 +1,7 @@
 """Times SQLite over the service beside plain SQLite in WAL, with synchronous=full and off, on a file.
 
-Usage: python3 bench/sqlite.py [SHARE | --short | --keepers | --pairs] [--idle-polls N] [--note]     (1; a tenth of the work with 0.1;
---short is 0.3, a minute or two; --keepers is what bench/sqlite_keepers.py says, --pairs what bench/sqlite_pairs.py does, and nothing
+Usage: python3 bench/sqlite.py [SHARE | --short | --keepers | --pairs] [--idle-polls N] [--note BUILD]     (1; a tenth of the work with
+0.1; --short is 0.3, a minute or two; --keepers is what bench/sqlite_keepers.py says, --pairs what bench/sqlite_pairs.py does, and nothing
 else; --note writes what README says of it: bench/figures.py)
 
 The service is crates/pagelog/out/pagelog, or the program that PAGELOG names; where --idle-polls is given, it is given that
@@ -87,7 +87,9 @@ def words():
         metavar="N",
         help="the option of pagelog serve, which has a default",
     )
-    parser.add_argument("--note", action="store_true", help="write bench/figures.toml")
+    parser.add_argument(
+        "--note", metavar="BUILD", help="write bench/figures.toml, of a program that is so called"
+    )
     return parser.parse_args()
 
 
@@ -415,7 +417,7 @@ def note_figures(systems):
 
     _, service, _, follower, synced, stock = systems
     named = {"service": service, "follower": follower, "synced": synced, "stock": stock}
-    figures.note(os.cpu_count(), os.getloadavg()[0], named)
+    figures.note(words().note, os.cpu_count(), os.getloadavg()[0], named)
 
 
 def measure_writer(aims, work, follower):
