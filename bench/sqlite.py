@@ -1,7 +1,8 @@
 """Times SQLite over the service beside plain SQLite in WAL, with synchronous=full and off, on a file.
 
-Usage: python3 bench/sqlite.py [SHARE | --short | --keepers | --pairs] [--idle-polls N]     (1; a tenth of the work with 0.1; --short is
-0.3, a minute or two; --keepers is what bench/sqlite_keepers.py says, --pairs what bench/sqlite_pairs.py does, and nothing else)
+Usage: python3 bench/sqlite.py [SHARE | --short | --keepers | --pairs] [--idle-polls N] [--note BUILD]     (1; a tenth of the work with
+0.1; --short is 0.3, a minute or two; --keepers is what bench/sqlite_keepers.py says, --pairs what bench/sqlite_pairs.py does, and nothing
+else; --note writes what README says of it: bench/figures.py)
 
 The service is crates/pagelog/out/pagelog, or the program that PAGELOG names; where --idle-polls is given, it is given that
 option. The client is built by `make -C clients/c`.
@@ -85,6 +86,9 @@ def words():
         type=int,
         metavar="N",
         help="the option of pagelog serve, which has a default",
+    )
+    parser.add_argument(
+        "--note", metavar="BUILD", help="write bench/figures.toml, of a program that is so called"
     )
     return parser.parse_args()
 
@@ -407,6 +411,15 @@ def systems_of(first, second, third):
     return [checked, trusted, unwaited, follower, plain("full"), plain("off")]
 
 
+def note_figures(systems):
+    sys.path.insert(0, str(ROOT / "bench"))
+    import figures
+
+    _, service, _, follower, synced, stock = systems
+    named = {"service": service, "follower": follower, "synced": synced, "stock": stock}
+    figures.note(words().note, os.cpu_count(), os.getloadavg()[0], named)
+
+
 def measure_writer(aims, work, follower):
     """What its transactions cost, and how soon a follower sees them."""
     sent, trips = cost(work, "an update of one number", UPDATE)
@@ -482,6 +495,8 @@ def main():
         systems = systems_of(first, second, third)
         measure(systems)
         show(systems)
+        if words().note:
+            note_figures(systems)
         add_rates(aims, systems)
         measure_writer(aims, systems[1].work, reader(second.address))
     measure_speedtest(aims)

@@ -12,7 +12,6 @@ WORDS = {
     "crates/pl_desk/README.md": 1050,
     "crates/pl_log/README.md": 1500,
     "crates/pl_wire/README.md": 1450,
-    "docs/CLIENT.md": 2650,
 }
 DOCS_WORDS, CRATE_WORDS, ALL_WORDS = 2500, 1150, 62000
 # How many rows of a page's tables may have more characters than WIDTH. Tables that are printed are not counted. They only fall too.

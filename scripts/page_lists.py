@@ -1,9 +1,13 @@
-"""The lists that scripts/pages prints into pages of the whole: the worked rows, and the crates."""
+"""What scripts/pages prints into pages of the whole: the worked rows, the crates, and README's figures."""
 
 import re
+import sys
 import textwrap
 
 from crate_source import ROOT
+
+sys.path.append(str(ROOT / "bench"))
+import figures
 
 
 def rows_of_file(file):
@@ -49,5 +53,15 @@ def with_printed_crates(page):
     return "\n".join(lines[:start] + crate_rows() + lines[end:]) + "\n"
 
 
+def with_printed_figures(page):
+    """README with the figures of bench/figures.toml behind the heading How fast, up to the next empty line."""
+    before, heading, after = page.partition("## How fast\n\n")
+    return before + heading + figures.sentences() + after[after.index("\n\n") :]
+
+
 # The pages of which a part is printed, beside those of crates.
-PRINTED = {"docs/WORKED_ROWS.md": with_printed_rows, "docs/ARCHITECTURE.md": with_printed_crates}
+PRINTED = {
+    "README.md": with_printed_figures,
+    "docs/WORKED_ROWS.md": with_printed_rows,
+    "docs/ARCHITECTURE.md": with_printed_crates,
+}
