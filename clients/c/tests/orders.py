@@ -22,7 +22,7 @@ from stub_keeper import Generation, StubKeeper
 from model import Malformed, Model, read_request
 from table_text import Texts
 
-SEEDS = 20_000 if LONG else 60
+SEEDS = 5_000 if LONG else 100
 EVENTS, TRANSACTIONS = 8, 10
 SIZES = (10, 10, 200, 3000, 9000, 40_000)
 LEVELS = (("full", {}), ("normal", {}), ("off", {"async_commits": 8}))
