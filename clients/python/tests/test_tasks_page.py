@@ -5,6 +5,7 @@ from __future__ import annotations
 import os
 import re
 import signal
+import sqlite3
 import subprocess
 import sys
 import tempfile
@@ -20,7 +21,7 @@ from test_postgresql_page import Paged
 
 PAGE = (TOP / "docs" / "TASKS.md").read_text()
 BLOCKS = re.findall(r"^```sh\n(.*?)^```", PAGE, flags=re.M | re.S)
-_, KEEPER, SQL, INSERT, THEN, ROWS, GONE, DROP, DELETE, FORGET, CANCEL = BLOCKS
+_, KEEPER, SQL, INSERT, THEN, ROWS, GONE, DROP, BACKUP, DELETE, FORGET, CANCEL = BLOCKS
 
 
 class FromNothing(unittest.TestCase):
@@ -51,6 +52,7 @@ class FromNothing(unittest.TestCase):
             + SQL
             + INSERT
             + INSERT.replace("create table item(name, price); ", "")
+            + BACKUP
         ).replace("7500", str(port.number))
         self.addCleanup(end_services, folder)
         try:
@@ -73,6 +75,8 @@ class FromNothing(unittest.TestCase):
                 eventually(lambda: not Path(f"/proc/{keeper}").exists(), "the keeper's end")
         self.assertEqual(done.returncode, 0, text)
         self.assertEqual(text.count("bread|3"), 3, text)  # the first sees one, the second two
+        with closing(sqlite3.connect(folder / "copy.db")) as copy:
+            self.assertEqual(copy.execute("SELECT * FROM item").fetchall(), [("bread", 3)] * 2)
 
 
 class Tasks(Paged):
