@@ -210,9 +210,10 @@ class Soak(LongRun):
         services = sum(memory_of(pid) for name in NAMES for pid in self.notes(name).values())
         keepers = sum(memory_of(process.pid) for process in self.keeping.processes.values())
         reports = [
-            report.get("entries_left", self.audit)
+            keeper.report[name].get("entries_left", self.audit)
             for keeper in self.keeping.referee.everything().keepers
-            for report in keeper.report.values()
+            for name in NAMES
+            if name in keeper.report  # what is set aside has a list there
         ]
         points = (
             services / 2**20,
