@@ -133,6 +133,19 @@ void pagelog_file_abandon(struct pagelog_file *file);
  */
 enum pagelog_outcome pagelog_file_open(struct pagelog_file *file);
 
+/* Pages of a transaction that a file has read, and another of the same database may read on. */
+struct pagelog_kept;
+
+/* Takes those out of a file that is freed next, at most so many, those used last; NULL where there are none,
+ * or what it read may not be in the database. */
+struct pagelog_kept *pagelog_file_keep(struct pagelog_file *file, size_t most);
+size_t pagelog_kept_count(const struct pagelog_kept *kept);
+void pagelog_kept_free(struct pagelog_kept *kept);
+
+/* After an open: goes on with them, where their transaction is the newest; or, a reader that follows, where
+ * the log has it: then the next begin asks what came after. Else they are forgotten. Frees `kept`. */
+void pagelog_file_adopt(struct pagelog_file *file, struct pagelog_kept *kept);
+
 /* Makes an open file, which was fenced, the writer of an epoch of its own again, in the name of this
  * operator, and goes on from what was committed meanwhile. What was changed and not committed is undone.
  * After any outcome but DONE it follows. */

@@ -11,6 +11,9 @@
 
 #include <string.h>
 
+/* Blocks: who is so far behind fetches its pages anew. */
+enum { FAR_BEHIND = 512 };
+
 enum { MARK_PAGE = 0, MARK_BYTES = 40, NAME_PLACE = MARK_BYTES, GROUP = 64 };
 
 /* The origin of an end mark: the seed of its session, the length of a text in a byte, and the text. */
