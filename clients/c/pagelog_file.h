@@ -197,6 +197,10 @@ uint64_t pagelog_file_size(const struct pagelog_file *file);
  * a begin, which reports what the log has got. */
 enum pagelog_outcome pagelog_file_commit(struct pagelog_file *file);
 
+/* Who is told that a commit was sent, with its report, and before the reply is there; NULL: nobody. It calls
+ * nothing that changes the file. */
+void pagelog_file_set_sent(struct pagelog_file *file, void (*sent)(void *argument), void *argument);
+
 /* Of a named database: makes the file the writer of an epoch, if it is not, so that what is committed next
  * can only follow what was read. DONE: it may commit; for any other database always. FENCED: another writer
  * has gone on since the begin. Else as of a begin. A commit does so by itself. */

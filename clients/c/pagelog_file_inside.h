@@ -147,6 +147,8 @@ struct pagelog_file {
     const char *reason;
     char words[REASON_BYTES]; /* of a reason that is made of several */
     uint64_t commits, repairs, pages_fetched, pages_copied, blocks_written;
+    void (*tell_sent)(void *argument); /* who is told that blocks were sent; NULL: nobody */
+    void *told_sent;
 };
 
 /* Enters an outcome that the wire did not give, and returns it. */

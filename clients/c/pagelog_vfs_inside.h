@@ -257,6 +257,10 @@ void pagelog_open_connection(struct connection *connection, sqlite3_filename nam
 
 /* ---- pagelog_vfs_durable.c ---- */
 
+/* Before a commit: has the keeper told as soon as it is sent, where it will be waited for until it is
+ * durable. */
+void pagelog_ring_once_sent(struct connection *connection);
+
 /* After a commit: waits until it is durable, where `synchronous` asks for that. Others may use the database
  * meanwhile. */
 int pagelog_wait_until_durable(struct connection *connection);
