@@ -218,6 +218,10 @@ void pagelog_file_hand_over(struct pagelog_file *file, uint32_t epoch, uint64_t 
 /* Of a named database: keepers may have gone on without the run that is read, so that the next begin asks. */
 void pagelog_file_suspect(struct pagelog_file *file);
 
+/* Of a named database, of which the keepers know a later generation: goes there. What is read stays what it
+ * is, or `is_gone` says that it is not there. Else as of a begin. */
+enum pagelog_outcome pagelog_file_move_on(struct pagelog_file *file);
+
 /* Of a named database: it has so many page servers, as keepers have said. */
 void pagelog_file_hear_of_page_servers(struct pagelog_file *file, unsigned count);
 
