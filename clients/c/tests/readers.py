@@ -237,6 +237,8 @@ def test_the_next_connection_goes_on_with_the_pages_of_the_last():
         )
         reads("none", partial(reader, service.address, keep=0), WIDE + 6, True)
         reads("beside it", partial(reader, service.address), WIDE + 6, False)
+        for fetches in (True, False):  # it begins an epoch each time
+            reads("a writer", partial(connect, service.address, 5), WIDE + 6, fetches)
 
 
 def test_a_process_keeps_the_pages_of_four_databases():
