@@ -5,9 +5,10 @@ Usage: python3 bench/cold.py [--rounds N] [--reads N] [--idle-polls N] [ROWS ..]
 The service is crates/pagelog/out/pagelog, or the program that PAGELOG names. The client is built by `make -C clients/c`. The table is
 that of bench/sqlite.py: a text of a hundred bytes, and an index on a random number. Each round has each reader, in an order that is
 drawn, open a connection, and read so many rows by keys that are drawn, the same for all, within one transaction. Plain SQLite's file
-is in WAL, in the system's cache and not in SQLite's; ours is in the service's memory, and the reader (mode=ro, check=50) is a process
-of its own that has nothing of it. Then come the rates of a scan. Beside them are shares of plain SQLite's, round by round: the median,
-and the half of the rounds around it; and how many pages were fetched, and by how many round trips."""
+is in WAL, in the system's cache and not in SQLite's; ours is in the service's memory, and the reader (mode=ro, check=50) has nothing of it
+(keep=0), or, "again", the pages that its process kept when it closed such a reader. Then come the rates of a scan. Beside them are shares
+of plain SQLite's, round by round: the median, and the half of the rounds around it; how many pages were fetched, by how many round trips,
+and what that took of the processor of the service (in its ticks of 10 ms, so it is coarse)."""
 
 import argparse
 import os
@@ -67,6 +68,20 @@ def scan(connection, rows):
     return rows / (time.perf_counter() - began)
 
 
+def fill_process(opened):
+    """Has the process keep all pages."""
+    connection = opened()
+    for text in (SCAN, "select count(*) from t indexed by by_number"):
+        connection.execute(text).fetchone()
+    connection.close()
+
+
+def seconds_of(process):
+    """Of the processor."""
+    words = pathlib.Path(f"/proc/{process}/stat").read_text().rsplit(")", 1)[1].split()
+    return (int(words[11]) + int(words[12])) / os.sysconf("SC_CLK_TCK")
+
+
 def halves(values):
     low, middle, high = statistics.quantiles(values, method="inclusive")
     return f"{middle:.2f} ({low:.2f} to {high:.2f})"
@@ -88,18 +103,22 @@ def measure(rows, given):
             fill(connection, rows)
         pages = writer.execute("pragma page_count").fetchone()[0]
         opened = {
-            "ours": lambda: reader(service.address, check=50),
+            "ours": lambda: reader(service.address, check=50, keep=0),
+            "again": lambda: reader(service.address, check=50),
             "plain": lambda: sqlite3.connect(path, isolation_level=None),
         }
+        fill_process(opened["again"])
         rates = {what: {name: [] for name in opened} for what in ("by key", "scan")}
-        costs = []
+        costs, spent = [], 0.0
         for number in range(given.rounds):
             drawn = random.Random(number)
             keys = [drawn.randrange(rows) + 1 for _ in range(given.reads)]
             for name in drawn.sample(sorted(opened), len(opened)):
                 connection = opened[name]()
+                before = seconds_of(service.process.pid)
                 rates["by key"][name].append(read(connection, keys))
                 if name == "ours":
+                    spent += seconds_of(service.process.pid) - before
                     costs.append(numbers(connection, "pages_fetched", "round_trips"))
                 connection.close()
             for name in drawn.sample(sorted(opened), len(opened)):
@@ -111,11 +130,15 @@ def measure(rows, given):
     fetched, trips = (statistics.median(column) for column in zip(*costs))
     print(f"{rows:,} rows, {pages:,} pages:")
     for what, of in rates.items():
-        share = halves([one / other for one, other in zip(of["ours"], of["plain"])])
-        print(
-            f"  {what}: {statistics.median(of['ours']):,.0f} a second, plain {statistics.median(of['plain']):,.0f}: {share}"
-        )
-    print(f"  by key: {fetched:,.0f} pages fetched in {trips:,.0f} round trips", flush=True)
+        print(f"  {what}: plain {statistics.median(of['plain']):,.0f} a second")
+        for name in ("ours", "again"):
+            share = halves([one / other for one, other in zip(of[name], of["plain"])])
+            print(f"    {name}: {statistics.median(of[name]):,.0f} a second: {share}")
+    each = spent / sum(pages for pages, _ in costs)
+    print(
+        f"  by key: {fetched:,.0f} pages fetched in {trips:,.0f} round trips, {1e6 * each:.1f} us of the service each",
+        flush=True,
+    )
 
 
 def main():

@@ -1,6 +1,6 @@
 """Times several processes that write one table, each a transaction after the other (begin immediate, an insert of a hundred bytes, commit):
-SQLite over a database of keepers (check=50), with synchronous=full and normal, beside PostgreSQL by psycopg and plain SQLite in WAL, in one run and in
-turns. Of each it prints the commits a second, what a commit takes, the least and most commits of a process, and the load.
+SQLite over a database of keepers (check=50), with synchronous=full and normal, beside PostgreSQL by psycopg, MariaDB by mysqlclient where both
+are installed (python3-mysqldb, mariadb-server), and plain SQLite in WAL, in one run and in turns. Of each it prints the commits a second, what a commit takes, the least and most commits of a process, and the load.
 
 Usage: python3 -B bench/writers.py [--seconds S] [--rounds N] [PROCESSES ..]     (1.5 seconds, 3 rounds; 1, 2 and 8 processes)
 
@@ -12,8 +12,10 @@ import contextlib
 import multiprocessing
 import os
 import pathlib
+import shutil
 import sqlite3
 import statistics
+import subprocess
 import sys
 import tempfile
 import time
@@ -32,6 +34,15 @@ class System:
     def __init__(self, name, opened, begin="begin immediate", mark="?"):
         self.name, self.opened, self.begin, self.mark = name, opened, begin, mark
         self.rounds = []
+
+    @property
+    def key(self):
+        """The type of a number that it gives to each row."""
+        if self.mark == "?":
+            return "integer primary key"
+        return (
+            "bigint auto_increment primary key" if "Maria" in self.name else "bigserial primary key"
+        )
 
     def write(self, who, seconds, start, told):
         """A process: how long each commit took. An error ends its transaction, and is counted."""
@@ -89,6 +100,68 @@ class System:
         self.rounds = []
 
 
+class Cursors:
+    """A connection of MySQLdb, which executes by itself as the others do."""
+
+    def __init__(self, connection):
+        self._connection = connection
+
+    def execute(self, text, values=None):
+        cursor = self._connection.cursor()
+        cursor.execute(text, values)
+        return cursor
+
+    def close(self):
+        self._connection.close()
+
+
+@contextlib.contextmanager
+def mariadb(folder):
+    """A server of its own, as it comes: each commit waits for the disk. Yields who opens a connection; None where it is not installed."""
+    try:
+        import MySQLdb
+    except ImportError:
+        MySQLdb = None  # noqa: N806
+    if MySQLdb is None or not shutil.which("mariadbd"):
+        yield None
+        return
+    data, socket = folder / "mariadb", folder / "mariadb.socket"
+    data.mkdir()
+    if os.getuid() == 0:
+        folder.chmod(0o777)  # the server runs as its own user
+        shutil.chown(data, "mysql")
+    user = ["--user=mysql"] if os.getuid() == 0 else []
+    subprocess.run(
+        ["mariadb-install-db", *user, f"--datadir={data}", "--skip-test-db"]
+        + ["--auth-root-authentication-method=normal"],
+        check=True,
+        stdout=subprocess.DEVNULL,
+        stderr=subprocess.DEVNULL,
+    )
+    server = subprocess.Popen(
+        ["mariadbd", "--no-defaults", *user, f"--datadir={data}", f"--socket={socket}"]
+        + ["--skip-networking", f"--pid-file={data}/pid"],
+        stdout=subprocess.DEVNULL,
+        stderr=subprocess.DEVNULL,
+    )
+
+    def opened(**more):
+        connection = MySQLdb.connect(unix_socket=str(socket), user="root", **more)
+        connection.autocommit(True)
+        return Cursors(connection)
+
+    try:
+        for _ in range(300):
+            with contextlib.suppress(MySQLdb.Error):
+                opened().execute("create database bench")
+                break
+            time.sleep(0.1)
+        yield lambda: opened(db="bench")
+    finally:
+        server.terminate()
+        server.wait()
+
+
 def fdatasync_ms(folder):
     taken = []
     with tempfile.TemporaryFile(dir=folder) as file:
@@ -129,7 +202,7 @@ def systems(folder):
         connection.execute(f"pragma synchronous = {level}")
         return connection
 
-    with Keeping(ttl=3.0) as keeping:
+    with Keeping(ttl=3.0) as keeping, mariadb(folder) as maria:
         for name in ("full", "normal"):
             keeping.referee.create(
                 name, (ROOT / "clients" / "c" / "table.toml").read_text(), b"s" * 16
@@ -145,6 +218,8 @@ def systems(folder):
                 "PostgreSQL", lambda: psycopg.connect(keeping.url, autocommit=True), "begin", "%s"
             )
         )
+        if maria:
+            made.append(System("MariaDB", maria, "begin", "%s"))
         for level in ("full", "normal"):
             made.append(
                 System(
@@ -154,9 +229,7 @@ def systems(folder):
             )
         for each in made:
             connection = each.opened()
-            connection.execute(
-                TABLE.format("integer primary key" if each.mark == "?" else "bigserial primary key")
-            )
+            connection.execute(TABLE.format(each.key))
             connection.close()
         yield made
 

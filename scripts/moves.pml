@@ -661,11 +661,14 @@ inline follow() {
 #define GIVE_TURN_EARLY skip
 #endif
 
-/* The block takes its place in the tail before it is sent. */
+/* The block takes its place in the tail before it is sent. The keeper is told as soon as it is, and may have it archived before it is
+ * acknowledged: it archives what is in the log, whoever knows that. */
 // pagelog_mark.c: pagelog_append_ended
                     // ..
                     // enum pagelog_outcome outcome = is_named(file) ? pagelog_hold_blocks(file) : PAGELOG_DONE;
                     // if (outcome != PAGELOG_DONE) return outcome;
+                    // if (file->tell_sent && pagelog_append_unwaited(file->log, file->blocks, file->options.written))
+                    //     file->tell_sent(file->told_sent);
                     // outcome = pagelog_append(file->log, file->blocks, file->options.written);
                     // if (is_named(file)) outcome = pagelog_end_append(file, outcome);
                     // ..

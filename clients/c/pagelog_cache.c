@@ -206,10 +206,14 @@ bool pagelog_cache_has(const struct pagelog_cache *cache, uint32_t page) {
     return frame != NULL;
 }
 
-/* Lets unchanged pages go that were used longest ago. LEAST_PAGES or more stay, so the two used last do. */
-static void make_room(struct pagelog_cache *cache) {
-    while (cache->unchanged.count >= cache->most)
+void pagelog_cache_trim(struct pagelog_cache *cache, size_t most) {
+    while (cache->unchanged.count > most)
         drop_frame(cache, cache->unchanged.oldest);
+}
+
+/* Makes room for one page more. LEAST_PAGES or more are there then, so the two used last stay. */
+static void make_room(struct pagelog_cache *cache) {
+    pagelog_cache_trim(cache, cache->most - 1);
 }
 
 struct pagelog_frame *pagelog_cache_make(struct pagelog_cache *cache, uint32_t page) {

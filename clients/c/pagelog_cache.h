@@ -45,6 +45,9 @@ bool pagelog_cache_changed(const struct pagelog_cache *cache, struct pagelog_fra
 void pagelog_cache_undo(struct pagelog_cache *cache);
 void pagelog_cache_keep(struct pagelog_cache *cache);
 
+/* Lets unchanged pages go that were used longest ago, until there are at most so many. */
+void pagelog_cache_trim(struct pagelog_cache *cache, size_t most);
+
 /* Forgets the pages above `last`, or all pages, changes included. */
 void pagelog_cache_forget_above(struct pagelog_cache *cache, uint32_t last);
 void pagelog_cache_clear(struct pagelog_cache *cache);

@@ -133,6 +133,19 @@ void pagelog_file_abandon(struct pagelog_file *file);
  */
 enum pagelog_outcome pagelog_file_open(struct pagelog_file *file);
 
+/* Pages of a transaction that a file has read, and another of the same database may read on. */
+struct pagelog_kept;
+
+/* Takes those out of a file that is freed next, at most so many, those used last; NULL where there are none,
+ * or what it read may not be in the database. */
+struct pagelog_kept *pagelog_file_keep(struct pagelog_file *file, size_t most);
+size_t pagelog_kept_count(const struct pagelog_kept *kept);
+void pagelog_kept_free(struct pagelog_kept *kept);
+
+/* After an open: goes on with them, where their transaction is the newest; or, a reader that follows, where
+ * the log has it: then the next begin asks what came after. Else they are forgotten. Frees `kept`. */
+void pagelog_file_adopt(struct pagelog_file *file, struct pagelog_kept *kept);
+
 /* Makes an open file, which was fenced, the writer of an epoch of its own again, in the name of this
  * operator, and goes on from what was committed meanwhile. What was changed and not committed is undone.
  * After any outcome but DONE it follows. */
@@ -184,6 +197,10 @@ uint64_t pagelog_file_size(const struct pagelog_file *file);
  * a begin, which reports what the log has got. */
 enum pagelog_outcome pagelog_file_commit(struct pagelog_file *file);
 
+/* Who is told that a commit was sent, with its report, and before the reply is there; NULL: nobody. It calls
+ * nothing that changes the file. */
+void pagelog_file_set_sent(struct pagelog_file *file, void (*sent)(void *argument), void *argument);
+
 /* Of a named database: makes the file the writer of an epoch, if it is not, so that what is committed next
  * can only follow what was read. DONE: it may commit; for any other database always. FENCED: another writer
  * has gone on since the begin. Else as of a begin. A commit does so by itself. */
@@ -200,6 +217,10 @@ void pagelog_file_hand_over(struct pagelog_file *file, uint32_t epoch, uint64_t 
 
 /* Of a named database: keepers may have gone on without the run that is read, so that the next begin asks. */
 void pagelog_file_suspect(struct pagelog_file *file);
+
+/* Of a named database, of which the keepers know a later generation: goes there. What is read stays what it
+ * is, or `is_gone` says that it is not there. Else as of a begin. */
+enum pagelog_outcome pagelog_file_move_on(struct pagelog_file *file);
 
 /* Of a named database: it has so many page servers, as keepers have said. */
 void pagelog_file_hear_of_page_servers(struct pagelog_file *file, unsigned count);

@@ -11,6 +11,9 @@
 
 #include <string.h>
 
+/* Blocks: who is so far behind fetches its pages anew. */
+enum { FAR_BEHIND = 512 };
+
 enum { MARK_PAGE = 0, MARK_BYTES = 40, NAME_PLACE = MARK_BYTES, GROUP = 64 };
 
 /* The origin of an end mark: the seed of its session, the length of a text in a byte, and the text. */
@@ -144,6 +147,8 @@ struct pagelog_file {
     const char *reason;
     char words[REASON_BYTES]; /* of a reason that is made of several */
     uint64_t commits, repairs, pages_fetched, pages_copied, blocks_written;
+    void (*tell_sent)(void *argument); /* who is told that blocks were sent; NULL: nobody */
+    void *told_sent;
 };
 
 /* Enters an outcome that the wire did not give, and returns it. */

@@ -8,7 +8,6 @@
 enum {
     MOST_PENDING =
         8 << 20, /* bytes that are kept aside; past it the pages in memory are forgotten in their place */
-    FAR_BEHIND = 512, /* blocks: past it the pages are fetched anew */
 };
 
 static bool keep_aside(struct pending *pending, const uint8_t *block, size_t length) {

@@ -55,6 +55,8 @@ enum pagelog_outcome pagelog_append_ended(struct pagelog_file *file) {
     uint64_t asked = pagelog_now();
     enum pagelog_outcome outcome = is_named(file) ? pagelog_hold_blocks(file) : PAGELOG_DONE;
     if (outcome != PAGELOG_DONE) return outcome; /* nothing was sent: no move would make it done */
+    if (file->tell_sent && pagelog_append_unwaited(file->log, file->blocks, file->options.written))
+        file->tell_sent(file->told_sent);
     outcome = pagelog_append(file->log, file->blocks, file->options.written);
     if (is_named(file)) outcome = pagelog_end_append(file, outcome);
     if (outcome != PAGELOG_DONE) return outcome;

@@ -219,6 +219,12 @@ static enum pagelog_outcome become_writer(struct pagelog_file *file) {
     return pagelog_end(file->log) > file->mark.lsn ? pagelog_repair(file) : PAGELOG_DONE;
 }
 
+enum pagelog_outcome pagelog_file_move_on(struct pagelog_file *file) {
+    file->reason = NULL;
+    enum pagelog_outcome outcome = pagelog_move_on(file);
+    return outcome == PAGELOG_DONE && file->named.is_gone ? pagelog_refuse_gone(file) : outcome;
+}
+
 void pagelog_file_doubt(struct pagelog_file *file) {
     file->named.is_doubted = true;
     file->is_checked = false;

@@ -554,6 +554,19 @@ enum pagelog_outcome pagelog_page_servers_soon(struct pagelog_keepers *keepers, 
     return is_told ? PAGELOG_DONE : PAGELOG_LOST;
 }
 
+void pagelog_keepers_ring(struct pagelog_keepers *keepers, const struct pagelog_place *place) {
+    char line[LINE_BYTES], of[PAGELOG_OF_BYTES];
+    struct pagelog_line *keeper = find_keeper(keepers, place->lines);
+    bool is_open = keeper && keeper->socket >= 0 && !keeper->is_connecting;
+    if (!is_open || keeper->is_asked || keeper->version < 2) return; /* the first one answers it */
+    snprintf(of, sizeof of, "%s/%s", place->database, place->run);
+    prove(keepers, keeper, of);
+    size_t length = (size_t)snprintf(line, sizeof line, "ring %s %llu of=%s\n", keepers->name,
+                                     (unsigned long long)place->generation, of);
+    keeper->sent = 0;
+    if (!pagelog_line_send(keeper, line, length) || keeper->sent < length) pagelog_line_leave(keeper);
+}
+
 /* Nothing answers `full` itself: the answer that is waited for is that of the line after it. */
 void pagelog_keepers_tell_full(struct pagelog_keepers *keepers, const struct pagelog_place *place) {
     char line[2 * LINE_BYTES], of[PAGELOG_OF_BYTES], answer[PAGELOG_LINE_BYTES], *words[MOST_WORDS];

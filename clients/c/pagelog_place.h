@@ -151,6 +151,10 @@ enum pagelog_outcome pagelog_page_servers_soon(struct pagelog_keepers *keepers, 
                                                struct pagelog_page_server found[PAGELOG_MOST_PAGE_SERVERS],
                                                size_t *count);
 
+/* Tells the keeper of a place that there will be new blocks, so that it archives them before it is asked: by
+ * a line that is open, and over which nothing is asked. It waits for nothing, and nothing is answered. */
+void pagelog_keepers_ring(struct pagelog_keepers *keepers, const struct pagelog_place *place);
+
 /* Tells the keeper of a place that its service had no memory: it begins the next generation, if it may. */
 void pagelog_keepers_tell_full(struct pagelog_keepers *keepers, const struct pagelog_place *place);
 

@@ -39,6 +39,11 @@ bool pagelog_file_may_commit(const struct pagelog_file *file) {
     return is_named(file) ? !file->options.reads_only : is_writer(file) && !file->is_broken;
 }
 
+void pagelog_file_set_sent(struct pagelog_file *file, void (*sent)(void *argument), void *argument) {
+    file->tell_sent = sent;
+    file->told_sent = argument;
+}
+
 bool pagelog_file_is_named(const struct pagelog_file *file) {
     return is_named(file);
 }

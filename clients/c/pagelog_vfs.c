@@ -26,6 +26,9 @@
  *   check=MS         how old may be what a transaction begins with; 0: each one asks
  *   stale=1          a secondary that gets no answer goes on with what it has
  *   pages=N          pages of 8,192 bytes that are kept besides SQLite's own; 4096
+ *   keep=N           as many that stay in the process after the last close, 4096 at most and by default, for
+ *                    the next open of this principal: it goes on with them where the log has their
+ *                    transaction. A process keeps 4096 of four databases at most
  *   copies=N         of the landing zone, as the table has it: 3, or 6
  *   quorum=N         of the landing zone: 2 of 3, or 4 of 6
  *   written=N        to how many copies a block is written; as many as the quorum

@@ -84,6 +84,7 @@ static void free_database(struct database *database) {
     pagelog_turn_leave(&database->turn);
     pthread_mutex_destroy(&database->turn_guard);
     pagelog_leave_poll(database);
+    pagelog_keep_pages(database);
     pagelog_file_free(database->file);
     sqlite3_free(database->room);
     sqlite3_mutex_free(database->mutex);
@@ -239,6 +240,7 @@ static int ensure_open(struct database *database, const struct pagelog_file_opti
         code = join(database, options);
     } else {
         enum pagelog_outcome outcome = pagelog_file_open(database->file);
+        if (outcome == PAGELOG_DONE) pagelog_take_kept_pages(database);
         if (outcome == PAGELOG_DONE) outcome = pagelog_reach_durable(database);
         code = pagelog_result_of_begin(database, outcome);
         database->is_open = code == SQLITE_OK;
@@ -252,6 +254,7 @@ int pagelog_find_or_open(const struct pagelog_file_options *options, const struc
     struct database *database = make_database(options);
     if (!database) return SQLITE_NOMEM;
     database->entries = settings->entries;
+    database->most_kept = settings->most_kept;
     database->shows_errors = settings->shows_errors;
     int code = options->reads_only ? SQLITE_OK : share(&database);
     if (code == SQLITE_OK && strcmp(database->name, options->name) != 0) {

@@ -29,6 +29,19 @@ static enum pagelog_outcome ask(struct connection *connection, const struct page
     return outcome;
 }
 
+/* Blocks were sent. The keeper has them archived while the service's reply is on its way. */
+static void ring(void *argument) {
+    struct connection *connection = argument;
+    const struct pagelog_place *place = pagelog_file_place(connection->database->file);
+    if (place && keepers_of(connection)) pagelog_keepers_ring(connection->keepers, place);
+}
+
+void pagelog_ring_once_sent(struct connection *connection) {
+    const struct database *database = connection->database;
+    bool rings = database->is_named && connection->synchronous >= SYNCHRONOUS_FULL;
+    pagelog_file_set_sent(database->file, rings ? ring : NULL, connection);
+}
+
 /* It is in the log, and whether it will be durable is not known. */
 static int doubt(struct connection *connection) {
     static const char reason[] = "in doubt: it is in the log, and no keeper has said that it is durable";

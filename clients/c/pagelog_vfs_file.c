@@ -274,7 +274,9 @@ static int commit(struct connection *connection) {
     bool is_rollback = connection->is_refused;
     uint64_t lsn = pagelog_file_lsn(database->file);
     memcpy(error, database->error, sizeof error);
+    pagelog_ring_once_sent(connection);
     int code = note_refusal(connection, pagelog_result(database, pagelog_file_commit(database->file)));
+    pagelog_file_set_sent(database->file, NULL, NULL);
     if (is_rollback) memcpy(database->error, error, sizeof error);
     if (code == SQLITE_OK && pagelog_file_lsn(database->file) != lsn) pagelog_note_commit(connection);
     return code;

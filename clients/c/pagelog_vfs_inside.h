@@ -67,6 +67,7 @@ struct database {
     struct holder_poll *poll; /* NULL: none yet */
     uint64_t polled;          /* the last round of it that was heard */
     uint64_t entries;         /* that the audit list may have */
+    size_t most_kept;         /* pages that stay in this process after the close */
     bool shows_errors;        /* on standard error */
     uint64_t looked;          /* requests of this file when it was last looked how full that is */
     unsigned char *room;      /* of the last journal, for the next one; NULL: none */
@@ -166,6 +167,7 @@ struct settings {
     char address[VALUE_BYTES],
         name[VALUE_BYTES];               /* of the service; or the keepers, and the name that they know */
     uint64_t entries;                    /* that the audit list may have */
+    size_t most_kept;                    /* pages that stay in this process after the close */
     bool shows_errors;                   /* on standard error */
     char why[VALUE_BYTES + ERROR_BYTES]; /* what is wrong with a setting, where its name does not say all */
 };
@@ -234,6 +236,17 @@ int pagelog_watch_forks(void);
 /* The database whose journal's name SQLite keeps here; NULL: it is none of ours, whatever the name. */
 struct database *pagelog_database_of_name(const void *name);
 
+/* ---- pagelog_vfs_kept.c: pages of databases that were closed ---- */
+
+/* In all of a process: 32 MiB. */
+enum { MOST_KEPT_PAGES = 4096 };
+
+/* Before a database is freed: keeps its pages. */
+void pagelog_keep_pages(struct database *database);
+
+/* After it was opened: goes on with such pages, where there are any of it. */
+void pagelog_take_kept_pages(struct database *database);
+
 /* ---- pagelog_vfs_file.c: a connection ---- */
 
 /* A call of whose error SQLite does not hear. Where it loses commits the next statement tells it. */
@@ -243,6 +256,10 @@ void pagelog_call_untold(struct database *database, enum pagelog_outcome (*call)
 void pagelog_open_connection(struct connection *connection, sqlite3_filename name);
 
 /* ---- pagelog_vfs_durable.c ---- */
+
+/* Before a commit: has the keeper told as soon as it is sent, where it will be waited for until it is
+ * durable. */
+void pagelog_ring_once_sent(struct connection *connection);
 
 /* After a commit: waits until it is durable, where `synchronous` asks for that. Others may use the database
  * meanwhile. */

@@ -17,12 +17,12 @@ enum { MOST_ENTRIES = 1 << 24 };
 
 /* The parameters of a URI: these, and SQLite's own. */
 static const char *const known[] = {
-    "to",          "db",      "id",          "token",   "op",       "optoken",
-    "mode",        "at",      "check",       "stale",   "pages",    "copies",
-    "quorum",      "written", "spin",        "timeout", "patience", "async_commits",
-    "credentials", "audit",   "vfs",         "cache",   "psow",     "nolock",
-    "immutable",   "modeof",  "where",       "name",    "move",     "durable",
-    "errors",      "sslmode", "sslrootcert", "sslcert", "sslkey",   "page_servers"};
+    "to",           "db",      "id",       "token",         "op",          "optoken", "mode",
+    "at",           "check",   "stale",    "pages",         "copies",      "quorum",  "written",
+    "spin",         "timeout", "patience", "async_commits", "credentials", "audit",   "vfs",
+    "cache",        "psow",    "nolock",   "immutable",     "modeof",      "where",   "name",
+    "move",         "durable", "errors",   "sslmode",       "sslrootcert", "sslcert", "sslkey",
+    "page_servers", "keep"};
 
 /* Opens a file of credentials. NULL where it cannot be read, and where others may read it, as `*is_shared`
  * says. */
@@ -237,7 +237,7 @@ static const char *read_waits(sqlite3_filename uri, struct pagelog_file_options 
 
 const char *pagelog_read_settings(sqlite3_filename uri, struct pagelog_file_options *options,
                                   struct settings *settings) {
-    uint64_t pages = 0, stale = 0;
+    uint64_t pages = 0, stale = 0, keep = MOST_KEPT_PAGES;
     const char *wrong = find_unknown(uri);
     settings->entries = MOST_ENTRIES;
     *settings->why = 0;
@@ -252,11 +252,13 @@ const char *pagelog_read_settings(sqlite3_filename uri, struct pagelog_file_opti
     if (wrong) return wrong;
     if (!read_setting(uri, "at", PAGELOG_LAST_LSN, &options->at)) return "at";
     if (!read_setting(uri, "pages", UINT32_MAX, &pages)) return "pages";
+    if (!read_setting(uri, "keep", MOST_KEPT_PAGES, &keep)) return "keep";
     if (!read_setting(uri, "stale", 1, &stale)) return "stale";
     if (!read_setting(uri, "audit", MOST_ENTRIES, &settings->entries) || settings->entries == 0)
         return "audit";
     options->reads_only = options->reads_only || options->at > 0;
     options->cache_pages = (size_t)pages;
+    settings->most_kept = (size_t)keep;
     options->may_be_stale = stale == 1;
     options->name = uri;
     bool needs_operator = options->keepers && !options->reads_only; /* its writer begins epochs as it moves */

@@ -208,14 +208,13 @@ int pagelog_wait_for_turn(struct connection *connection) {
     return SQLITE_OK;
 }
 
-/* Whether to wait on for a turn that another process keeps, and may not use. SQLite asks no busy handler
- * where a transaction that has read begins to write: it is asked here, after the moment in which a process
- * that lives answers its keeper. */
-static bool comes_soon(struct connection *connection, uint64_t until) {
+/* Waits on for a turn that another process keeps, and may not use. SQLite asks no busy handler where a
+ * transaction that has read begins to write: it is asked here, after the moment in which a process that lives
+ * answers its keeper. False where the wait is over. */
+static bool wait_for_kept(struct connection *connection, uint64_t until) {
     struct database *database = connection->database;
     struct pollfd fd = {.fd = database->turn.line.socket, .events = POLLIN};
     uint64_t now = pagelog_now();
-    if (!database->turn.is_soon || pagelog_file_is_overtaken(database->file)) return false;
     if (now >= until) return waits_on(connection, fd.fd);
     sqlite3_mutex_leave(database->mutex);
     poll(&fd, 1, (int)(until - now));
@@ -230,13 +229,28 @@ static bool is_upgrade(const struct connection *connection) {
     return is_known && sqlite3_txn_state(*connection->sqlite, NULL) != SQLITE_TXN_NONE;
 }
 
-/* Whether such a one waits on where the keeper does not answer, and another may soon have the database. Any
- * other begins again, and asks there. */
-static bool comes_elsewhere(struct connection *connection) {
+/* Whether more may come of a turn that was asked for at once and not given; then `*outcome` is what has come
+ * of it. An upgrade waits on where the keeper does not answer, and another may soon have the database; and it
+ * asks in the next generation, which has what it has read. Any other begins again, and asks there. */
+static bool comes_later(struct connection *connection, enum pagelog_outcome *outcome, uint64_t *until) {
     struct database *database = connection->database;
-    bool may_come = connection->busy && pagelog_turn_may_come(&database->turn);
-    return may_come && is_upgrade(connection) && !pagelog_file_is_overtaken(database->file) &&
-           waits_on(connection, -1);
+    struct pagelog_file *file = database->file;
+    bool is_kept = *outcome == PAGELOG_CONFLICT && database->turn.is_soon;
+    bool may_come = *outcome == PAGELOG_LOST && connection->busy && pagelog_turn_may_come(&database->turn) &&
+                    is_upgrade(connection);
+    if (!is_kept && !may_come) return false;
+    if (pagelog_file_is_overtaken(file)) {
+        if (!is_upgrade(connection) || pagelog_file_move_on(file) != PAGELOG_DONE) return false;
+    } else if (is_kept) {
+        if (!wait_for_kept(connection, *until)) return false;
+        *outcome = look(database);
+        return true;
+    } else if (!waits_on(connection, -1)) {
+        return false;
+    }
+    *outcome = ask(connection, true);
+    *until = pagelog_after(MOMENT_MS);
+    return true;
 }
 
 /* Has the turn of the generation that the file is in. One that was waited for may be of a generation that is
@@ -248,10 +262,8 @@ static int have_turn(struct connection *connection) {
     database->turn_of = connection;
     enum pagelog_outcome outcome = ask(connection, true);
     uint64_t until = pagelog_after(MOMENT_MS);
-    while (outcome == PAGELOG_CONFLICT && comes_soon(connection, until))
-        outcome = look(database);
-    while (outcome == PAGELOG_LOST && comes_elsewhere(connection))
-        outcome = ask(connection, true);
+    while (comes_later(connection, &outcome, &until))
+        continue;
     bool may_come = outcome == PAGELOG_LOST && connection->busy && pagelog_turn_may_come(&database->turn);
     connection->wants_turn = outcome == PAGELOG_CONFLICT;
     database->is_contended |= connection->wants_turn;

@@ -1312,6 +1312,37 @@ def happens_at(keeper, operation, number, event):
     keeper.rule = rule
 
 
+def test_a_keeper_hears_of_a_commit_while_the_service_has_it():
+    """Of one that waits for the archive, before the service has its report; it answers nothing, also where the service dies then."""
+    with StubKeeper() as keeper:
+        connection, heard = named(keeper, keep=0), []
+        connection.execute("create table t(a, b)")
+
+        def rule(frame):
+            if frame[33] == wire.REPORT:
+                with keeper.changed:
+                    keeper.changed.wait_for(lambda: keeper.rings, 60)
+                heard.append(keeper.rings)
+                keeper.rule = None
+            return frame
+
+        keeper.rule = rule
+        fill(connection, 1)
+        same("told before it is answered", [1], heard)
+        connection.execute("pragma synchronous = normal")
+        fill(connection, 1, first=1)
+        same("not of one that waits for nothing", 1, keeper.rings)
+        connection.execute("pragma synchronous = full")
+        for number in (2, 3):
+            happens_at(keeper, wire.WRITE, 1, lambda keeper: keeper.die(lost=0))
+            fill(connection, 1, first=number)
+        same(
+            "all of them",
+            (list(range(4)), "ok"),
+            (rows(connection), one(connection, "pragma integrity_check")),
+        )
+
+
 def test_commits_on_their_way():
     """Nobody waits for them when the next generation comes, where their LSNs are others."""
     for name, event in EVENTS.items():

@@ -4,12 +4,14 @@ a stub of these tests."""
 import contextlib
 import random
 import time
+from functools import partial
 
 from check import run, same, true
-from database import connect, named, numbers, one, reader, sqlite_of
+from database import code_of, connect, named, numbers, one, reader, sqlite_of
 from generations import fill, rows, silent, until
 from service import Service
 from stub_keeper import StubKeeper
+from vfs_forks import in_child
 
 READERS = 8
 ROWS = 2000
@@ -182,6 +184,99 @@ def test_nor_does_one_fetch_more_that_reads_now_and_then():
             )
         )
         true(f"{trips} round trips for {pages} pages", trips > 30 and pages < 1.5 * trips)
+
+
+# ---- Pages that the process keeps ----
+
+WIDE = 40  # rows, each of which has a page
+
+
+@contextlib.contextmanager
+def wide():
+    """A service, a writer that keeps nothing, and a function that adds a row."""
+    with Service() as service:
+        writer = connect(service.address, keep=0)
+        writer.execute("create table t(a integer primary key, b)")
+        fill(writer, WIDE, size=8000)
+        yield service, lambda number: fill(writer, 1, size=8000, first=number)
+        writer.close()
+
+
+def read_once(opened):
+    """What a connection reads that is opened for it, and how many pages it has fetched."""
+    connection = opened()
+    found = rows(connection), one(connection, "pragma integrity_check")
+    (fetched,) = numbers(connection, "pages_fetched")
+    connection.close()
+    return found, fetched
+
+
+def reads(what, opened, count, fetches):
+    found, fetched = read_once(opened)
+    same(what, (list(range(count)), "ok"), found)
+    true(f"{what}: {fetched} pages", (fetched > WIDE / 2) == fetches)
+
+
+def test_the_next_connection_goes_on_with_the_pages_of_the_last():
+    """At once, and after commits of another; but for another principal, and one that keeps none."""
+    with wide() as (service, add):
+        for name, check in (("a reader", 0), ("one that asks seldom", 60000)):
+            opened = partial(reader, service.address, check=check)
+            reads(f"{name}, first", opened, WIDE, check == 0)
+            reads(f"{name}, again", opened, WIDE, False)
+        for count in range(WIDE, WIDE + 6, 2):
+            add(count)
+            reads("after a commit", partial(reader, service.address), count + 1, False)
+            add(count + 1)
+            reads("so", partial(reader, service.address, check=60000), count + 2, False)
+        reads("of its own", partial(reader, service.address, principal=4), WIDE + 6, True)
+        same(
+            "in a child",
+            None,
+            in_child(lambda: reads("there", partial(reader, service.address), WIDE + 6, False)),
+        )
+        reads("none", partial(reader, service.address, keep=0), WIDE + 6, True)
+        reads("beside it", partial(reader, service.address), WIDE + 6, False)
+        for fetches in (True, False):  # it begins an epoch each time
+            reads("a writer", partial(connect, service.address, 5), WIDE + 6, fetches)
+
+
+def test_a_process_keeps_the_pages_of_four_databases():
+    with contextlib.ExitStack() as held:
+        addresses = [held.enter_context(wide())[0].address for _ in range(5)]
+        for address in addresses:
+            reads("first", partial(reader, address), WIDE, True)
+        for number in (4, 3, 2, 1):
+            reads(f"database {number}", partial(reader, addresses[number]), WIDE, False)
+        reads("the first of five", partial(reader, addresses[0]), WIDE, True)
+
+
+def test_pages_of_a_named_database_outlive_its_service_and_lost_ones_do_not():
+    """A row that is lost with its service was in what was kept; another writer has one in its place."""
+    for more in ({"principal": 3, "mode": "ro"}, {"principal": 5}):
+        with StubKeeper() as keeper:
+            writer = named(keeper, keep=0)
+            writer.execute("create table t(a integer primary key, b)")
+            writer.execute("pragma synchronous = normal")
+            fill(writer, WIDE, size=8000)
+            opened = partial(sqlite_of, keeper.address, "shop", **more)
+            reads("first", opened, WIDE, True)
+            for event in (
+                keeper.succeed,
+                partial(keeper.succeed, images=False, empty=0),
+                keeper.die,
+            ):
+                reads("again", opened, WIDE, False)
+                event()
+                reads("in the next generation", opened, WIDE, False)
+            fill(writer, 2, size=8000, first=WIDE)
+            reads("what will be lost", opened, WIDE + 2, more["principal"] != 3)
+            keeper.die(lost=2)
+            in_child(lambda: fill(named(keeper, keep=0), 2, size=8000, first=100))
+            found, _ = read_once(opened)
+            same("what is there", ([*range(WIDE), 100, 101], "ok"), found)
+            same("told", "SQLITE_IOERR_FSYNC", code_of(lambda: rows(writer)))
+            writer.close()
 
 
 if __name__ == "__main__":

@@ -71,7 +71,21 @@ def lost_history(after):
             )
         with restarted(old, proxy, kept) as new:
             in_child(lambda: fill(connect(new.address), "new", 30 + after))
-            yield writer, follower, lambda: reader(new.address)
+            yield writer, follower, lambda: reader(proxy.address)
+
+
+def test_pages_that_a_follower_has_left_are_of_the_old_history():
+    for after in (0, 10, -10):
+        with lost_history(after) as (_, follower, opened):
+            follower.close()
+            found = rows(opened())
+            same(
+                "old, lost, new",
+                (20, 0, 30 + after),
+                tuple(
+                    sum(name.startswith(who) for name in found) for who in ("old", "lost", "new")
+                ),
+            )
 
 
 def test_a_follower_that_was_idle():

@@ -164,6 +164,7 @@ class StubKeeper:
         self.changed = threading.Condition(threading.RLock())
         self.is_archiving, self.is_published, self.asked = True, True, 0
         self.archives_what_is_asked = False  # and no more
+        self.rings = 0  # of the present run
         self.rule = None
         self.clients = weakref.WeakSet()  # connections of this process
         self.now = Generation(self, 1)
@@ -231,7 +232,7 @@ class StubKeeper:
 
     def hear(self, line, words):
         """What a client with a token asks of its run is asked by who has proved that. One that has none is refused no answer here."""
-        costs = words[0] in ("turn", "hold", "full", "durable")
+        costs = words[0] in ("turn", "hold", "ring", "full", "durable")
         if costs and self.says_nonce and not line.is_proved:
             self.unproved.append(words[0])
         if words[0] == "hello":
@@ -296,6 +297,10 @@ class StubKeeper:
             match words:
                 case ["hello", _]:
                     return "hello", 2
+                case ["ring", _, _, of]:
+                    self.rings += of == self.of()
+                    self.changed.notify_all()
+                    return ()
                 case ["full", *_]:
                     return ()
                 case ["where", name] if name != self.name:

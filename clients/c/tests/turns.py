@@ -413,6 +413,29 @@ def test_an_upgrade_waits_for_a_keeper_that_does_not_answer():
             )  # noqa: B023
 
 
+def test_an_upgrade_goes_on_in_the_generation_that_comes_meanwhile():
+    """What it has read is there too; where that is not so it is told so, and begins again."""
+    for event in (StubKeeper.succeed, StubKeeper.die):
+        with StubKeeper() as keeper:
+            connection = named(keeper)
+            connection.execute("create table t(a, b)")
+            fill(connection, 3)
+            turn = keeper.turn
+
+            def comes_first(line, words, keeper=keeper, event=event, turn=turn):
+                if words[0] == "turn" and keeper.now.number == 1:
+                    event(keeper)
+                    keeper.cut_lines()
+                else:
+                    turn(line, words)
+
+            keeper.turn = comes_first
+            same("what it has read", 3, in_child(lambda: upgrade(keeper, 3, busy=60)))  # noqa: B023
+            same("the generation", 2, keeper.now.number)
+            keeper.turn = turn
+            same("all of it", list(range(4)), rows(connection))
+
+
 def test_an_upgrade_beside_a_transaction_is_busy():
     with StubKeeper() as keeper:
         Quarters(keeper)

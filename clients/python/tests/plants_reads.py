@@ -3,6 +3,7 @@
 from plant import Plant
 
 _CALLS, _REQUESTS, _FILE = "c/pagelog_calls.c", "c/pagelog_requests.c", "c/pagelog_ahead.c"
+_KEPT = "c/pagelog_kept.c"
 
 PLANTS = {
     "ahead, of an epoch that was over": Plant("c/pagelog_calls.c", "bool is_refused_ahead = was_ahead && log->socket >= 0;", "bool is_refused_ahead = was_ahead && log->socket < 0;",
@@ -29,4 +30,14 @@ PLANTS = {
                                           "c/ahead", "is_written_before_it_comes"),
     "ahead, of an index": Plant("c/pagelog_vfs_file.c", "        expect_children(database->file, bytes,", "        (void)expect_children, (void)(database->file, bytes,", "c/ahead",
                                 "what_its_tree_refers_to"),
+    "kept, none": Plant("c/pagelog_vfs_database.c", "    pagelog_keep_pages(database);\n", "", "c/readers", "with_the_pages_of_the_last"),
+    "kept, of any mark": Plant(_KEPT, "(pagelog_is_same_mark(&mark, &file->mark) || goes_back(file, &mark))", "(goes_back(file, &mark) || true)", "c/restarts",
+                               "follower_has_left"),
+    "kept, of any mark before": Plant(_KEPT, " || !pagelog_is_same_mark(&found, wanted)) return false;", ") return false;", "c/restarts", "follower_has_left"),
+    "kept, not followed": Plant(_KEPT, "file->is_far = file->is_checked = false;", "file->is_far = false;", "c/readers", "with_the_pages_of_the_last"),
+    "kept, by another principal": Plant("c/pagelog_vfs_kept.c", "strcmp(kept->key, database->key) == 0 && ", "", "c/readers", "with_the_pages_of_the_last"),
+    "kept, of all databases": Plant("c/pagelog_vfs_kept.c", "count == MOST_DATABASES || ", "", "c/readers", "of_four_databases"),
+    "kept, at another shift": Plant(_KEPT, "mark.lsn = lsn_of(file, kept->position);", "", "c/readers", "outlive_its_service"),
+    "kept, of what was lost": Plant(_KEPT, "(pagelog_is_same_mark(&mark, &file->mark) || goes_back(file, &mark))", "(mark.lsn == file->mark.lsn || goes_back(file, &mark))", "c/readers",
+                                    "outlive_its_service"),
 }  # fmt: skip

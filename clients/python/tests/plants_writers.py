@@ -45,4 +45,11 @@ PLANTS = {
     "turn, given back lately": Plant("turns", "            self._given_back = time.monotonic()\n", "", "turns", "given_back_lately"),
     "turn, of a keeper that waits": Plant("c/pagelog_turn.c", "        if (now >= until && is_young(turn, now)) until = turn->led + YOUNG_MS;\n", "        (void)is_young;\n",
                                           "c/turns", "may_take_longer_than_a_second"),
+    "turn, of an upgrade, in the next generation": Plant("c/pagelog_vfs_turn.c", "if (!is_upgrade(connection) || pagelog_file_move_on(file) != PAGELOG_DONE) return false;",
+                                                         "return false;", "c/turns", "generation_that_comes_meanwhile"),
+    "ring, none": Plant("c/pagelog_vfs_file.c", "    pagelog_ring_once_sent(connection);\n", "", "c/generations", "while_the_service_has_it"),
+    "ring, after the reply": Plant("c/pagelog_mark.c", "    if (file->tell_sent && pagelog_append_unwaited(file->log, file->blocks, file->options.written))\n        file->tell_sent(file->told_sent);\n    outcome = pagelog_append(file->log, file->blocks, file->options.written);\n",
+                                   "    outcome = pagelog_append(file->log, file->blocks, file->options.written);\n    if (file->tell_sent) file->tell_sent(file->told_sent);\n", "c/generations", "while_the_service_has_it"),
+    "ring, of each commit": Plant("c/pagelog_vfs_durable.c", "bool rings = database->is_named && connection->synchronous >= SYNCHRONOUS_FULL;", "bool rings = database->is_named;",
+                                  "c/generations", "while_the_service_has_it"),
 }  # fmt: skip
