@@ -39,6 +39,7 @@ PLANTS = {
                                             "before_the_base"),
     "pages of SQLite, LSNs": Plant("c/pagelog_paged.c", "    place.shift = 0;\n", "", "pages_sqlite", "before_the_base"),
     "pages of SQLite, a service with none": Plant("c/pagelog_paged.c", "if (file->options.pages == PAGELOG_PAGES_ONLY) return true;", "", "pages_sqlite", "over_deaths"),
+    "pages, clients of any database": Plant("../pages/process", '"--identity", identity)', '"--identity", "11111111-2222-4333-8444-555555555555")', "pages_secured", "of_several_databases"),
     "pages, the end of another certificate": Plant("../pages/metrics", "        file.changed()\n", "        file.read()\n", "pages_secured", "when_the_certificate_ends"),
     "pages nearest, of the last keeper": Plant("../place", 'is_heard |= fixed[:1] == ["pages"]', 'is_heard = fixed[:1] == ["pages"]', "pages_nearest", "that_are_silent"),
     "pages nearest, of another database": Plant("../place", '                and keys.get("of", of) == of\n                and (found := _page_servers', '                and (found := _page_servers',

@@ -49,6 +49,18 @@ def frame_of(position: int, page: int = 1) -> bytes:
     return len(body).to_bytes(4, "big") + body
 
 
+def answers(address: str, context: ssl.SSLContext) -> bool:
+    """Whether anything is said there to a request, be it a denial."""
+    host, _, port = address.rpartition(":")
+    try:
+        with socket.create_connection((host, int(port)), PATIENCE) as plain:
+            with context.wrap_socket(plain, server_hostname=host) as line:
+                line.sendall(frame_of(0))
+                return bool(line.recv(1))
+    except (ConnectionError, ssl.SSLError):
+        return False
+
+
 class Secure(Paged):
     """The program alone."""
 
@@ -274,7 +286,9 @@ class Told(unittest.TestCase):
                 position = primary.commit(durable=True)
         return position
 
-    def servers(self, serving: Serving | None, name: str = "stores") -> PageServers:
+    def servers(
+        self, serving: Serving | None, name: str = "stores", names: tuple[str, ...] = ("shop",)
+    ) -> PageServers:
         settings = Settings(
             pages_program.program(),
             self.keeping.folder / name,
@@ -287,7 +301,7 @@ class Told(unittest.TestCase):
         made = PageServers(
             settings,
             lambda me: Referee(self.keeping.url, me),
-            ["shop"],
+            names,
             lambda name, said: self.said.append(f"{name}: {said}"),
         )
         thread = threading.Thread(target=made.run)
@@ -437,6 +451,23 @@ class Only(Told):
                     Connection(account.to, timeout=PATIENCE, attempts=1), account.credentials
                 ).status()
             opened.terminate()
+
+    def test_each_of_several_databases_lets_in_clients_of_its_own(self) -> None:
+        """They show one certificate, that of their machine: a client of one database is none of the other."""
+        certificates, referee = self.keeping.certificates, self.keeping.referee
+        self.assertTrue(referee.create("other", self.keeping.table.read_text(), b"t" * 16))
+        names = "shop", "other"
+        serving = Serving(self.keeping.pair, certificates.ca, True)
+        servers = self.servers(serving, names=names)
+        eventually(lambda: servers.states().keys() == set(names), "both")
+        look = referee.everything()
+        for name in names:
+            for other in names:
+                row, client = look.row(name), look.row(other)
+                assert row is not None and client is not None
+                [pages] = look.pages_of(row.id)
+                context = certificates.context(certificates.client(client.identity))
+                self.assertEqual(answers(str(pages.told(True)), context), name == other)
 
     def test_its_metrics_say_when_the_certificate_ends_that_it_shows(self) -> None:
         position = self.committed(6)
