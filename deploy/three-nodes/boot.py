@@ -1,6 +1,6 @@
 """A machine of the trial, as its first process: it sees its own /etc and its own state, and runs the units as systemd would.
 
-Called by nodes.py in namespaces of its own for mounts, processes and network, with the machine's folder.
+Called by nodes.py in namespaces of its own for mounts, processes and network, with the machine's folder, and units that not all have.
 """
 
 from __future__ import annotations
@@ -155,9 +155,9 @@ class Unit:
         )
 
 
-def main(folder: Path) -> None:
+def main(folder: Path, more: list[str]) -> None:
     mount(folder)
-    units = [Unit.read(name) for name in UNITS]
+    units = [Unit.read(name) for name in (*UNITS, *more)]
     running = {unit.start(folder / f"{unit.name}.log"): unit for unit in units}
     while True:
         try:
@@ -171,4 +171,4 @@ def main(folder: Path) -> None:
 
 
 if __name__ == "__main__":
-    main(Path(sys.argv[1]))
+    main(Path(sys.argv[1]), sys.argv[2:])

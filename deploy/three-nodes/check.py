@@ -31,7 +31,12 @@ MACHINES = tuple(f"{name}={address}" for name, address in ADDRESSES.items())
 def faults_of_units(units: Path, folder: Path) -> list[str]:
     """What systemd has to say of them. Where a program is not installed, another one of its name stands for it."""
     shutil.copytree(units, folder)
-    for unit in ("pagelog-keeper.service", "pagelog-runner.service", "pagelog-runner.socket"):
+    for unit in (
+        "pagelog-keeper.service",
+        "pagelog-runner.service",
+        "pagelog-runner.socket",
+        "pagelog-pages.service",
+    ):
         shutil.copy(TOP / "packaging" / "units" / unit, folder)
     for name in ("patroni", "etcd"):
         debian = Path("/lib/systemd/system") / f"{name}.service"

@@ -1,6 +1,6 @@
 """The clients of the trial, each a process with books of its own: a line of JSON for each thing that it was told.
 
-Called by trial.py with `write` or `read`, the file of its books, and a file whose coming ends it.
+Called by trial.py with `write`, `read` or `pages`, the file of its books, and a file whose coming ends it.
 """
 
 from __future__ import annotations
@@ -84,10 +84,34 @@ def read(books: Books, keepers: list[str], stop: Path) -> None:
                 books.note("ended", why=f"{type(error).__name__}: {error}")
 
 
+def pages(books: Books, keepers: list[str], stop: Path) -> None:
+    """Reads the page that each commit writes, of page servers alone: what they have is durable."""
+    while not stop.exists():
+        with Reader.named(
+            NAME,
+            keepers=keepers,
+            principal=3,
+            token=token(3),
+            pages="only",
+            patience=PATIENCE,
+            timeout=TIMEOUT,
+        ) as reader:
+            try:
+                while not stop.exists():
+                    page = reader.page(0)
+                    text = page.data.rstrip(b"\0").decode()
+                    books.note("page", position=page.at, text=text)
+                    time.sleep(BETWEEN)
+            except PagelogError as error:
+                books.note("ended", why=f"{type(error).__name__}: {error}")
+
+
 def text_of(block: Block) -> str:
     return block.records[-1].data.decode()  # type: ignore[union-attr]
 
 
 if __name__ == "__main__":
     what, books, stop, addresses = sys.argv[1:]
-    {"write": write, "read": read}[what](Books(Path(books)), addresses.split(","), Path(stop))
+    {"write": write, "read": read, "pages": pages}[what](
+        Books(Path(books)), addresses.split(","), Path(stop)
+    )

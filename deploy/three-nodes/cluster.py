@@ -17,7 +17,7 @@ from pagelog.keeper.rows import Look, Row
 from pagelog.place import Keepers
 
 from clients import NAME
-from nodes import ADDRESSES
+from nodes import ADDRESSES, PAGES
 
 PATIENCE = 300.0
 """Seconds for what has to come: on a machine with much else to do anything may take its time."""
@@ -35,6 +35,16 @@ def eventually(condition: Callable[[], bool], what: str) -> None:
         if time.monotonic() > deadline:
             raise SystemExit(f"trial: in {PATIENCE:.0f} s it did not come: {what}")
         time.sleep(0.1)
+
+
+def soon(condition: Callable[[], bool]) -> bool:
+    """Whether it comes within some seconds."""
+    deadline = time.monotonic() + 5
+    while time.monotonic() < deadline:
+        if condition():
+            return True
+        time.sleep(0.2)
+    return False
 
 
 def asked(address: str, path: str) -> dict[str, object]:
@@ -149,7 +159,8 @@ class Cluster:
     # All of it.
 
     def is_well(self) -> bool:
-        """Whether each machine has an etcd with a quorum, a server of PostgreSQL that leads or follows, and a keeper that follows."""
+        """Whether each machine has an etcd with a quorum, a server of PostgreSQL that leads or follows, and a keeper that follows, and
+        those that have a page server one that follows."""
         etcds = [
             asked(f"{address}:2379", "/health").get("health") == "true"
             for address in ADDRESSES.values()
@@ -158,6 +169,7 @@ class Cluster:
             all(etcds)
             and all(self._servers_follow(name) for name in ADDRESSES)
             and self._keepers_follow()
+            and self._page_servers_follow()
         )
 
     def _servers_follow(self, name: str) -> bool:
@@ -174,18 +186,26 @@ class Cluster:
         row = self.row()
         if row is None or row.holder is None:
             return False
-        wanted, others = row.archived, set(ADDRESSES) - {row.holder}
-        deadline = time.monotonic() + 5
-        while time.monotonic() < deadline:
+        log, wanted, others = row.id, row.archived, set(ADDRESSES) - {row.holder}
+
+        def follow() -> bool:
             look = self._look()
-            if (
-                look is not None
-                and {each.keeper for each in look.standbys_of(row.id) if each.reached >= wanted}
-                >= others
-            ):
-                return True
-            time.sleep(0.2)
-        return False
+            standbys = () if look is None else look.standbys_of(log)
+            return {each.keeper for each in standbys if each.reached >= wanted} >= others
+
+        return soon(follow)
+
+    def _page_servers_follow(self) -> bool:
+        """Whether all page servers get what is archived now."""
+        row = self.row()
+
+        def follow() -> bool:
+            look = self._look()
+            assert row is not None
+            alive = () if look is None else look.pages_of(row.id)
+            return len([each for each in alive if each.position >= row.archived]) == len(PAGES)
+
+        return row is not None and soon(follow)
 
     def archive(self) -> list[bytes]:
         """All blocks of the database, in order; they have been compared with the digest of them."""

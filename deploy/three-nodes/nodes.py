@@ -12,6 +12,8 @@ from pathlib import Path
 HERE = Path(__file__).resolve().parent
 BRIDGE, OWN_ADDRESS = "bridge", "10.77.0.254"
 ADDRESSES = {"a": "10.77.0.1", "b": "10.77.0.2", "c": "10.77.0.3"}
+PAGES = ("a", "b")
+"""Those with a page server."""
 
 
 def ip(*words: object) -> str:
@@ -30,7 +32,7 @@ def make_bridge() -> None:
 
 
 class Node:
-    """A machine: etcd, Patroni with PostgreSQL, a keeper and its services."""
+    """A machine: etcd, Patroni with PostgreSQL, a keeper and its services; perhaps a page server."""
 
     def __init__(self, name: str, folder: Path) -> None:
         self.name, self.address, self.folder = name, ADDRESSES[name], folder
@@ -60,6 +62,7 @@ class Node:
             "-B",
             HERE / "boot.py",
             self.folder,
+            *(["pagelog-pages"] if self.name in PAGES else []),
         ]
         with (self.folder / "boot.log").open("a") as log:
             self._first = subprocess.Popen(

@@ -26,10 +26,15 @@ from clients import NAME, text_of  # noqa: E402
 from cluster import KEEPERS, PATIENCE, Cluster, eventually  # noqa: E402
 from nodes import ADDRESSES, Node, make_bridge  # noqa: E402
 
-SOURCE = TOP / "clients" / "python" / "src" / "pagelog"
-UNITS = [TOP / "packaging" / "units" / f"pagelog-{name}.service" for name in ("keeper", "runner")]
+SOURCE = TOP / "clients" / "python" / "src"
+UNITS = [
+    TOP / "packaging" / "units" / f"pagelog-{name}.service"
+    for name in ("keeper", "runner", "pages")
+]
 TABLE = TOP / "clients" / "c" / "table.toml"
 DEFAULT = ("kill:holder", "kill:leader", "kill:both", "cut:both", "stop:both", "alone:both")
+CLIENTS = {"write": "durable", "read": "read", "pages": "page"}
+"""Each with what it is told again and again."""
 GO_ON = 50
 """How many commits have to be acknowledged after a fault, once others have taken over."""
 ALONE = 2.0
@@ -69,7 +74,7 @@ class Books:
         return [float(line["at"]) for line in self.lines(who) if line["what"] == what]  # type: ignore[arg-type]
 
     def last_position(self, who: str) -> int:
-        return next((int(line["position"]) for line in reversed(self.lines(who)) if line["what"] in ("durable", "read")), 0)  # type: ignore[call-overload]
+        return next((int(line["position"]) for line in reversed(self.lines(who)) if line["what"] in CLIENTS.values()), 0)  # type: ignore[call-overload]
 
     def longest_pause(self, who: str, what: str, since: float) -> float:
         """The longest time between two things that it was told, of which the later came after `since`."""
@@ -87,6 +92,7 @@ class Trial:
         )  # the names of network namespaces stand in it
         self.folder, self.began = folder, time.monotonic()
         self.books, self.clients = Books(folder), dict[str, subprocess.Popen[bytes]]()
+        self.why = ""
         install(folder, program)
         make_bridge()
         machines = [f"{name}={address}" for name, address in ADDRESSES.items()]
@@ -120,6 +126,7 @@ class Trial:
             capture_output=True,
             text=True,
         )
+        self.why = done.stderr.strip()
         return done.returncode == 0
 
     def start(self) -> None:
@@ -127,9 +134,9 @@ class Trial:
             node.start()
         eventually(lambda: self.word("kept"), "PostgreSQL with a synchronous standby, and a keeper")
         if not self.word("create", NAME, "--table", TABLE):
-            raise SystemExit("trial: the database was not made")
+            raise SystemExit(f"trial: the database was not made: {self.why}")
         eventually(self.cluster.is_well, "three machines that are well")
-        for what in ("write", "read"):
+        for what in CLIENTS:
             words = [
                 sys.executable,
                 "-B",
@@ -140,7 +147,8 @@ class Trial:
                 ",".join(KEEPERS),
             ]
             self.clients[what] = subprocess.Popen(words)
-        eventually(lambda: len(self.books.times("read", "read")) > GO_ON, "a reader that reads")
+        for what, told in CLIENTS.items():
+            eventually(lambda: len(self.books.times(what, told)) > GO_ON, f"a client for {what}")
         eventually(self.cluster.has_quick_way, "the quick way")
         self.say(f"three machines are up; {self.holder_and_leader()}")
 
@@ -186,11 +194,8 @@ class Trial:
         self.say(f"  {self.pauses(began)}; others had taken over after {went_on - began:.1f} s")
 
     def pauses(self, since: float) -> str:
-        writer, reader = (
-            self.books.longest_pause(*what, since)
-            for what in (("write", "durable"), ("read", "read"))
-        )
-        return f"longest pause: writer {writer:.1f} s, reader {reader:.1f} s"
+        writer, reader, pages = (self.books.longest_pause(*what, since) for what in CLIENTS.items())
+        return f"longest pause: writer {writer:.1f} s, reader {reader:.1f} s, reader of pages {pages:.1f} s"
 
     def stop(self, what: str) -> None:
         """Ends a client, which has written its books then."""
@@ -202,16 +207,19 @@ class Trial:
         """The check: it knows nothing but the books of the clients, and the archive."""
         self.stop("write")
         last = self.books.last_position("write")
-        eventually(lambda: self.books.last_position("read") >= last, "a reader that has read all")
-        self.stop("read")
+        for what in ("read", "pages"):
+            eventually(lambda: self.books.last_position(what) >= last, f"{what} to the end")
+            self.stop(what)
         texts = [text_of(Block.decode(block)) for block in self.cluster.archive()]
         found = violations(texts, self.books.lines("write"), self.books.lines("read"))
+        found += pages_that_differ(texts, self.books.lines("pages"))
         for violation in found[:20]:
             print(f"violation: {violation}")
         counts = Counter(line["what"] for line in self.books.lines("write"))
         self.say(
             f"{counts['durable']} commits durable, {counts['lost']} lost before they were, {counts['doubt']} in doubt; {self.pauses(0)}"
         )
+        self.say(f"{len(self.books.times('pages', 'page'))} pages read of page servers alone")
         self.say(
             f"{len(texts)} blocks in the database, of generation {self.cluster.generation()}: {len(found)} violations"
         )
@@ -244,14 +252,29 @@ def violations(
     return found
 
 
+def pages_that_differ(texts: list[str], read: list[dict[str, object]]) -> list[str]:
+    """What page servers have shown that is not so, or is older than what they had shown before."""
+    found, before = [], 0
+    for line in read:
+        if line["what"] != "page":
+            continue
+        position = int(line["position"])  # type: ignore[call-overload]
+        wanted = texts[position - 1] if 0 < position <= len(texts) else ""
+        if line["text"] != wanted:
+            found.append(f"{line}, and the database has {wanted!r}")
+        if position < before:
+            found.append(f"{line}, after position {before}")
+        before = position
+    return found
+
+
 def install(folder: Path, program: str) -> None:
-    """The program and `pagelogctl`, where every user may run them."""
+    """The programs and `pagelogctl`, where every user may run them."""
     programs = folder / "programs"
     programs.mkdir()
     shutil.copy(program, programs / "pagelog")
-    shutil.copytree(
-        SOURCE, folder / "python" / "pagelog", ignore=shutil.ignore_patterns("__pycache__")
-    )
+    shutil.copy(os.environ["PAGELOG_PAGES"], programs / "pagelog-pages")
+    shutil.copytree(SOURCE, folder / "python", ignore=shutil.ignore_patterns("__pycache__"))
     (programs / "pagelogctl").write_text(f'#!/bin/sh\nexec {sys.executable} -B -m pagelog "$@"\n')
     for file in programs.iterdir():
         file.chmod(0o755)
@@ -292,7 +315,7 @@ def main() -> int:
 
 def keep_logs(folder: Path, target: Path) -> None:
     target.mkdir(parents=True, exist_ok=True)
-    for file in (*folder.glob("machines/*/*.log"), folder / "write", folder / "read"):
+    for file in (*folder.glob("machines/*/*.log"), *(folder / what for what in CLIENTS)):
         if file.exists():
             shutil.copy(file, target / f"{file.parent.name}-{file.name}")
 

@@ -23,7 +23,7 @@ PLANTS = {
     "begun by identity": Plant("../store/tables", "WHERE id = %(log)s AND identity = %(identity)s::uuid AND NOT dropped ON CONFLICT",
                                "WHERE id = %(log)s AND NOT dropped ON CONFLICT", "store", "number_is_another_ones"),
     "a generation that was lost": Plant("../store/rescuing", "max(each.generation for each in found) + GAP", "1", "rescues", "goes_on"),
-    "the later history": Plant("../store/histories", "key=lambda each: (each.generation, each.last), reverse=True", "key=lambda each: each.last, reverse=True",
+    "the later history": Plant("../store/histories", "    return history.generation, history.last\n", "    return 0, history.last\n",
                                "rescues", "of_two_histories"),
     "amid an object": Plant("../store/histories", "if within(key, position) == wanted), None)", "if True), None)", "rescues", "is_not_another"),
     "a branch's own name": Plant("history", "    ancestor = written_name(referee, row, position)\n", "    ancestor = None\n", "branches", "name_in_its_pages"),

@@ -103,6 +103,7 @@ PARTS = {
     "test_store": "the object store below the archive: seal, put, keep, cut, whatever dies or goes back",
     "test_compacting": "packs of images of which little is needed still",
     "test_rescues": "databases that are made again from their store alone",
+    "test_forward": "databases that are brought forward by their store, as PostgreSQL went back",
     "test_branches": "branches of named databases",
     "test_buckets": "the store in a bucket, and under keepers",
     "test_bases": "bases in PostgreSQL, pruned, and begun again",

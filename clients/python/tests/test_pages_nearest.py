@@ -23,7 +23,7 @@ from pagelog import Block, NamedReader, Put, Reader, Zero
 from pagelog.keeper.referee import digest
 from pagelog.page_copies import PagesQuestion
 from pagelog.page_tail import Tail
-from pagelog.place import UnknownName
+from pagelog.place import Keepers, PageServerPlace, UnknownName
 from pagelog.rules import AboveTheEnd
 from service import PATIENCE, Port, stand_still, token
 from sqlite_named import connected
@@ -52,6 +52,28 @@ class Plan(unittest.TestCase):
         self.assertEqual(PagesQuestion((0,), 6, tail, 0)._plan(line), (3, made[0]))  # type: ignore[arg-type]
         line.position = 2
         self.assertEqual(PagesQuestion((0,), 6, tail, 0)._plan(line), (None, None))  # type: ignore[arg-type]
+
+
+class Told(unittest.TestCase):
+    def test_keepers_that_know_of_none_are_no_keepers_that_are_silent(self) -> None:
+        """Which keeper has answered makes no difference: what is known stays where none has, and is forgotten where one knows of none."""
+        none, one = ["pages", "shop"], ["pages", "shop", "10.0.0.1:7600", "run", "9", "2"]
+        place = PageServerPlace("10.0.0.1:7600", "run", 9, 2)
+        for first, second, told in (
+            ([], [], None),
+            (["elsewhere", "shop"], [], None),
+            (none, [], []),
+            ([], none, []),
+            (none, ["elsewhere", "shop"], []),
+            (none, one, [place]),
+            (one, [], [place]),
+            ([*one[:2], "no address", *one[3:]], [], []),
+            ([*one, "of=another"], [], []),
+        ):
+            answers = {"10.0.0.1:7500": first, "10.0.0.2:7500": second}
+            with closing(Keepers("shop", answers)) as keepers:
+                with patch.object(keepers, "_ask", lambda address, *_, **__: answers[address]):
+                    self.assertEqual(keepers.page_servers(), told, (first, second))
 
 
 class Near(Served):

@@ -4,6 +4,7 @@ from __future__ import annotations
 
 import json
 import os
+import re
 import shutil
 import signal
 import socket
@@ -13,6 +14,7 @@ import subprocess
 import sys
 import threading
 import unittest
+import urllib.request
 from contextlib import closing, suppress
 from pathlib import Path
 from unittest.mock import patch
@@ -20,10 +22,12 @@ from unittest.mock import patch
 import pages_program
 from click.testing import CliRunner
 from keepers import eventually
+from prometheus_client.parser import text_string_to_metric_families
 from pagelog import Connection, Credentials, Put, Reader
 from pagelog.credentials import load
 from pagelog.desk.words import pagelogctl
 from pagelog.errors import ConnectionLost, TimedOut, Unreachable
+from pagelog.keeper.certificate import Pair
 from pagelog.keeper.referee import Referee
 from pagelog.pages.following import Settings
 from pagelog.pages.process import PagesProcess, Serving
@@ -43,6 +47,18 @@ def frame_of(position: int, page: int = 1) -> bytes:
     """A get by principal 3."""
     body = struct.pack(">I16sBIIBIQB", 3, bytes.fromhex(token(3)), 2, 0, 1, 4, page, position, 1)
     return len(body).to_bytes(4, "big") + body
+
+
+def answers(address: str, context: ssl.SSLContext) -> bool:
+    """Whether anything is said there to a request, be it a denial."""
+    host, _, port = address.rpartition(":")
+    try:
+        with socket.create_connection((host, int(port)), PATIENCE) as plain:
+            with context.wrap_socket(plain, server_hostname=host) as line:
+                line.sendall(frame_of(0))
+                return bool(line.recv(1))
+    except (ConnectionError, ssl.SSLError):
+        return False
 
 
 class Secure(Paged):
@@ -270,7 +286,9 @@ class Told(unittest.TestCase):
                 position = primary.commit(durable=True)
         return position
 
-    def servers(self, serving: Serving | None, name: str = "stores") -> PageServers:
+    def servers(
+        self, serving: Serving | None, name: str = "stores", names: tuple[str, ...] = ("shop",)
+    ) -> PageServers:
         settings = Settings(
             pages_program.program(),
             self.keeping.folder / name,
@@ -283,7 +301,7 @@ class Told(unittest.TestCase):
         made = PageServers(
             settings,
             lambda me: Referee(self.keeping.url, me),
-            ["shop"],
+            names,
             lambda name, said: self.said.append(f"{name}: {said}"),
         )
         thread = threading.Thread(target=made.run)
@@ -433,6 +451,65 @@ class Only(Told):
                     Connection(account.to, timeout=PATIENCE, attempts=1), account.credentials
                 ).status()
             opened.terminate()
+
+    def test_each_of_several_databases_lets_in_clients_of_its_own(self) -> None:
+        """They show one certificate, that of their machine: a client of one database is none of the other."""
+        certificates, referee = self.keeping.certificates, self.keeping.referee
+        self.assertTrue(referee.create("other", self.keeping.table.read_text(), b"t" * 16))
+        names = "shop", "other"
+        serving = Serving(self.keeping.pair, certificates.ca, True)
+        servers = self.servers(serving, names=names)
+        eventually(lambda: servers.states().keys() == set(names), "both")
+        look = referee.everything()
+        for name in names:
+            for other in names:
+                row, client = look.row(name), look.row(other)
+                assert row is not None and client is not None
+                [pages] = look.pages_of(row.id)
+                context = certificates.context(certificates.client(client.identity))
+                self.assertEqual(answers(str(pages.told(True)), context), name == other)
+
+    def test_its_metrics_say_when_the_certificate_ends_that_it_shows(self) -> None:
+        position = self.committed(6)
+        log = self.keeping.folder / "pages.log"
+        with log.open("w") as said:
+            process = subprocess.Popen(
+                self.word("shop", "--metrics", "127.0.0.1:0"),
+                stderr=said,
+                env=self.keeping.environment,
+            )
+        self.addCleanup(process.communicate)
+        self.addCleanup(process.kill)
+        eventually(lambda: self.metrics(log).get("pagelog_pages_position") == position, "it")
+        ends = Pair.read(self.keeping.pair).ends
+        self.assertEqual(self.metrics(log)["pagelog_pages_certificate_ends"], ends)
+        self.sign_for_days("short", 5)
+        self.keeping.put("short")
+        soon = Pair.read(self.keeping.pair).ends
+        self.assertNotEqual(soon, ends)
+        self.assertEqual(self.metrics(log)["pagelog_pages_certificate_ends"], soon)
+        self.keeping.pair.write_text("nothing")  # which nobody is shown
+        self.assertEqual(self.metrics(log)["pagelog_pages_certificate_ends"], soon)
+
+    def sign_for_days(self, name: str, days: int) -> None:
+        """As the good one, for fewer days."""
+        folder = self.keeping.certificates.folder
+        made = f"openssl x509 -req -in good.csr -CA ca.pem -CAkey ca.key -CAcreateserial -days {days} -extfile good.ext"
+        subprocess.run(
+            [*made.split(), "-out", f"{name}.pem"], cwd=folder, check=True, capture_output=True
+        )
+        (folder / f"{name}.both").write_bytes(
+            (folder / f"{name}.pem").read_bytes() + (folder / "good.key").read_bytes()
+        )
+
+    def metrics(self, log: Path) -> dict[str, float]:
+        """What it says, where it says where."""
+        found = re.search(r"metrics at (\S+)", log.read_text())
+        if found is None:
+            return {}
+        with urllib.request.urlopen(f"http://{found[1]}/metrics", timeout=PATIENCE) as reply:
+            families = text_string_to_metric_families(reply.read().decode())
+            return {sample.name: sample.value for family in families for sample in family.samples}
 
     def test_what_the_file_says_amiss_is_said(self) -> None:
         file, pair = self.keeping.folder / "wrong.toml", self.keeping.pair

@@ -11,7 +11,7 @@ import threading
 from dataclasses import replace
 from pathlib import Path
 from shutil import which
-from typing import Any, Mapping
+from typing import TYPE_CHECKING, Any, Mapping
 
 import click
 
@@ -19,9 +19,13 @@ from pagelog.credentials import Accounts
 from pagelog.desk.keeper_words import named, url_of_referee
 from pagelog.desk.options import credentials_option, fail, faults
 from pagelog.desk.waiting_words import write_private
+from pagelog.keeper.hosts import is_loopback
 from pagelog.pages.following import Settings
 from pagelog.pages.process import Serving
 from pagelog.pages.stores import asides_in, not_aside_in, sentence
+
+if TYPE_CHECKING:
+    from pagelog.pages.serving import PageServers
 
 _TABLE = """
 [[principal]]
@@ -74,6 +78,11 @@ _ACCOUNT = '[secondary]\nto = "{address}"\nid = 3\ntoken = "{token}"\n'
     help="Reads pass by the system's cache: for stores that are larger than memory.",
 )
 @click.option(
+    "--metrics",
+    metavar="HOST:PORT",
+    help="Where Prometheus asks; others than this machine by TLS, where [keeper] has a certificate.",
+)
+@click.option(
     "--list",
     "lists",
     is_flag=True,
@@ -102,6 +111,7 @@ def pages_word(
     machine: str | None,
     cache: int,
     direct: bool,
+    metrics: str | None,
     lists: bool,
     run: str | None,
     keys: Path | None,
@@ -162,6 +172,8 @@ def pages_word(
     )
     for number in (signal.SIGTERM, signal.SIGINT):
         signal.signal(number, lambda *_: servers.end())
+    if metrics is not None:
+        log.info("metrics at %s", _serve_metrics(servers, settings.serving, metrics))
     try:
         servers.run()
     except FolderInUse as error:
@@ -194,6 +206,21 @@ def _serving(section: Mapping[str, Any], host: str) -> Serving | None:
     return Serving(
         Path(file).absolute(), None if clients is None else Path(clients).absolute(), not plain
     )
+
+
+def _serve_metrics(servers: PageServers, serving: Serving | None, listen: str) -> str:
+    """Returns where."""
+    from pagelog.desk.metrics import serve
+    from pagelog.keeper.certificate import ShownFile
+    from pagelog.pages.metrics import PagesCollector
+
+    file, (host, _, port) = None if serving is None else serving.file, listen.rpartition(":")
+    context = None if file is None or is_loopback(host) else ShownFile(file).context
+    try:
+        bound = serve(PagesCollector(servers.states, file), host.strip("[]"), int(port), context)
+    except (OSError, ValueError) as error:
+        fail(f"--metrics: {listen}: {error}")
+    return f"{host}:{bound}"
 
 
 def _open(settings: Settings, run: str, keys: Path) -> None:

@@ -1,4 +1,4 @@
-"""store: checks a store, copies a database in it, and deletes what nothing names any more."""
+"""store: checks a store, copies a database in it, brings one forward, and deletes what nothing names any more."""
 
 from __future__ import annotations
 
@@ -13,6 +13,7 @@ import click
 
 from pagelog.credentials import Accounts
 from pagelog.desk.deleting import agree, counted, yes_option
+from pagelog.desk.forward_words import forward_word
 from pagelog.desk.keeper_words import Asked, named, referee_of, text_of_table
 from pagelog.desk.options import bar, credentials_option, fail, faults
 from pagelog.errors import CredentialsError
@@ -34,6 +35,9 @@ def store_word() -> None:
     Example:
       pagelogctl store check s3://company-pagelog/prod
     """
+
+
+store_word.add_command(forward_word)
 
 
 def settings_of(accounts: Accounts, url: str | None = None) -> StoreSettings:

@@ -112,6 +112,12 @@ class Follower:
         self._looked = self._flushed = self._pruned = float("-inf")
         self.address: str | None = None
 
+    @property
+    def where(self) -> Where | None:
+        """Where its process is; None where that answers nobody yet."""
+        process = self._process
+        return process.where if process is not None and self._has_begun else None
+
     def end(self) -> None:
         """It ends soon."""
         self._ends.set()

@@ -14,6 +14,7 @@ from pagelog.keeper.referee import KeeperError, Referee
 from pagelog.keeper.schema import FORMAT
 from pagelog.pages.directory import names
 from pagelog.pages.following import Follower, Settings
+from pagelog.pages.process import Where
 from pagelog.repeating import Repeats
 
 _NAMES = 5.0
@@ -44,6 +45,11 @@ class PageServers:
     def end(self) -> None:
         """It ends soon. For a signal too."""
         self._ends.set()
+
+    def states(self) -> dict[str, Where]:
+        """Where those are that answer, by database."""
+        found = {follower.name: follower.where for follower, _ in [*self._running.values()]}
+        return {name: where for name, where in found.items() if where is not None}
 
     def run(self) -> None:
         """Serves until the end."""

@@ -62,21 +62,29 @@ class History:
 
     def has(self, base: NamedBase, within: Callable[[str, int], bytes]) -> bool:
         """Whether a base is one of it: it has these blocks up to there."""
-        part = next(
+        if self._part_at(base.position) is None:
+            return self.base == base
+        return base.chain == self.chain_at(base.position, within)
+
+    def chain_at(self, position: int, within: Callable[[str, int], bytes]) -> bytes | None:
+        """The digest of all blocks up to a position; None where no object of it has that."""
+        part = self._part_at(position)
+        if part is None:
+            return None
+        if position in (part.said.first - 1, part.said.last):
+            return part.said.before if position < part.said.first else part.said.after
+        return within(part.key, position)
+
+    def _part_at(self, position: int) -> Part | None:
+        """The object that has a position, or begins behind it."""
+        return next(
             (
                 part
                 for part in self.parts
-                if part.said.first <= base.position + 1 and base.position <= part.last
+                if part.said.first <= position + 1 and position <= part.last
             ),
             None,
         )
-        if part is None:
-            return self.base == base
-        if base.position in (part.said.first - 1, part.said.last):
-            return base.chain == (
-                part.said.before if base.position < part.said.first else part.said.after
-            )
-        return base.chain == within(part.key, base.position)
 
     def parts_from(self, other: History) -> int:
         """The position after which it parts from another."""
@@ -111,12 +119,9 @@ def histories(
     bases = sorted(
         (base for base in map(named_base, keys) if base is not None), key=lambda base: base.position
     )
-    behind = _by_end(own)
-    continued = {(said.first - 1, said.before) for said in own.values()}
-    found, broken = [], 0
-    for key, said in own.items():
-        if (said.last, said.after) in continued or behind[said.last, said.after] != key:
-            continue  # another goes on from it, or has the same blocks
+    behind, found, broken = _by_end(own), list[History](), 0
+    for key in _ends(own, behind):
+        said = own[key]
         way = _way_to(key, own, behind)
         if way[0].said.first > 1:
             way = _begun_elsewhere(way, others(), within)
@@ -132,7 +137,37 @@ def histories(
             if broken
             else "there is none"
         )
-    return sorted(found, key=lambda each: (each.generation, each.last), reverse=True)
+    return sorted(found, key=_age, reverse=True)
+
+
+def beyond(
+    keys: Iterable[str], position: int, chain: bytes, within: Callable[[str, int], bytes]
+) -> list[History]:
+    """All of a folder that go on behind a position at which all blocks have this digest, the latest first, each as far as its objects lead back.
+    What is below is not asked for: who has it knows it by the digest."""
+    own = {key: said for key in keys if (said := named(key)) is not None}
+    behind = _by_end(own)
+    ways = (History(tuple(_way_to(key, own, behind))) for key in _ends(own, behind))
+    return sorted(
+        (way for way in ways if way.last > position and way.chain_at(position, within) == chain),
+        key=_age,
+        reverse=True,
+    )
+
+
+def _age(history: History) -> tuple[int, int]:
+    """Of two histories the one with the higher generation is the later."""
+    return history.generation, history.last
+
+
+def _ends(keys: dict[str, Named], behind: dict[tuple[int, bytes], str]) -> list[str]:
+    """Those from which no other goes on, one of each end."""
+    continued = {(said.first - 1, said.before) for said in keys.values()}
+    return [
+        key
+        for key, said in keys.items()
+        if (said.last, said.after) not in continued and behind[said.last, said.after] == key
+    ]
 
 
 def _begun(

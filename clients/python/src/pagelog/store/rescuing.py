@@ -81,7 +81,7 @@ def found_in(store: Store, name: str, folder: str | None = None) -> tuple[str, l
     def others() -> list[str]:
         return [key for key, _ in store.list("")]
 
-    return chosen, histories(keys, others, partial(_digest_within, store))
+    return chosen, histories(keys, others, partial(digest_within, store))
 
 
 def _is_whole(store: Store, key: str) -> bool:
@@ -114,7 +114,22 @@ def _has_packs(store: Store, key: str) -> bool:
         return False
 
 
-def _digest_within(store: Store, key: str, position: int) -> bytes:
+def bases_of(store: Store, folder: str, history: History, first: int) -> list[str]:
+    """The keys of the manifests that are of a history, from a position on."""
+    within = partial(digest_within, store)
+    keys = [
+        key
+        for key, _ in store.list(f"{folder}/bases/")
+        if (base := named_base(key)) is not None
+        and first <= base.position <= history.last
+        and _is_whole(store, key)
+        and history.has(base, within)
+    ]
+    return _one_each(store, keys)
+
+
+def digest_within(store: Store, key: str, position: int) -> bytes:
+    """The digest of all blocks up to a position that an object has."""
     segment = decode(store.get(key), key)
     return digest(segment.head.before, segment.blocks(segment.head.first, position))
 
@@ -125,17 +140,8 @@ def rescue(
     """Writes its rows, all or none. Raises `NoHistory`, `BrokenObject` where an object is another's, `Missing` where one is gone, and
     `KeeperError` where PostgreSQL has a database of this name."""
     chosen, found = found_in(store, name, folder)
-    history, within = found[0], partial(_digest_within, store)
-    keys = [key for key, _ in store.list(f"{chosen}/bases/")]
-    bases = [
-        key
-        for key in keys
-        if (base := named_base(key)) is not None
-        and history.start <= base.position <= history.last
-        and _is_whole(store, key)
-        and history.has(base, within)
-    ]
-    bases = _one_each(store, bases)
+    history = found[0]
+    bases = bases_of(store, chosen, history, history.start)
     with ThreadPoolExecutor(_AT_ONCE, "store") as threads:
         heads = list(threads.map(partial(_head, store), history.parts))
     generation = max(each.generation for each in found) + GAP
@@ -213,31 +219,30 @@ def _write(
         try:
             with referee._connected().cursor() as cursor:
                 cursor.executemany(_OBJECT, [(log, *row) for row in rows])
-                packs: dict[str, int] = {}
+                packs, numbers = 0, dict[str, int]()
                 for base in bases:
-                    _write_base(cursor, log, base, packs)
+                    packs = write_base(cursor, log, base, numbers, packs)
                     until = until or moment_of(base.facts.came)
-                cursor.execute(
-                    "UPDATE pagelog_store SET packs = %s WHERE log = %s", (len(packs), log)
-                )
+                cursor.execute("UPDATE pagelog_store SET packs = %s WHERE log = %s", (packs, log))
         except psycopg.Error as error:
             raise referee._meaning(error) from error
     referee._ask(f"SELECT pg_notify('{CHANNEL}', '')")
     return until
 
 
-def _write_base(
-    cursor: psycopg.Cursor[Any], log: int, base: Manifest, packs: dict[str, int]
-) -> None:
-    """The rows of a base. `packs` are those that have a number; an image may be one of an earlier base, too."""
+def write_base(
+    cursor: psycopg.Cursor[Any], log: int, base: Manifest, numbers: dict[str, int], given: int
+) -> int:
+    """The rows of a base. `numbers` are those of packs that have one; an image may be one of an earlier base, too. So many numbers were given,
+    and are then."""
     facts = base.facts
     cursor.execute(
         _BASE, (log, facts.position, facts.chain, facts.digest, facts.pages, moment_of(facts.came))
     )
-    fresh = [pack for pack in base.packs if pack.key not in packs]
-    packs.update({pack.key: len(packs) + number for number, pack in enumerate(fresh, 1)})
+    fresh = [pack for pack in base.packs if pack.key not in numbers]
+    numbers.update({pack.key: given + number for number, pack in enumerate(fresh, 1)})
     cursor.executemany(
-        _PACK, [(log, packs[pack.key], pack.key, pack.size, pack.digest) for pack in fresh]
+        _PACK, [(log, numbers[pack.key], pack.key, pack.size, pack.digest) for pack in fresh]
     )
     cursor.executemany(
         _IMAGE,
@@ -248,7 +253,7 @@ def _write_base(
                 each.base,
                 each.mask.to_bytes(8, "big"),
                 each.crc,
-                packs[base.packs[number].key],
+                numbers[base.packs[number].key],
                 each.at,
                 each.length,
                 each.digest,
@@ -256,3 +261,4 @@ def _write_base(
             for each, number in base.images
         ],
     )
+    return given + len(fresh)

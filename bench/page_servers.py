@@ -1,0 +1,368 @@
+"""Page servers beside the service's own gets, all in one run; what they take; and how soon they have what is durable.
+
+Usage: python3 -B bench/page_servers.py [SHARE]     (1; less pages, blocks and rounds with 0.1)
+
+The service is crates/pagelog/out/pagelog, or the program that PAGELOG names; the page server that of `make -C clients/pages`. Servers have
+processors 0 and 1, clients 2 and 3. Both have the same blocks, ten records in each page, and are asked in turn, by bench/frames.c.
+
+- gets of drawn pages, one at a time on 1, 8 and 64 connections, and 64 together on one: rates, and shares of the service's, round by
+  round: the median, and the half of the rounds around it. Then two page servers, each on a processor of its own, beside one.
+- a larger database, of which nothing is in memory, with 512 MiB of cache and O_DIRECT: reads, beside reads of 8 KiB of the same files;
+  memory after many of them.
+- how many blocks are taken in a second, and how soon it answers again after a SIGKILL amid that.
+- under keepers: from when a commit is told to be durable until a get at its position is answered.
+"""
+
+import contextlib
+import mmap
+import os
+import pathlib
+import random
+import signal
+import socket
+import statistics
+import subprocess
+import sys
+import tempfile
+import time
+
+import kept
+import rounds
+from serving import ROOT, SHARE, TABLE, Service, about, build_frames, get, wire, words_of_service
+import serving
+from pagelog.keeper.referee import digest
+from pagelog.pages.process import PagesProcess
+from pagelog.pages.table import lines_of
+
+PAGES = ROOT / "clients" / "pages" / "out" / "pagelog-pages"
+SERVERS, CLIENTS = {0, 1}, "2,3"
+ROUNDS = max(3, round(15 * SHARE))
+REPLY = 4 + 1 + 8 + 8192
+NUMBERS, RECORDS = 4000, 10
+LAST = NUMBERS * RECORDS
+LARGE = round((1 << 18) * SHARE)
+DENIED = '[[row]]\nverdict = "deny"\nwho = 3\nop = ["get"]\nfrom = 7\nto = 7\n'
+ALLOWED = TABLE.read_text().replace(DENIED, "")
+
+
+def block(lsn):
+    """A hundred bytes at one of ten places of a page."""
+    number = lsn * 7919 % NUMBERS
+    return wire.block(lsn, [(number, lsn // NUMBERS * 800, bytes([lsn % 251]) * 100)])
+
+
+def spelled(page, position):
+    """A get at this very position."""
+    return get(page, position, 1)
+
+
+@contextlib.contextmanager
+def page_server(folder, *options, processors=SERVERS):
+    """One whose threads run on these processors alone."""
+    before = os.sched_getaffinity(0)
+    os.sched_setaffinity(0, processors)
+    try:
+        made = PagesProcess(PAGES, pathlib.Path(folder), "127.0.0.1:0", *options)
+    finally:
+        os.sched_setaffinity(0, before)
+    made.port = int(made.address.rpartition(":")[2])
+    made.set_table(ALLOWED)
+    try:
+        yield made
+    finally:
+        made.end()
+
+
+# Gets, by turns.
+
+
+def asked(frames, port, words):
+    """What the client says, on its own processors."""
+    command = ["taskset", "-c", CLIENTS, frames, *words[:1], port, *words[1:]]
+    done = subprocess.run(list(map(str, command)), capture_output=True, text=True, check=True)
+    return done.stdout.split()
+
+
+class Asking:
+    """Files with requests for pages that are drawn."""
+
+    def __init__(self, folder, frames):
+        self.folder, self.frames, chance = pathlib.Path(folder), frames, random.Random(1)
+        drawn = [spelled(chance.randrange(NUMBERS), LAST) for _ in range(4096)]
+        self.each, self.together = self.folder / "each", self.folder / "together"
+        self.each.write_bytes(b"".join(drawn))
+        self.together.write_bytes(b"".join(drawn[:64]))
+
+    def one_at_a_time(self, port, connections, count):
+        """A second, of all connections; what takes a start of the client is a hundredth."""
+        began = time.perf_counter()
+        asked(self.frames, port, ["delays", count, "get", connections, self.each])
+        return connections * count / (time.perf_counter() - began)
+
+    def in_flight(self, port, count):
+        """A second, of 64 that are sent together."""
+        words = ["ask", 1, 1, count, 64 * REPLY, self.together]
+        return 64 * count / float(asked(self.frames, port, words)[0])
+
+
+def gets(folder, frames):
+    """The service and a page server; then two beside one."""
+    asking = Asking(folder, frames)
+    blocks = [block(lsn) for lsn in range(1, LAST + 1)]
+    table = pathlib.Path(folder, "table.toml")
+    table.write_text(ALLOWED)
+    serving.TABLE = table
+    before = os.sched_getaffinity(0)
+    os.sched_setaffinity(0, SERVERS)
+    service = Service(4)
+    os.sched_setaffinity(0, before)
+    with service, page_server(pathlib.Path(folder, "near")) as pages:
+        service.harden(LAST, block)
+        pages.add(blocks, digest(b"", blocks))
+        shapes = {
+            f"{connections} connections": lambda port, c=connections, n=count: asking.one_at_a_time(
+                port, c, round(n * SHARE)
+            )
+            for connections, count in ((1, 4000), (8, 1500), (64, 300))
+        } | {"64 in flight": lambda port: asking.in_flight(port, round(400 * SHARE))}
+        ports = {"service": service.port, "page server": pages.port}
+        for what, run in shapes.items():
+            found = rounds.in_turn(ROUNDS, ports, lambda case: run(ports[case]))
+            share = rounds.ratio(found["page server"], found["service"])
+            rates = ", ".join(f"{case} {statistics.median(found[case]):,.0f}" for case in ports)
+            print(f"gets a second, {what}: {rates}; share {share}; {load()}", flush=True)
+    two(folder, asking, blocks)
+
+
+def two(folder, asking, blocks):
+    """Two clients, at one page server or at two, each of which has one processor."""
+    with page_server(pathlib.Path(folder, "one"), processors={0}) as one, page_server(
+        pathlib.Path(folder, "two"), processors={1}
+    ) as other:
+        for each in (one, other):
+            each.add(blocks, digest(b"", blocks))
+        found = rounds.in_turn(
+            ROUNDS, (1, 2), lambda count: both(asking, one.port, (one, other)[count - 1].port)
+        )
+    print(
+        f"two copies beside one, 8 connections each: {rounds.ratio(found[2], found[1])}, one "
+        f"{statistics.median(found[1]):,.0f} gets a second; {load()}",
+        flush=True,
+    )
+
+
+def both(asking, *ports):
+    """A second, of two clients at once."""
+    count, began = round(1500 * SHARE), time.perf_counter()
+    clients = [
+        subprocess.Popen(
+            list(
+                map(
+                    str,
+                    (
+                        "taskset",
+                        "-c",
+                        at,
+                        asking.frames,
+                        "delays",
+                        port,
+                        count,
+                        "get",
+                        8,
+                        asking.each,
+                    ),
+                )
+            ),
+            stdout=subprocess.DEVNULL,
+        )
+        for at, port in zip((2, 3), ports)
+    ]
+    assert [client.wait() for client in clients] == [0, 0]
+    return 16 * count / (time.perf_counter() - began)
+
+
+def load():
+    return f"load {os.getloadavg()[0]:.0f}"
+
+
+# A database that is larger than the cache.
+
+
+def large(folder):
+    """Half of each page is such that nothing compresses it."""
+    store, chance = pathlib.Path(folder, "large"), random.Random(2)
+    began = time.perf_counter()
+    with page_server(store, "--cache", "512", "--direct") as pages:
+        pages.begin(1, b"c" * 16, ((n, chance.randbytes(4096) + bytes(4096)) for n in range(LARGE)))
+        print(
+            f"{LARGE:,} pages taken in: {time.perf_counter() - began:.0f} s; {load()}", flush=True
+        )
+    files = [file for file in store.parent.glob("large*/**/*.sst")] or list(store.rglob("*.sst"))
+    size = sum(file.stat().st_size for file in files)
+    with page_server(store, "--cache", "512", "--direct") as pages:
+        print(f"opened with {resident(pages.pid)} MiB; {size >> 20} MiB on the disk", flush=True)
+        numbers = random.Random(3).sample(range(LARGE), min(LARGE, round(6000 * SHARE)))
+        found = rounds.in_turn(
+            ROUNDS,
+            ("page server", "files"),
+            Cold(pages.port, files, numbers).run,
+        )
+        ratio = rounds.ratio(found["page server"], found["files"])
+        print(
+            f"cold reads one at a time: {1e6 * statistics.median(found['page server']):.0f} us, of 8 KiB of its files "
+            f"{1e6 * statistics.median(found['files']):.0f}; {ratio}; {load()}",
+            flush=True,
+        )
+        read_all(pages.port, range(0, LARGE))
+        print(f"memory after each page was read: {resident(pages.pid)} MiB; {load()}", flush=True)
+
+
+class Cold:
+    """Reads of pages, and of places in the files, of which none was read before."""
+
+    def __init__(self, port, files, numbers):
+        self.port, self.each = port, len(numbers) // ROUNDS
+        self.numbers, self.chance = iter(numbers), random.Random(4)
+        self.files = [
+            (os.open(file, os.O_RDONLY | os.O_DIRECT), file.stat().st_size)
+            for file in files
+            if file.stat().st_size > 1 << 20
+        ]
+        self.room = mmap.mmap(-1, 8192)
+
+    def run(self, case):
+        """Seconds of one."""
+        return self.pages() if case == "page server" else self.of_files()
+
+    def pages(self):
+        numbers = [next(self.numbers) for _ in range(self.each)]
+        began = time.perf_counter()
+        read_all(self.port, numbers)
+        return (time.perf_counter() - began) / self.each
+
+    def of_files(self):
+        began = time.perf_counter()
+        for _ in range(self.each):
+            file, size = self.chance.choice(self.files)
+            os.preadv(file, [self.room], self.chance.randrange((size - 8192) >> 12) << 12)
+        return (time.perf_counter() - began) / self.each
+
+
+def read_all(port, numbers):
+    with connected(port) as line, line.makefile("rb") as file:
+        for number in numbers:
+            line.sendall(spelled(number, 1))
+            reply = file.read(REPLY)
+            assert reply[4] == serving.PAGE, reply[:20]
+
+
+def connected(port, host="127.0.0.1"):
+    line = socket.create_connection((host, port))
+    line.setsockopt(socket.IPPROTO_TCP, socket.TCP_NODELAY, 1)
+    return line
+
+
+def resident(pid):
+    lines = pathlib.Path(f"/proc/{pid}/status").read_text().splitlines()
+    return next(int(line.split()[1]) >> 10 for line in lines if line.startswith("VmRSS"))
+
+
+# Following.
+
+
+def following(folder):
+    """Blocks of one page each, over 100,000; then deaths."""
+    store, count = pathlib.Path(folder, "followed"), round(400_000 * SHARE)
+    blocks = [
+        wire.block(lsn, [(lsn * 7919 % 100_000, lsn % 80 * 100, bytes([lsn % 251]) * 100)])
+        for lsn in range(1, count + 1)
+    ]
+    chain, rates, starts = b"", [], []
+    with contextlib.ExitStack() as stack:
+        pages = stack.enter_context(page_server(store))
+        for first in range(0, count, 8192):
+            some = blocks[first : first + 8192]
+            chain = digest(chain, some)
+            began = time.perf_counter()
+            pages.add(some, chain)
+            rates.append(len(some) / (time.perf_counter() - began))
+        taken = kept.processor_seconds(pages.pid)
+        print(
+            f"blocks followed a second: {statistics.median(rates):,.0f}, {min(rates):,.0f} at least; "
+            f"{1e6 * taken / count:.1f} us of a processor each; {load()}",
+            flush=True,
+        )
+        pages.kill()
+    for _ in range(10):
+        began = time.perf_counter()
+        made = PagesProcess(PAGES, store, "127.0.0.1:0")
+        starts.append(time.perf_counter() - began)
+        some = blocks[made.where.written : made.where.written + 4096]
+        if some:
+            made.add(some)
+        os.kill(made.pid, signal.SIGKILL)
+        made.end()
+    print(
+        f"up again after SIGKILL: {1000 * statistics.median(starts):.0f} ms, {1000 * max(starts):.0f} at most; {load()}",
+        flush=True,
+    )
+
+
+# Under keepers.
+
+
+def readable(folder):
+    """From when a commit is durable until a page server answers at its position."""
+    server = kept.Alone()
+    with kept.keeping(server, standby=False) as keeping, keeping.primary() as primary:
+        words = [
+            "-m",
+            "pagelog",
+            "pages",
+            "--program",
+            PAGES,
+            "--folder",
+            pathlib.Path(folder, "stores"),
+        ]
+        words += ["--credentials", keeping.file]
+        follower = subprocess.Popen(
+            [sys.executable, *map(str, words)],
+            stderr=subprocess.DEVNULL,
+            env={**os.environ, "PYTHONPATH": str(ROOT / "clients" / "python" / "src")},
+        )
+        try:
+            with keeping.reader(pages="only") as reader:
+                times = [one(primary, reader) for _ in range(max(100, round(1000 * SHARE)))]
+        finally:
+            follower.send_signal(signal.SIGTERM)
+            follower.wait()
+    server.stop()
+    print(
+        f"durable to readable: p50 {kept.at(50, times):.1f} ms, p99 {kept.at(99, times):.1f}, of {len(times)} commits one after the other; "
+        f"{load()}",
+        flush=True,
+    )
+
+
+def one(primary, reader):
+    primary.append(kept.RECORD)
+    position = primary.commit(durable=True)
+    began = time.perf_counter()
+    assert reader.page(0, position).at == position
+    return time.perf_counter() - began
+
+
+def main():
+    print(f"{about()}; servers on 0 and 1, clients on {CLIENTS}", flush=True)
+    work = ROOT / "bench" / "work"
+    work.mkdir(exist_ok=True)
+    with tempfile.TemporaryDirectory(dir=work) as folder:
+        frames = build_frames(folder)
+        gets(folder, frames)
+        large(folder)
+        following(folder)
+        readable(folder)
+
+
+if __name__ == "__main__":
+    main()
