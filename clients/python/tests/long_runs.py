@@ -14,6 +14,7 @@ from typing import Callable, Mapping, Sequence
 
 from keepers import Keeping
 from pagelog import Block
+from torture_processes import end_of
 
 STOP = "stop"
 """The file with which clients end."""
@@ -61,7 +62,7 @@ class LongRun:
 
     def faults(self, statuses: Sequence[int]) -> list[str]:
         """What went wrong beside all else: clients that failed, and keepers."""
-        found = [f"a client ended with status {status}" for status in statuses if status != 0]
+        found = [f"a client {end_of(status)}" for status in statuses if status != 0]
         return found + [
             line for line in self.keeping.said().splitlines() if "fault of the keeper" in line
         ]

@@ -16,6 +16,7 @@ from typing import TYPE_CHECKING, Callable, Iterator
 
 from service import stand_still
 from torture_notes import now
+from torture_processes import is_in_own_space
 from torture_rig import TTL, Lone, Two, postgres_of, send
 
 if TYPE_CHECKING:
@@ -48,7 +49,7 @@ class Faults:
     # Small disks.
 
     def _mount(self, folder: Path, size: int, mode: str = "755") -> bool:
-        if not os.environ.get("PAGELOG_TORTURE_MOUNTS"):
+        if not is_in_own_space():
             return False
         folder.mkdir(exist_ok=True)
         subprocess.run(
