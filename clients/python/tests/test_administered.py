@@ -293,7 +293,8 @@ class Cells(unittest.TestCase):
         self.assertEqual(self.counts.rarest_death([["prune"]] * 5, "alone", self.chance), "service")
 
     def test_what_only_another_subcommand_makes_possible_makes_that_one_rare(self) -> None:
-        self.counts.add("create", "keeper", "alone", -3)
+        for death in DEATHS:
+            self.counts.add("create", death, "alone", -2)
         self.counts.add("prune", "service", "alone", -1)
         some = ["prune", "drop", "pause"]
         self.assertEqual(self.counts.rarest(some, "service", "alone", self.chance), "drop")

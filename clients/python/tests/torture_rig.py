@@ -404,7 +404,7 @@ class Counts:
     def rarest_death(self, possible: list[list[str]], kind: str, chance: random.Random) -> str:
         """The one that those have met least often which are possible now, for each database."""
 
-        def met(death: str) -> int:
+        def met(death: str) -> float:
             return sum(min(self._least(each, death, kind) for each in some) for some in possible)
 
         return min(DEATHS, key=lambda death: (met(death), chance.random()))
@@ -412,11 +412,12 @@ class Counts:
     def rarest(self, subcommands: list[str], death: str, kind: str, chance: random.Random) -> str:
         return min(subcommands, key=lambda each: (self._least(each, death, kind), chance.random()))
 
-    def _least(self, subcommand: str, death: str, kind: str) -> int:
-        """How often it has come, or, with any death, what only it makes possible."""
-        opens = OPENS.get(subcommand)
-        opened = [self.get(opens, each, kind) for each in DEATHS] if opens is not None else []
-        return min([self.get(subcommand, death, kind), *opened])
+    def _least(self, subcommand: str, death: str, kind: str) -> float:
+        """How often it has come, or, in the mean of all deaths, what only it makes possible."""
+        own, opens = self.get(subcommand, death, kind), OPENS.get(subcommand)
+        if opens is None:
+            return own
+        return min(own, sum(self.get(opens, each, kind) for each in DEATHS) / len(DEATHS))
 
     def rarest_kind(self, kinds: Sequence[str]) -> str:
         """The one that lacks most."""
