@@ -30,7 +30,7 @@ from torture_check import BOUND, Check, Drop, Past, Restored  # noqa: E402
 from torture_copies import MACHINES, Servers  # noqa: E402
 from torture_faults import Faults, slowness  # noqa: E402
 from torture_notes import STOP, Job, fail_loudly, notes_of, now  # noqa: E402
-from torture_processes import end_told, in_own_space, tell_who_ends  # noqa: E402
+from torture_processes import end_told, in_own_space, signals_kept, tell_who_ends  # noqa: E402
 from torture_rig import (
     KINDS,
     SUBCOMMANDS,
@@ -65,6 +65,8 @@ PAGED = ("p1", "p2")
 """Those of Python's clients have page servers."""
 BY_TLS, COUNTS = "--tls", "--counts"
 CLIENTS = torture_sqlite.KINDS | torture_pages.KINDS
+OPERATORS = 2
+"""Of each database: what they do they do at the same time."""
 QUIET = 25.0
 """Seconds of rounds between two times at which all is healed, and each writer has to go on."""
 
@@ -151,9 +153,10 @@ class Segment:
 
     def start_client(self, kind: str, who: str, other: str) -> subprocess.Popen[bytes]:
         job = Job(self.folder, self.keepers.addresses, who.partition(".")[0], who, self.seed, other)
-        self.clients[who] = subprocess.Popen(
-            [sys.executable, __file__, "client", kind, *job.words()]
-        )
+        with signals_kept():
+            self.clients[who] = subprocess.Popen(
+                [sys.executable, __file__, "client", kind, *job.words()]
+            )
         return self.clients[who]
 
     def _kill_clients(self) -> None:
@@ -218,7 +221,7 @@ class Segment:
             return ["resume"]
         return [each for each in SUBCOMMANDS if each not in ("create", "resume")]
 
-    # A round: a subcommand for each database at the same time, and one death for all.
+    # A round: subcommands for each database at the same time, and one death for all.
 
     def round(self) -> None:
         kept = self.kept() or {}
@@ -226,7 +229,10 @@ class Segment:
         death = self.counts.rarest_death(possible, self.kind, self.chance)
         with self.faults.some(death):
             strike = self.faults.death(death)
-            calls = [(name, self.begin(name, death, kept.get(name))) for name in NAMES]
+            calls = [
+                (name, self.begin(name, death, kept.get(name)))
+                for name in self.chance.sample(NAMES * OPERATORS, len(NAMES) * OPERATORS)
+            ]
             time.sleep(self.chance.uniform(0, 0.3))
             strike.meanwhile()
             for name, (subcommand, called) in calls:

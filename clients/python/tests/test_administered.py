@@ -17,7 +17,7 @@ from typing import Any, Callable
 from service import HERE
 from torture_check import BOUND, Check, Drop, Past
 from torture_notes import GENESIS, entry, link
-from torture_processes import end_told, in_own_space
+from torture_processes import end_told, in_own_space, signals_kept
 from torture_rig import DEATHS, ENOUGH, KINDS, SUBCOMMANDS, Carried, Counts, Loss
 
 LATE = 10 + BOUND + 1
@@ -374,6 +374,15 @@ class Ends(unittest.TestCase):
         told = end_told(status, self.file)
         self.assertRegex(told, rf"was ended by SIGTERM, which \S+, process {os.getpid()}, sent")
         self.assertEqual(end_told(status, self.file), "was ended by SIGTERM")
+
+    def test_also_who_has_ended_one_that_had_just_begun(self) -> None:
+        with signals_kept():
+            called = subprocess.Popen(
+                self.telling, cwd=HERE, stdin=subprocess.PIPE, stdout=subprocess.DEVNULL
+            )
+        with called:
+            called.terminate()
+            self.assertIn("sent", end_told(called.wait(), self.file))
 
     @unittest.skipUnless(os.geteuid() == 0, "only root can have a space of processes")
     def test_who_is_in_no_space_of_a_torture_has_no_name_there(self) -> None:

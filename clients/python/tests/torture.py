@@ -28,7 +28,7 @@ import psycopg  # noqa: E402
 
 from by_tls import VARIABLE, trust  # noqa: E402
 from keepers import Keeping, eventually  # noqa: E402
-from long_runs import STOP, Client, LongRun, is_client, text_of, texts_of  # noqa: E402
+from long_runs import STOP, LongRun, is_client, text_of, texts_of  # noqa: E402
 from pagelog import (
     Block,
     Group,
@@ -47,7 +47,7 @@ from replicated import Pair  # noqa: E402
 from secured import Secured  # noqa: E402
 from service import PATIENCE, TOP, token  # noqa: E402
 from torture_copies import Copies, look
-from torture_processes import end_of, in_own_space, is_in_own_space, tell_who_ends
+from torture_processes import end_of, in_own_space, is_in_own_space
 from torture_secrets import Secrets
 
 TTL = 2.0
@@ -512,7 +512,6 @@ class Torture(LongRun):
             + self.copies.violations()
             + self.faults(ended)
             + self.died
-            + self.senders()
             + secrets.found()
             + self.unverified()
         )
@@ -522,13 +521,6 @@ class Torture(LongRun):
             if process.poll() is not None:
                 self.died.append(f"keeper {name} {end_of(process.returncode)}")
         self.keeping.start(*(set(self.keeping.processes) - set(self.names())))
-
-    def senders(self) -> list[str]:
-        """Who sent a signal to a client that ended it."""
-        return [
-            f"{file.name.partition('.')[2]} was ended by a signal{file.read_text()}"
-            for file in self.keeping.folder.glob("ended.*")
-        ]
 
     def unverified(self) -> list[str]:
         """What pagelog-verify says of each list of the trail that is of no database, if there are trails and that is built."""
@@ -627,13 +619,8 @@ class Check:
         return {generation: base for (generation, _), (_, base) in zip(rows, rows[1:])}
 
 
-CLIENTS: dict[str, Client] = {"write": write, "share": share, "read": read, "look": look}
-
-
 def main(words: list[str]) -> int:
-    if words and words[0] in CLIENTS:
-        tell_who_ends(Path(words[1]) / f"ended.{words[0]}{words[2]}")
-    if is_client(words, CLIENTS):
+    if is_client(words, {"write": write, "share": share, "read": read, "look": look}):
         return 0
     called = [sys.executable, __file__, *words]
     if not is_in_own_space() and (own := in_own_space(called)) != called:

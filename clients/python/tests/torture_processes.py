@@ -11,7 +11,9 @@ import subprocess
 import sys
 import tempfile
 import threading
+from contextlib import contextmanager
 from pathlib import Path
+from typing import Iterator
 
 ENDING = (signal.SIGTERM, signal.SIGHUP, signal.SIGQUIT)
 """Signals by which somebody may end a client, and that it can be told of."""
@@ -75,7 +77,17 @@ def _name_of(pid: int) -> str:
         return "a process that is gone"
 
 
-# In clients.
+# Clients.
+
+
+@contextmanager
+def signals_kept() -> Iterator[None]:
+    """Who is begun meanwhile gets these signals once it takes them, by `tell_who_ends`."""
+    before = signal.pthread_sigmask(signal.SIG_BLOCK, ENDING)
+    try:
+        yield
+    finally:
+        signal.pthread_sigmask(signal.SIG_SETMASK, before)
 
 
 def tell_who_ends(file: Path) -> None:
