@@ -450,7 +450,7 @@ def segments(seconds: float, seed: int, kinds: list[str], carried: Carried) -> i
         pages_program.program()
         os.environ[torture_pages.PAGE_SERVERS] = "1"
     began, worst, number, first = now(), 0, 0, carried.known()
-    each = max(20.0, min(120.0, seconds / len(kinds) - 10))
+    each = max(20.0, min(300.0, seconds / len(kinds) - 10))
     while now() - began < seconds or number < len(kinds):
         known = carried.known()
         words = [sys.executable, __file__, "segment", known.rarest_kind(kinds)]
