@@ -325,7 +325,7 @@ class Segment:
         self.heal()
         healed, waiting = now(), {who for _, who, _ in WRITERS}
         slow.begin()
-        while waiting and now() < healed + PATIENCE:
+        while waiting and now() < healed + max(PATIENCE, BOUND * slow.mean()):
             self._start_clients_that_ended()
             waiting -= {who for who in waiting if self._has_committed(who, healed)}
             time.sleep(0.05)

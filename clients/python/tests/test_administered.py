@@ -162,6 +162,16 @@ class Administered(unittest.TestCase):
         self.look(11 + BOUND + 1, one)
         self.assert_one("refused, and yet there")
 
+    def test_lost_by_what_postgresql_has_lost_itself(self) -> None:
+        """As by a drop that it said, and then it went back to before that."""
+        self.look(LATE, self.commit(1, 9, what="lost"))
+        self.assert_one("refused, and yet there")
+        self.past.losses.append(Loss(9.5, 10))
+        self.past.bound = 0.0
+        self.assert_one("refused, and yet there")
+        self.past.losses.append(Loss(8, 9.2))
+        self.assertEqual(self.violations(), [])
+
     def test_refused_by_the_last_of_two_databases(self) -> None:
         one = self.commit(1, 9, what="failed")
         self.note("v", "try", 9, number=1, links=[{**one, "sum": "another"}, one])

@@ -295,9 +295,13 @@ class Slowness:
     def begin(self) -> None:
         self._seen = [1.0]
 
+    def mean(self) -> float:
+        """Since it was begun."""
+        return max(1.0, sum(self._seen) / len(self._seen))
+
     def end(self) -> float:
         """The mean since it was begun."""
-        mean = max(1.0, sum(self._seen) / len(self._seen))
+        mean = self.mean()
         self._worst = max(self._worst, mean)
         return mean
 
