@@ -610,6 +610,8 @@ class Kept(Served):
     def test_of_a_database_that_was_dropped_nobody_is_answered(self) -> None:
         with self.keeping.primary() as primary:
             position = self.commit(primary, 1)
+        # By its own look, and not as it is ended by who looks which databases there are.
+        self.enterContext(patch("pagelog.pages.serving._NAMES", PATIENCE))
         self.servers()
         run, address = self.follows_to(position)
         reader = self.reader(run, address)
