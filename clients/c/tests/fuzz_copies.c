@@ -1,6 +1,6 @@
 /* What a page server may say under libFuzzer (clients/c/fuzz) to a reader that asks it for two pages. The
- * first byte of the input says in which pieces the answer comes, the second which of its replies are as they
- * should be: the bytes of the others are the rest of the input.
+ * first byte of the input says in which pieces the answer comes, of at most 256; the second which of its
+ * replies are as they should be: the bytes of the others are the rest of the input.
  *
  * What is believed does not hang on how it comes; pages are believed only where page 0 has the mark that is
  * held, and all replies are as they should be; and what is believed is what they have, with the later blocks
@@ -26,6 +26,7 @@ static ssize_t come(int socket, void *to, size_t room, int flags);
 #include "../pagelog_copies.c"
 
 enum { MOST_INPUT = 4096, PAGES = 2, REPLIES = 2 + PAGES, MOST_ANSWER = REPLIES * (FRAME_HEAD + MOST_REPLY) };
+enum { MOST_PIECES = 256 };
 enum { BASE = 20, NEWEST = 22, BLOCK_PUT = 12, FILLING = 0x11, LAID = 0x5a };
 
 static const uint8_t *input;
@@ -163,7 +164,8 @@ int LLVMFuzzerTestOneInput(const uint8_t *bytes, size_t size) {
     if (held.count == 0) hold(&held);
     size_t length = answer(made, bytes[1], bytes + 2, size - 2);
     ask_it(&whole, &held, made, length, SIZE_MAX);
-    ask_it(&pieces, &held, made, length, 1 + (size_t)bytes[0] * 37);
+    size_t least = 1 + length / MOST_PIECES, each = 1 + (size_t)bytes[0] * 37;
+    ask_it(&pieces, &held, made, length, each > least ? each : least);
     must("what is believed at once is so in pieces", !whole.is_right || pieces.is_right);
     must_be_right(&whole, bytes[1]);
     must_be_right(&pieces, bytes[1]); /* also where more comes after the answer */

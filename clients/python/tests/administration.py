@@ -30,10 +30,12 @@ from torture_check import BOUND, Check, Drop, Past, Restored  # noqa: E402
 from torture_copies import MACHINES, Servers  # noqa: E402
 from torture_faults import Faults, slowness  # noqa: E402
 from torture_notes import STOP, Job, fail_loudly, notes_of, now  # noqa: E402
+from torture_processes import end_told, in_own_space, signals_kept, tell_who_ends  # noqa: E402
 from torture_rig import (
     KINDS,
     SUBCOMMANDS,
     Called,
+    Carried,
     Counts,
     Keepers,
     environment,
@@ -61,8 +63,10 @@ READERS = (
 )
 PAGED = ("p1", "p2")
 """Those of Python's clients have page servers."""
-BY_TLS = "--tls"
+BY_TLS, COUNTS = "--tls", "--counts"
 CLIENTS = torture_sqlite.KINDS | torture_pages.KINDS
+OPERATORS = 2
+"""Of each database: what they do they do at the same time."""
 QUIET = 25.0
 """Seconds of rounds between two times at which all is healed, and each writer has to go on."""
 
@@ -112,7 +116,7 @@ class Segment:
             self._end()
         self.past.bound = BOUND * slow.worst()
         self.check = Check(self.folder, self.past)
-        return self.stuck + self.check.violations()
+        return self.stuck + self.keepers.died + self.check.violations()
 
     def _begin(self) -> None:
         self.keepers.start_what_ended()
@@ -149,9 +153,10 @@ class Segment:
 
     def start_client(self, kind: str, who: str, other: str) -> subprocess.Popen[bytes]:
         job = Job(self.folder, self.keepers.addresses, who.partition(".")[0], who, self.seed, other)
-        self.clients[who] = subprocess.Popen(
-            [sys.executable, __file__, "client", kind, *job.words()]
-        )
+        with signals_kept():
+            self.clients[who] = subprocess.Popen(
+                [sys.executable, __file__, "client", kind, *job.words()]
+            )
         return self.clients[who]
 
     def _kill_clients(self) -> None:
@@ -216,14 +221,18 @@ class Segment:
             return ["resume"]
         return [each for each in SUBCOMMANDS if each not in ("create", "resume")]
 
-    # A round: a subcommand for each database at the same time, and one death for all.
+    # A round: subcommands for each database at the same time, and one death for all.
 
     def round(self) -> None:
         kept = self.kept() or {}
-        death = self.counts.rarest_death(self.kind, self.chance)
+        possible = [self.possible(name, kept.get(name)) for name in NAMES]
+        death = self.counts.rarest_death(possible, self.kind, self.chance)
         with self.faults.some(death):
             strike = self.faults.death(death)
-            calls = [(name, self.begin(name, death, kept.get(name))) for name in NAMES]
+            calls = [
+                (name, self.begin(name, death, kept.get(name)))
+                for name in self.chance.sample(NAMES * OPERATORS, len(NAMES) * OPERATORS)
+            ]
             time.sleep(self.chance.uniform(0, 0.3))
             strike.meanwhile()
             for name, (subcommand, called) in calls:
@@ -235,6 +244,7 @@ class Segment:
         self, name: str, death: str, facts: dict[str, Any] | None
     ) -> tuple[str, Called | None]:
         subcommand = self.counts.rarest(self.possible(name, facts), death, self.kind, self.chance)
+        self.counts.add(subcommand, death, self.kind)  # the next database has another
         if subcommand == "keep":
             self.faults.copied_keeper()
             return subcommand, None
@@ -250,8 +260,9 @@ class Segment:
 
     def finish(self, name: str, subcommand: str, called: Called | None, death: str) -> None:
         status = None if called is None else called.wait(60)
-        met = death if death != "subcommand" or status is None or status < 0 else "none"
-        self.counts.add(subcommand, met, self.kind)
+        if death == "subcommand" and status is not None and status >= 0:  # it met none
+            self.counts.add(subcommand, death, self.kind, -1)
+            self.counts.add(subcommand, "none", self.kind)
         if called is None:
             return
         if subcommand == "drop" and status != 2:
@@ -314,7 +325,8 @@ class Segment:
         self.heal()
         healed, waiting = now(), {who for _, who, _ in WRITERS}
         slow.begin()
-        while waiting and now() < healed + PATIENCE:
+        while waiting and now() < healed + max(PATIENCE, BOUND * slow.mean()):
+            self._start_clients_that_ended()
             waiting -= {who for who in waiting if self._has_committed(who, healed)}
             time.sleep(0.05)
         took, bound = now() - healed, BOUND * slow.end()
@@ -328,6 +340,17 @@ class Segment:
             self.stuck.append(
                 f"stuck: {sorted(waiting) or 'a writer'}, {took:.1f} s after the last fault, bound {bound:.1f} s"
             )
+
+    def _start_clients_that_ended(self) -> None:
+        """Nobody here has ended them, and none ends by itself."""
+        for kind, who, other in (*WRITERS, *READERS):
+            if (status := self.clients[who].poll()) is not None:
+                self.stuck.append(f"{who} {end_told(status, self._end_of(who))}")
+                self.start_client(kind, who, other)
+
+    def _end_of(self, who: str) -> Path:
+        """The file that says who has ended a client."""
+        return self.folder / f"{who}.ended"
 
     def _has_committed(self, who: str, since: float) -> bool:
         for file in self.folder.glob(f"{who}*.notes"):
@@ -343,9 +366,10 @@ class Segment:
             try:
                 status = client.wait(PATIENCE)
             except subprocess.TimeoutExpired:
-                status = None
+                self.stuck.append(f"{who} does not end")
+                continue
             if status != 0:
-                self.stuck.append(f"{who} ended with {status}")
+                self.stuck.append(f"{who} {end_told(status, self._end_of(who))}")
         for name in NAMES:
             kind = "final" if name.startswith("s") else "page_final"
             writers = " ".join(who for _, who, _ in WRITERS if who.startswith(name))
@@ -389,16 +413,17 @@ class Segment:
 
 
 def segment(words: list[str]) -> int:
-    """Prints its violations, and writes what it counted into its file."""
-    kind, seconds, seed, file = words[0], float(words[1]), int(words[2]), Path(words[3])
+    """Prints its violations, and adds what it counted to its file."""
+    kind, seconds, seed, carried = words[0], float(words[1]), int(words[2]), Carried(Path(words[3]))
     folder = Path(tempfile.mkdtemp(prefix="pagelog-administered-"))
     load_subcommands()
-    one = Segment(kind, seconds, seed, Counts(json.loads(file.read_text())), folder)
+    before = carried.known()
+    one = Segment(kind, seconds, seed, Counts(before.of), folder)
     violations = one.run()
     for violation in violations[:20]:
         print(f"violation: {violation[:400]}")
     counts = one.check.counts()
-    file.write_text(json.dumps(one.counts.of))
+    carried.add(Counts(one.counts.of - before.of))
     print(
         f"{kind}, seed {seed}: {', '.join(f'{what} {count}' for what, count in counts.most_common())}; "
         f"PostgreSQL went back {len(one.past.losses)} times, {len(one.past.drops)} drops; others: {one.faults.said()}; "
@@ -412,8 +437,8 @@ def segment(words: list[str]) -> int:
     return 1 if violations or not counts["acknowledged durable"] else 0
 
 
-def segments(seconds: float, seed: int, only: list[str]) -> int:
-    """The kind that has come least often is next."""
+def segments(seconds: float, seed: int, kinds: list[str], carried: Carried) -> int:
+    """The kind that lacks most is next."""
     torture_sqlite.build()
     if (
         subprocess.run(
@@ -424,71 +449,53 @@ def segments(seconds: float, seed: int, only: list[str]) -> int:
     ):
         pages_program.program()
         os.environ[torture_pages.PAGE_SERVERS] = "1"
-    counts, began, worst, number = Counts(), now(), 0, 0
-    each = max(20.0, min(120.0, seconds / len(only or KINDS) - 10))
-    while now() - began < seconds or number < len(only or KINDS):
-        kind = min(
-            only or KINDS,
-            key=lambda kind: sum(
-                count for key, count in counts.of.items() if key.endswith("/" + kind)
-            ),
-        )
-        with tempfile.NamedTemporaryFile("w+", suffix=".json") as file:
-            file.write(json.dumps(counts.of))
-            file.flush()
-            words = [
-                sys.executable,
-                __file__,
-                "segment",
-                kind,
-                str(each),
-                str(seed + number),
-                file.name,
-            ]
-            worst = max(worst, abs(subprocess.run(in_own_mounts(words)).returncode))
-            known, counts = counts, Counts(json.loads(Path(file.name).read_text()))
-        if counts.of == known.of:
+    began, worst, number, first = now(), 0, 0, carried.known()
+    each = max(20.0, min(300.0, seconds / len(kinds) - 10))
+    while now() - began < seconds or number < len(kinds):
+        known = carried.known()
+        words = [sys.executable, __file__, "segment", known.rarest_kind(kinds)]
+        words += [str(each), str(seed + number), str(carried.file)]
+        worst = max(worst, abs(subprocess.run(in_own_space(words)).returncode))
+        if carried.known().of == known.of:
             print("a segment has come to nothing", flush=True)
             break
         number += 1
+    counts = carried.known()
     print(counts.table())
     print(
-        f"administration: {sum(counts.of.values())} subcommands in {number} segments of {each:.0f} s: {'FAILED' if worst else 'no violation'}"
+        f"administration: {(counts.of - first.of).total()} subcommands in {number} segments of {each:.0f} s: "
+        f"{'FAILED' if worst else 'no violation'}"
     )
     return 1 if worst else 0
-
-
-def in_own_mounts(words: list[str]) -> list[str]:
-    """Where small disks can be mounted that end with what is called: for root."""
-    unshare = ["unshare", "--mount", "--propagation", "private"]
-    with tempfile.TemporaryDirectory() as folder:
-        can = (
-            os.getuid() == 0
-            and subprocess.run(
-                [*unshare, "mount", "-t", "tmpfs", "tmpfs", folder], capture_output=True
-            ).returncode
-            == 0
-        )
-    return [*unshare, "env", "PAGELOG_TORTURE_MOUNTS=1", *words] if can else words
 
 
 def main(words: list[str]) -> int:
     os.environ.setdefault("PAGELOG_TEST_FSYNC", "off")
     if words[:1] == ["client"]:
         threading.excepthook = fail_loudly
+        job = Job.of(words[2:])
+        tell_who_ends(job.folder / f"{job.who}.ended")
         if words[1] in torture_sqlite.KINDS:
             torture_sqlite.load()
-        CLIENTS[words[1]](Job.of(words[2:]))
+        CLIENTS[words[1]](job)
         return 0
     if words[:1] == ["segment"]:
         return segment(words[1:])
     if BY_TLS in words:
         os.environ[VARIABLE] = str(Certificates().ca)
-    only = [word for word in words if word in KINDS]
+    kinds = [word for word in KINDS if word in words] or list(KINDS)
     numbers = [word for word in words if word not in (*KINDS, BY_TLS)]
-    return segments(
-        float(numbers[0]) if numbers else 120.0, int(numbers[1]) if len(numbers) > 1 else 1, only
-    )
+    with tempfile.TemporaryDirectory() as folder:
+        file = Path(folder) / "counts"
+        if COUNTS in numbers:
+            at = numbers.index(COUNTS)
+            _, file = numbers.pop(at), Path(numbers.pop(at)).absolute()
+        return segments(
+            float(numbers[0]) if numbers else 120.0,
+            int(numbers[1]) if len(numbers) > 1 else 1,
+            kinds,
+            Carried(file),
+        )
 
 
 if __name__ == "__main__":

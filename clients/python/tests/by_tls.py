@@ -14,3 +14,8 @@ VARIABLE = "PAGELOG_SSLROOTCERT"
 def trust() -> Trust | None:
     """Whom this process trusts; None where it is to speak no TLS."""
     return Trust(os.environ[VARIABLE]) if VARIABLE in os.environ else None
+
+
+def environment() -> dict[str, str]:
+    """What tells other programs whom to trust."""
+    return {name: value for name, value in os.environ.items() if name == VARIABLE}

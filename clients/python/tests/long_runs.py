@@ -14,9 +14,12 @@ from typing import Callable, Mapping, Sequence
 
 from keepers import Keeping
 from pagelog import Block
+from torture_processes import end_of, signals_kept, tell_who_ends
 
 STOP = "stop"
 """The file with which clients end."""
+_ENDED = "ended"
+"""How files begin that say who has ended a client."""
 Client = Callable[[Path, str, "list[str]", float], None]
 """A client: the folder of its books, who it is, the addresses of the keepers, and a number."""
 
@@ -45,7 +48,8 @@ class LongRun:
             ",".join(self.keeping.addresses),
             number,
         ]
-        self.clients.append(subprocess.Popen(list(map(str, words))))
+        with signals_kept():
+            self.clients.append(subprocess.Popen(list(map(str, words))))
         return self.clients[-1]
 
     def ended(self, client: subprocess.Popen[bytes], patience: float) -> int:
@@ -61,7 +65,11 @@ class LongRun:
 
     def faults(self, statuses: Sequence[int]) -> list[str]:
         """What went wrong beside all else: clients that failed, and keepers."""
-        found = [f"a client ended with status {status}" for status in statuses if status != 0]
+        found = [f"a client {end_of(status)}" for status in statuses if status != 0]
+        found += [
+            f"{file.name.partition('.')[2]} was ended by a signal{file.read_text()}"
+            for file in self.keeping.folder.glob(f"{_ENDED}.*")
+        ]
         return found + [
             line for line in self.keeping.said().splitlines() if "fault of the keeper" in line
         ]
@@ -91,6 +99,7 @@ def is_client(words: Sequence[str], clients: Mapping[str, Client]) -> bool:
     """Whether the program was called for a client of its own process, which has come to its end then."""
     if not words or words[0] not in clients:
         return False
+    tell_who_ends(Path(words[1]) / f"{_ENDED}.{words[0]}{words[2]}")
     faulthandler.register(signal.SIGUSR1)
     threading.excepthook = _fail
     clients[words[0]](Path(words[1]), words[2], words[3].split(","), float(words[4]))

@@ -439,6 +439,8 @@ PLANTS = {
     "saved, not compared": Plant("rescuing", "    _compare(referee, log, base, end, chain)\n", "", "lives", "set_aside_is_shown"),
     "ended, not asked": Plant("../desk/rescue_words", "        agree(_ends(referee, chosen, saved, into), yes,",
                               "        agree(_ends(referee, chosen, saved, into), True,", "lives", "shown_saved_and_ended"),
+    "locked": Plant("../desk/keeper_words", "        fail(f\"{error}: another session has it locked\", AGAIN)\n", "        fail(str(error))\n", "words",
+                    "is_locked_may"),
     "keep left out": Plant("../desk/history_words", "accounts.archive_keep if keep is None", "accounts.archive_keep or 1 if keep is None", "words",
                            "prune_without_keep"),
     "time to come": Plant("history", "if at > has.now:", "if False:", "words", "refuses_what_is_not_there"),

@@ -3,6 +3,10 @@
 from plant import Plant
 
 PLANTS = {
+    "denied a look": Plant("../primary", "        except (TableRow, NoRowMatches) as error:\n            raise InDoubt(\n", "        except ZeroDivisionError as error:\n            raise InDoubt(\n",
+                           "named", "cut_off_is_not_called"),
+    "denied a look, as an epoch ended": Plant("../primary", "            except InDoubt as doubt:\n                return doubt\n", "            except InDoubt as doubt:\n                return refusal\n",
+                                              "doubts", "may_not_look"),
     "turn, after the archive": Plant("c/pagelog_vfs_file.c", "    if (code == SQLITE_OK) give_turn_before_wait(connection);\n", "", "c/turns",
                                      "next_commit_does_not_wait"),
     "turn, before the report": Plant("c/pagelog_vfs_file.c", "        code = commit(connection);\n",

@@ -1,16 +1,24 @@
-"""The check of the torture of administration: each violation is seen, and what is excused is none."""
+"""The check of the torture of administration: each violation is seen, and what is excused is none; its cells, and how its processes end."""
 
 from __future__ import annotations
 
 import json
+import os
+import random
+import signal
+import subprocess
+import sys
 import tempfile
+import threading
 import unittest
 from pathlib import Path
-from typing import Any
+from typing import Any, Callable
 
+from service import HERE
 from torture_check import BOUND, Check, Drop, Past
 from torture_notes import GENESIS, entry, link
-from torture_rig import Loss
+from torture_processes import end_told, in_own_space, signals_kept
+from torture_rig import DEATHS, ENOUGH, KINDS, SUBCOMMANDS, Carried, Counts, Loss
 
 LATE = 10 + BOUND + 1
 
@@ -154,6 +162,16 @@ class Administered(unittest.TestCase):
         self.look(11 + BOUND + 1, one)
         self.assert_one("refused, and yet there")
 
+    def test_lost_by_what_postgresql_has_lost_itself(self) -> None:
+        """As by a drop that it said, and then it went back to before that."""
+        self.look(LATE, self.commit(1, 9, what="lost"))
+        self.assert_one("refused, and yet there")
+        self.past.losses.append(Loss(9.5, 10))
+        self.past.bound = 0.0
+        self.assert_one("refused, and yet there")
+        self.past.losses.append(Loss(8, 9.2))
+        self.assertEqual(self.violations(), [])
+
     def test_refused_by_the_last_of_two_databases(self) -> None:
         one = self.commit(1, 9, what="failed")
         self.note("v", "try", 9, number=1, links=[{**one, "sum": "another"}, one])
@@ -261,6 +279,146 @@ class Administered(unittest.TestCase):
             ),
             4,
         )
+
+
+class Cells(unittest.TestCase):
+    """Which subcommand meets which death next, and counts that go on over runs."""
+
+    def setUp(self) -> None:
+        self.chance = random.Random(1)
+        self.counts = Counts()
+        for subcommand in SUBCOMMANDS:
+            for death in DEATHS:
+                self.counts.add(subcommand, death, "alone", 5)
+
+    def test_the_cell_that_has_come_least_often_is_next(self) -> None:
+        self.counts.add("prune", "keeper", "alone", -1)
+        possible = [["prune", "succeed"], ["resume"]]
+        self.assertEqual(self.counts.rarest_death(possible, "alone", self.chance), "keeper")
+        self.assertEqual(self.counts.rarest(possible[0], "keeper", "alone", self.chance), "prune")
+
+    def test_a_death_is_of_no_use_where_what_lacks_it_is_not_possible(self) -> None:
+        self.counts.add("create", "keeper", "alone", -3)
+        self.counts.add("prune", "service", "alone", -1)
+        self.assertEqual(self.counts.rarest_death([["prune"]] * 5, "alone", self.chance), "service")
+
+    def test_what_only_another_subcommand_makes_possible_makes_that_one_rare(self) -> None:
+        for death in DEATHS:
+            self.counts.add("create", death, "alone", -2)
+        self.counts.add("prune", "service", "alone", -1)
+        some = ["prune", "drop", "pause"]
+        self.assertEqual(self.counts.rarest(some, "service", "alone", self.chance), "drop")
+
+    def test_the_kind_that_lacks_most_is_next(self) -> None:
+        for kind in KINDS:
+            for subcommand in SUBCOMMANDS:
+                for death in DEATHS:
+                    self.counts.add(subcommand, death, kind, ENOUGH)
+        self.counts.add("prune", "none", "asynchronous", 1 - ENOUGH)
+        self.assertEqual(self.counts.rarest_kind(KINDS), "asynchronous")
+
+    def test_runs_side_by_side_add_to_one_file(self) -> None:
+        folder = Path(self.enterContext(tempfile.TemporaryDirectory()))
+        one = Counts({"prune/none/alone": 1})
+
+        def add() -> None:
+            for _ in range(50):
+                Carried(folder / "counts").add(one)
+
+        threads = [threading.Thread(target=add) for _ in range(4)]
+        for thread in threads:
+            thread.start()
+        for thread in threads:
+            thread.join()
+        self.assertEqual(Carried(folder / "counts").known().get("prune", "none", "alone"), 200)
+
+
+TELLING = """
+import os, signal, sys
+from pathlib import Path
+from torture_processes import tell_who_ends
+tell_who_ends(Path(sys.argv[1]))
+child = os.fork()
+if not child:
+    os.kill(os.getpid(), signal.SIGTERM)  # of a child nothing is told, and it ends
+print("child", os.WTERMSIG(os.waitpid(child, 0)[1]), flush=True)
+sys.stdin.read()
+"""
+
+ORPHAN = """
+import os, sys
+here, there = os.pipe()
+if os.fork() == 0:
+    parent = os.getpid()
+    if os.fork() == 0:
+        while os.getppid() == parent:
+            pass
+        os.write(there, b"%d" % os.getpid())
+        os.kill(os.getpid(), int(sys.argv[1]))
+    os._exit(0)
+orphan = os.read(here, 9).decode()
+while os.path.exists("/proc/" + orphan):
+    pass
+"""
+
+
+class Ends(unittest.TestCase):
+    """What processes were ended by."""
+
+    def setUp(self) -> None:
+        self.file = Path(self.enterContext(tempfile.TemporaryDirectory())) / "end"
+        self.telling = [sys.executable, "-c", TELLING, str(self.file)]
+
+    def run_until_it_is_ended(self, words: list[str], end: Callable[[int], None]) -> int:
+        """`end` gets the number of what was called."""
+        with subprocess.Popen(
+            words, cwd=HERE, stdin=subprocess.PIPE, stdout=subprocess.PIPE, text=True
+        ) as called:
+            assert called.stdout is not None
+            self.assertEqual(called.stdout.readline().split(), ["child", str(signal.SIGTERM.value)])
+            end(called.pid)
+            return called.wait()
+
+    def test_a_client_says_who_has_ended_it(self) -> None:
+        status = self.run_until_it_is_ended(self.telling, lambda pid: os.kill(pid, signal.SIGTERM))
+        told = end_told(status, self.file)
+        self.assertRegex(told, rf"was ended by SIGTERM, which \S+, process {os.getpid()}, sent")
+        self.assertEqual(end_told(status, self.file), "was ended by SIGTERM")
+
+    def test_also_who_has_ended_one_that_had_just_begun(self) -> None:
+        with signals_kept():
+            called = subprocess.Popen(
+                self.telling, cwd=HERE, stdin=subprocess.PIPE, stdout=subprocess.DEVNULL
+            )
+        with called:
+            called.terminate()
+            self.assertIn("sent", end_told(called.wait(), self.file))
+
+    @unittest.skipUnless(os.geteuid() == 0, "only root can have a space of processes")
+    def test_who_is_in_no_space_of_a_torture_has_no_name_there(self) -> None:
+        def end(_: int) -> None:
+            named = [each for each in Path("/proc").glob("[0-9]*") if _calls(each, self.telling)]
+            os.kill(min(int(each.name) for each in named), signal.SIGTERM)
+
+        self.assertEqual(
+            self.run_until_it_is_ended(in_own_space(self.telling), end), 128 + signal.SIGTERM
+        )
+        self.assertEqual(self.file.read_text(), ", which somebody outside of the torture sent")
+
+    @unittest.skipUnless(os.geteuid() == 0, "only root can have a space of processes")
+    def test_an_orphan_that_is_ended_by_a_strange_signal_is_a_violation(self) -> None:
+        for number, found in ((signal.SIGSEGV, 1), (signal.SIGKILL, 0)):
+            words = [sys.executable, "-c", ORPHAN, str(number.value)]
+            done = subprocess.run(in_own_space(words), stdout=subprocess.PIPE, text=True)
+            self.assertEqual((done.returncode, done.stdout.count("violation: ")), (found, found))
+
+
+def _calls(process: Path, words: list[str]) -> bool:
+    """Whether it was called by these words alone."""
+    try:
+        return (process / "cmdline").read_text().split("\0")[:-1] == words
+    except OSError:
+        return False  # it has ended
 
 
 if __name__ == "__main__":

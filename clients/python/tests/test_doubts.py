@@ -4,6 +4,7 @@ from __future__ import annotations
 
 import unittest
 from collections import deque
+from contextlib import closing
 
 import pagelog
 from pagelog import Block, Put, rules
@@ -81,6 +82,18 @@ class Doubts(unittest.TestCase):
                 else:
                     with self.assertRaises(kind):
                         primary.commit()
+
+    def test_a_witness_that_may_not_look_leaves_it_in_doubt(self) -> None:
+        credentials = pagelog.Credentials.of(5, token(5))
+        with closing(pagelog.Reader(self.service.connection(), credentials)) as witness:
+            for ends in (False, True):
+                primary = self.primary(witness=witness)
+                primary.append(put(0, b"mine"))
+                self.lose_replies(primary)
+                if ends:
+                    self.operator.failover(2)
+                with self.assertRaises(pagelog.InDoubt):
+                    primary.commit()
 
     def test_a_block_without_records_is_known_by_its_gap(self) -> None:
         with self.service.reader() as witness:

@@ -10,13 +10,15 @@ import tempfile
 import threading
 import time
 import unittest
+from collections import deque
+from contextlib import closing
 from dataclasses import replace
 from pathlib import Path
 from typing import Any, Callable, Sequence
 from unittest.mock import Mock, patch
 
 import pagelog
-from pagelog import Credentials, Group, InDoubt, Lost, NamedPrimary, NamedReader, Unwritten
+from pagelog import Block, Credentials, Group, InDoubt, Lost, NamedPrimary, NamedReader, Unwritten
 from pagelog.dialing import dial
 from pagelog.following import CONFIRM
 from pagelog.keeper.referee import digest
@@ -292,6 +294,23 @@ class NarrowWriters(Named):
         for _ in range(3):
             self.assertRaises(InDoubt, writer.commit)
         self.assertEqual(self.texts(), [b"other", b"of it"])
+
+    def test_what_was_cut_off_is_not_called_lost(self) -> None:
+        """Its replies do not come back. That the table denies a pull is no denial of the write."""
+        self.begin()
+        writer = self.writer()
+        writer.append(put(0, b"1"))
+        writer.commit()
+        primary, cut = writer._primary, Block.of(2, [put(0, b"2")])
+        assert primary is not None
+        requests = list(primary._requests([[cut]], deque(), []))
+        for sent in primary._unhardened:
+            sent.attempts = 1
+        with closing(pagelog.Connection(self.places[-1].address, timeout=PATIENCE)) as other:
+            list(other.exchange(requests))
+        writer.append(put(0, b"2"))
+        self.assertRaises(InDoubt, writer.commit)
+        self.assertEqual(self.texts(), [b"1", b"2"])
 
 
 class Readers(Named):

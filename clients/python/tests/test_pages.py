@@ -5,6 +5,7 @@ from __future__ import annotations
 import json
 import os
 import random
+import shutil
 import signal
 import socket
 import struct
@@ -411,7 +412,7 @@ class Served(unittest.TestCase):
             ["shop"],
             lambda name, said: self.said.append(f"{name}: {said}"),
         )
-        thread = threading.Thread(target=made.run)
+        self.serving = thread = threading.Thread(target=made.run)
         thread.start()
 
         def end() -> None:
@@ -566,9 +567,51 @@ class Kept(Served):
             [(each.oldest, each.last) for each in self.asides()], [(base.position, position)]
         )
 
+    def test_where_blocks_are_gone_below_a_base_it_begins_with_that(self) -> None:
+        """As where PostgreSQL went back, and a service continued that had begun with newer images."""
+        runs: list[str] = []
+
+        def follow(position: int) -> str:
+            """Until it is there, by a store that was not seen yet; then it ends. Returns what is in its pages."""
+            servers, found = self.servers(), list[tuple[str, str]]()
+
+            def is_there() -> bool:
+                found[:] = [
+                    (run, address)
+                    for run, address, end in self.entries()
+                    if run not in runs and end == position
+                ]
+                return bool(found)
+
+            eventually(is_there, f"a page server at {position}: {self.said}")
+            runs.append(found[0][0])
+            reader = self.reader(*found[0])
+            pages = [reader.page(page, position).data[:8].decode() for page in range(4)]
+            servers.end()
+            self.serving.join()
+            return " ".join(pages)
+
+        with self.keeping.primary() as primary:
+            positions = [self.commit(primary, n) for n in range(4)]
+            self.assertEqual(follow(positions[-1]), "00000000 00000001 00000002 00000003")
+            positions += [self.commit(primary, n) for n in range(4, 12)]
+        row, blocks = self.keeping.row(), self.keeping.archive()
+        for base in (positions[1], positions[9]):
+            make_base(self.keeping.referee, row.id, base, digest(b"", blocks[:base]))
+        with psycopg.connect(self.keeping.url, autocommit=True) as session:
+            session.execute(
+                "DELETE FROM pagelog_block WHERE log = %s AND lsn > %s AND lsn <= %s",
+                (row.id, positions[4], positions[9]),
+            )
+        for _ in ("what was followed before", "nothing"):  # is in its folder
+            self.assertEqual(follow(positions[-1]), "00000008 00000009 00000010 00000011")
+            shutil.rmtree(self.folder)
+
     def test_of_a_database_that_was_dropped_nobody_is_answered(self) -> None:
         with self.keeping.primary() as primary:
             position = self.commit(primary, 1)
+        # By its own look, and not as it is ended by who looks which databases there are.
+        self.enterContext(patch("pagelog.pages.serving._NAMES", PATIENCE))
         self.servers()
         run, address = self.follows_to(position)
         reader = self.reader(run, address)

@@ -22,7 +22,7 @@ from pagelog.keeper.sealed import INSTEAD, Keys, NoKey, Stored, id_of
 from pagelog.keeper.table import TableError, read_table
 from postgres import programs
 from service import PATIENCE, WIDE_TABLE, put, token
-from torture_secrets import Secrets
+from torture_secrets import Secrets, Sought
 
 ONE, OTHER = "00000000-0000-4000-8000-000000000001", "00000000-0000-4000-8000-000000000002"
 
@@ -95,6 +95,20 @@ class Stores(unittest.TestCase):
 
 def _turned(sealed: bytes, at: int) -> bytes:
     return sealed[:at] + bytes([sealed[at] ^ 1]) + sealed[at + 1 :]
+
+
+class Seeking(unittest.TestCase):
+    def test_a_secret_is_found_in_both_forms_at_each_place_and_only_whole(self) -> None:
+        some = [new_key()[:32], new_key()]
+        sought = Sought(some)
+        for secret in some:
+            for form in (secret.encode(), bytes.fromhex(secret)):
+                for before in range(20):
+                    for after in range(10):
+                        there = b"x" * before + form + b"y" * after
+                        self.assertEqual(sought.in_text(there), [secret])
+                self.assertEqual(sought.in_text(b"x" + form[:-1] + b"z"), [])
+        self.assertEqual(sought.in_text(b""), [])
 
 
 class Kept(unittest.TestCase):

@@ -18,7 +18,7 @@ from unittest.mock import patch
 import psycopg
 from click.testing import CliRunner
 
-from keepers import Kept, eventually, new_database, new_url
+from keepers import Kept, Trigger, eventually, new_database, new_url
 from pagelog.desk.words import pagelogctl
 from pagelog.keeper.bases import make_base
 from pagelog.keeper.referee import Referee, digest
@@ -348,6 +348,50 @@ class Switched(Words):
             self.keeping.place(least=before.generation + 1).generation, before.generation
         )
         self.assertEqual((self.keeping.row().holder, self.keeping.row().wanted), ("b", None))
+
+
+class Refusals(unittest.TestCase):
+    """What a subcommand says where PostgreSQL refuses its statement."""
+
+    def setUp(self) -> None:
+        self.url = new_url()
+        self.referee = Referee(self.url)
+        self.addCleanup(self.referee.close)
+        new_database(self.referee, "shop")
+
+    def pause(self, url: str) -> tuple[int, str]:
+        """Status and errors."""
+        with patch.dict(os.environ, PAGELOG_ARCHIVE_URL=url):
+            done = CliRunner(mix_stderr=False).invoke(
+                pagelogctl, ["pause", "shop", "--credentials", os.devnull]
+            )
+        return done.exit_code, done.stderr
+
+    def test_what_is_locked_may_be_tried_again(self) -> None:
+        with psycopg.connect(self.url) as other:
+            other.execute("SELECT FROM pagelog_log FOR UPDATE")
+            status, error = self.pause(self.url)
+        self.assertEqual(status, 3)
+        self.assertRegex(error, "lock timeout: another session has it locked\n$")
+        self.assertEqual(self.pause(self.url), (0, ""))
+
+    def test_without_its_tables_somebody_has_to_make_them(self) -> None:
+        with psycopg.connect(self.url) as boss:
+            boss.execute("DROP TABLE pagelog_log CASCADE")
+        status, error = self.pause(self.url)
+        self.assertEqual(status, 1)
+        self.assertIn("is there a keeper yet", error)
+
+    def test_any_other_refusal_has_its_own_reason(self) -> None:
+        trigger = Trigger(
+            self.url,
+            "pagelog_log",
+            "UPDATE ON pagelog_log FOR EACH STATEMENT",
+            "RAISE EXCEPTION 'not today'",
+        )
+        self.addCleanup(trigger.close)
+        status, error = self.pause(self.url)
+        self.assertEqual((status, error), (1, "pagelogctl: PostgreSQL: not today\n"))
 
 
 class Identities(unittest.TestCase):

@@ -47,6 +47,7 @@ from replicated import Pair  # noqa: E402
 from secured import Secured  # noqa: E402
 from service import PATIENCE, TOP, token  # noqa: E402
 from torture_copies import Copies, look
+from torture_processes import end_of, in_own_space, is_in_own_space
 from torture_secrets import Secrets
 
 TTL = 2.0
@@ -298,6 +299,8 @@ class Torture(LongRun):
             self.keeping.stores(self.folder, seal="64KiB", age="1s", tail="1s")
         self.done: Counter[str] = Counter()
         self.is_first_round, self.shut = True, 0
+        self.died: list[str] = []
+        """Keepers that ended by themselves, or that somebody else has ended."""
         self.deeds: list[tuple[int, Callable[[], None]]] = [
             (4, self.kill_service),
             (2, self.stop_service),
@@ -498,6 +501,7 @@ class Torture(LongRun):
                 break
             self.done[fault.__name__] += 1
             print(f"{time.monotonic() - began:6.1f} s: {fault.__name__}", flush=True)
+            self.start_keepers_that_died()
             fault()
             time.sleep(self.chance.uniform(0.2, 2 * TTL))
         eventually(lambda: keeping.place() is not None)
@@ -507,9 +511,16 @@ class Torture(LongRun):
             Check(keeping).violations()
             + self.copies.violations()
             + self.faults(ended)
+            + self.died
             + secrets.found()
             + self.unverified()
         )
+
+    def start_keepers_that_died(self) -> None:
+        for name, process in self.keeping.processes.items():
+            if process.poll() is not None:
+                self.died.append(f"keeper {name} {end_of(process.returncode)}")
+        self.keeping.start(*(set(self.keeping.processes) - set(self.names())))
 
     def unverified(self) -> list[str]:
         """What pagelog-verify says of each list of the trail that is of no database, if there are trails and that is built."""
@@ -611,6 +622,9 @@ class Check:
 def main(words: list[str]) -> int:
     if is_client(words, {"write": write, "share": share, "read": read, "look": look}):
         return 0
+    called = [sys.executable, __file__, *words]
+    if not is_in_own_space() and (own := in_own_space(called)) != called:
+        return subprocess.run(own).returncode
     requires_standby, by_tls, store = (word in words for word in (REQUIRE, BY_TLS, STORE))
     words = [word for word in words if word not in (REQUIRE, BY_TLS, STORE)]
     return Torture(

@@ -56,6 +56,10 @@ class Past:
     def lost(self, began: float, ended: float) -> bool:
         return any(loss.excuses(began, ended) for loss in self.losses)
 
+    def was_told_in_vain(self, told: float) -> bool:
+        """Whether PostgreSQL has lost what it said by then, as of a drop, which a keeper may say for a while still."""
+        return any(loss.kept <= told <= loss.over + self.bound for loss in self.losses)
+
     def dropped(self, name: str, began: float) -> bool:
         """Whether what was acknowledged then may have been dropped with its database since."""
         return any(drop.name == name and drop.ended >= began for drop in self.drops)
@@ -294,6 +298,7 @@ class Check:
             (note["who"], note["number"])
             for note in self.notes
             if note["what"] in ("refused", "lost")
+            and not (note["what"] == "lost" and self.past.was_told_in_vain(note["noted"]))
         }
         for note, link in self._links("try"):
             if (note["who"], note["number"]) in refused and link is note["links"][-1]:

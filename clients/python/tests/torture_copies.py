@@ -15,6 +15,7 @@ from pathlib import Path
 from typing import Iterator, Mapping
 
 import pages_program
+from by_tls import environment, trust
 from keepers import Keeping, eventually
 from long_runs import STOP
 from pagelog import Block, Connection, Credentials, PagelogError, Reader
@@ -37,6 +38,7 @@ def look(folder: Path, who: str, addresses: list[str], seed: float) -> None:
         pages="only",
         patience=30.0,
         timeout=5.0,
+        trust=trust(),
     )
     while not (folder / STOP).exists():
         try:
@@ -165,9 +167,9 @@ class Copies(Servers):
         super().__init__(
             keeping.folder / "copies",
             keeping.folder,
-            keeping.file,
+            keeping.file_of("a"),  # page servers speak TLS as that keeper does
             (NAME,),
-            keeping.environment,
+            keeping.environment | environment(),
             chance,
         )
         self._keeping = keeping
@@ -220,7 +222,10 @@ class Copies(Servers):
         eventually(lambda: bool(known()), f"all that is archived at {name}")
         [pages] = known()
         credentials = Credentials(READER, token_of(bytes.fromhex(token(READER)), NAME, pages.run))
-        with closing(Reader(Connection(pages.address, timeout=PATIENCE), credentials)) as reader:
+        address = pages.told(trust() is not None)
+        assert address is not None
+        connection = Connection(address, timeout=PATIENCE, trust=trust())
+        with closing(Reader(connection, credentials)) as reader:
             positions = self._chance.sample(range(len(heads)), min(SAMPLE, len(heads)))
             return [
                 f"{name} has another page 0 at {at}"

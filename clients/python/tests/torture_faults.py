@@ -16,6 +16,7 @@ from typing import TYPE_CHECKING, Callable, Iterator
 
 from service import stand_still
 from torture_notes import now
+from torture_processes import is_in_own_space
 from torture_rig import TTL, Lone, Two, postgres_of, send
 
 if TYPE_CHECKING:
@@ -48,7 +49,7 @@ class Faults:
     # Small disks.
 
     def _mount(self, folder: Path, size: int, mode: str = "755") -> bool:
-        if not os.environ.get("PAGELOG_TORTURE_MOUNTS"):
+        if not is_in_own_space():
             return False
         folder.mkdir(exist_ok=True)
         subprocess.run(
@@ -294,9 +295,13 @@ class Slowness:
     def begin(self) -> None:
         self._seen = [1.0]
 
+    def mean(self) -> float:
+        """Since it was begun."""
+        return max(1.0, sum(self._seen) / len(self._seen))
+
     def end(self) -> float:
         """The mean since it was begun."""
-        mean = max(1.0, sum(self._seen) / len(self._seen))
+        mean = self.mean()
         self._worst = max(self._worst, mean)
         return mean
 

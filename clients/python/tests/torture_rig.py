@@ -2,6 +2,7 @@
 
 from __future__ import annotations
 
+import fcntl
 import json
 import os
 import random
@@ -11,8 +12,9 @@ import subprocess
 import sys
 import tempfile
 import time
+from collections import Counter
 from pathlib import Path
-from typing import Any, Callable, Mapping
+from typing import Any, Callable, Mapping, Sequence
 
 import click
 import psycopg
@@ -25,6 +27,7 @@ from quick_library import build
 from replicated import Pair, Server
 from service import PATIENCE, PROGRAM, SOURCE, Port, token
 from torture_notes import now
+from torture_processes import end_of, is_expected
 
 TTL = 1.5
 KINDS = ("alone", "standbys", "asynchronous", "synchronous")
@@ -167,6 +170,8 @@ class Keepers:
     def __init__(self, folder: Path, url: str, kind: str, *, trail: bool) -> None:
         self.folder, self.ports = folder, {name: Port() for name in ("a", "b", "copy")}
         self.processes: dict[str, subprocess.Popen[bytes]] = {}
+        self.died: list[str] = []
+        """Keepers that were ended by signals that no torture sends."""
         self.file = folder / "keeper.toml"
         self.file.touch(mode=0o600)
         self.file.write_text(
@@ -234,7 +239,12 @@ class Keepers:
         for name in ("a", "b"):
             process = self.processes.get(name)
             if process is None or process.poll() is not None:
+                self._look_at_end(name, process)
                 self.start(name)
+
+    def _look_at_end(self, name: str, process: subprocess.Popen[bytes] | None) -> None:
+        if process is not None and not is_expected("keeper", process.returncode):
+            self.died.append(f"keeper {name} {end_of(process.returncode)}")
 
     def kill(self, name: str, number: int = signal.SIGKILL) -> None:
         process = self.processes.get(name)
@@ -373,30 +383,53 @@ SUBCOMMANDS = (
 DEATHS = ("none", "subcommand", "keeper", "service", "postgresql", "set back")
 
 
+OPENS = {"drop": "create", "pause": "resume"}
+"""What is possible only after another subcommand."""
+ENOUGH = 30
+"""How often each subcommand is to meet each death, by the kind of standby."""
+
+
 class Counts:
     """How often each subcommand has met each death, by the kind of standby."""
 
     def __init__(self, known: Mapping[str, int] = {}) -> None:
-        self.of = dict(known)
+        self.of = Counter(known)
 
-    def add(self, subcommand: str, death: str, kind: str) -> None:
-        key = f"{subcommand}/{death}/{kind}"
-        self.of[key] = self.of.get(key, 0) + 1
+    def add(self, subcommand: str, death: str, kind: str, times: int = 1) -> None:
+        self.of[f"{subcommand}/{death}/{kind}"] += times
 
     def get(self, subcommand: str, death: str, kind: str) -> int:
-        return self.of.get(f"{subcommand}/{death}/{kind}", 0)
+        return self.of[f"{subcommand}/{death}/{kind}"]
 
-    def rarest_death(self, kind: str, chance: random.Random) -> str:
-        return min(
-            DEATHS,
-            key=lambda death: (
-                sum(self.get(each, death, kind) for each in SUBCOMMANDS),
-                chance.random(),
-            ),
-        )
+    def rarest_death(self, possible: list[list[str]], kind: str, chance: random.Random) -> str:
+        """The one that those have met least often which are possible now, for each database."""
+
+        def met(death: str) -> float:
+            return sum(min(self._least(each, death, kind) for each in some) for some in possible)
+
+        return min(DEATHS, key=lambda death: (met(death), chance.random()))
 
     def rarest(self, subcommands: list[str], death: str, kind: str, chance: random.Random) -> str:
-        return min(subcommands, key=lambda each: (self.get(each, death, kind), chance.random()))
+        return min(subcommands, key=lambda each: (self._least(each, death, kind), chance.random()))
+
+    def _least(self, subcommand: str, death: str, kind: str) -> float:
+        """How often it has come, or, in the mean of all deaths, what only it makes possible."""
+        own, opens = self.get(subcommand, death, kind), OPENS.get(subcommand)
+        if opens is None:
+            return own
+        return min(own, sum(self.get(opens, each, kind) for each in DEATHS) / len(DEATHS))
+
+    def rarest_kind(self, kinds: Sequence[str]) -> str:
+        """The one that lacks most."""
+
+        def lacks(kind: str) -> int:
+            cells = [self.get(each, death, kind) for each in SUBCOMMANDS for death in DEATHS]
+            return sum(max(0, ENOUGH - count) for count in cells)
+
+        return min(kinds, key=lambda kind: (-lacks(kind), self._sum(kind)))
+
+    def _sum(self, kind: str) -> int:
+        return sum(count for key, count in self.of.items() if key.endswith("/" + kind))
 
     def table(self) -> str:
         """A row for each subcommand and kind, a column for each death."""
@@ -409,3 +442,24 @@ class Counts:
                         f"{subcommand:12}{kind:14}" + "".join(f"{count:12}" for count in counts)
                     )
         return "\n".join(lines)
+
+
+class Carried:
+    """Counts in a file, to which several runs may add at the same time."""
+
+    def __init__(self, file: Path) -> None:
+        self.file = file
+        file.touch()
+
+    def known(self) -> Counts:
+        return self.add(Counts())
+
+    def add(self, some: Counts) -> Counts:
+        """Returns the sums."""
+        with self.file.open("r+") as held:
+            fcntl.flock(held, fcntl.LOCK_EX)
+            sums = Counts(Counter(json.loads(held.read() or "{}")) + some.of)
+            held.seek(0)
+            held.truncate()
+            json.dump(sums.of, held)
+            return sums

@@ -7,10 +7,11 @@ import json
 import os
 import secrets
 import stat
+import sys
 import zlib
 from contextlib import suppress
 from pathlib import Path
-from typing import Any, Iterator
+from typing import Any, Iterable, Iterator
 
 import psycopg
 
@@ -21,6 +22,7 @@ from pagelog.keeper.table import keeper_of, token_of, tokens_of
 
 
 _PIECES = "pagelog_trail_piece"
+_PIECE = 8
 
 
 class Secrets:
@@ -81,11 +83,11 @@ class Secrets:
     def found(self) -> list[str]:
         """What was found, and where."""
         self.learn()
+        sought = Sought(self._known)
         return [
-            f"{what} is in {where}"
+            f"{self._known[secret]} is in {where}"
             for where, there in self._places()
-            for secret, what in self._known.items()
-            if secret.encode() in there or bytes.fromhex(secret) in there
+            for secret in sought.in_text(there)
         ]
 
     @property
@@ -118,6 +120,30 @@ class Secrets:
                     continue
                 for (row,) in session.execute(f"SELECT t::text FROM {table} t"):
                     yield f"a row of {table}", str(row).encode()
+
+
+class Sought:
+    """Secrets, each a text of hexadecimal digits that may be there as such or as bytes. What has none is passed over quickly: of all
+    secrets there may be thousands, and of rows a million."""
+
+    def __init__(self, secrets: Iterable[str]) -> None:
+        self._forms = {secret: (secret.encode(), bytes.fromhex(secret)) for secret in secrets}
+        self._pieces = {
+            int.from_bytes(form[at : at + _PIECE], sys.byteorder)
+            for forms in self._forms.values()
+            for form in forms
+            for at in range(_PIECE)
+        }
+        """One of each form is wherever it is, at a place that is divided by the length of a piece."""
+        assert all(len(form) >= 2 * _PIECE - 1 for forms in self._forms.values() for form in forms)
+
+    def in_text(self, there: bytes) -> list[str]:
+        whole = memoryview(there)[: len(there) // _PIECE * _PIECE]
+        if self._pieces.isdisjoint(whole.cast("Q")):
+            return []
+        return [
+            secret for secret, forms in self._forms.items() if any(form in there for form in forms)
+        ]
 
 
 def _of_pieces(session: psycopg.Connection[Any]) -> Iterator[tuple[str, bytes]]:

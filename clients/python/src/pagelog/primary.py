@@ -74,7 +74,7 @@ class Primary(PageClient):
     writes without a reply are repeated. Where the log has their LSN meanwhile, whose block that is has to be looked up,
     since the new connection may lead to a service that was restored: by a `witness` that may pull, or by gets of the pages
     that the block changes, where nobody else writes in the epoch (`alone`), or the service had said that it has it.
-    Without either it is `InDoubt`.
+    Without either, or where the table denies the pull, it is `InDoubt`.
 
     No reply says how many copies there are and what their quorum is: three and two, unless the table that was in force
     when the epoch began says `copies = 6` and `quorum = 4`. Say `quorum=4` then. Where that is wrong the first commit
@@ -481,7 +481,7 @@ class Primary(PageClient):
         number. So neither an epoch of one's own nor what was said over an earlier connection is enough.
         """
         if self.witness is not None:
-            return is_in_log(self.witness, sent.block)
+            return self._is_seen(self.witness, sent)
         if not self._alone and not sent.copies:
             raise InDoubt(
                 f"LSN {sent.block.lsn} is hardened, and the connection was lost before the reply"
@@ -494,6 +494,16 @@ class Primary(PageClient):
         if len(replies) < len(asked) or any(reported_epoch(reply) is not None for reply in replies):
             return None
         return pages_show(sent.block, replies)
+
+    @staticmethod
+    def _is_seen(witness: Reader, sent: Sent) -> bool:
+        """Whether the log has this very block. That the table lets the witness look at nothing says nothing of the block."""
+        try:
+            return is_in_log(witness, sent.block)
+        except (TableRow, NoRowMatches) as error:
+            raise InDoubt(
+                f"whether LSN {sent.block.lsn} is ours is not known: the table lets nobody look who would tell"
+            ) from error
 
     def _settle(self, refusal: Refusal, was_repeated: bool) -> Exception | None:
         """What is to be raised; None where all that was sent is in the log all the same."""
@@ -532,8 +542,11 @@ class Primary(PageClient):
                 return InDoubt(
                     f"epoch {self.epoch} ended, and whether LSN {lsn} is in the log was not told"
                 )
-            while self._unhardened and is_in_log(self.witness, self._unhardened[0].block):
-                self._hardened(self._unhardened[0].block.lsn)
+            try:
+                while self._unhardened and self._is_seen(self.witness, self._unhardened[0]):
+                    self._hardened(self._unhardened[0].block.lsn)
+            except InDoubt as doubt:
+                return doubt
         return refusal if self._unhardened else None
 
     def _take_over(self, epoch: int) -> None:

@@ -14,9 +14,10 @@ import sys
 import threading
 from contextlib import contextmanager
 from pathlib import Path
-from typing import TYPE_CHECKING, Any, Callable, Iterator, Mapping, Sequence
+from typing import TYPE_CHECKING, Any, Callable, Iterator, Mapping, NoReturn, Sequence
 
 import click
+import psycopg
 
 from pagelog.credentials import Accounts
 from pagelog.desk.options import AGAIN, URL_VARIABLE, credentials_option, fail, faults
@@ -99,9 +100,18 @@ def referee_of(
     except Sealed as error:
         fail(str(error))
     except Refused as error:
-        fail(f"{error}: is there a keeper yet, or a `pagelogctl create`?")
+        _fail_refused(error)
     finally:
         referee.close()
+
+
+def _fail_refused(error: Refused) -> NoReturn:
+    """With what may be done."""
+    if isinstance(error.__cause__, psycopg.errors.LockNotAvailable):
+        fail(f"{error}: another session has it locked", AGAIN)
+    if isinstance(error.__cause__, psycopg.errors.UndefinedTable):
+        fail(f"{error}: is there a keeper yet, or a `pagelogctl create`?")
+    fail(str(error))
 
 
 @click.command("keep")

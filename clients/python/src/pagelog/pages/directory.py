@@ -21,6 +21,18 @@ SELECT l.id, l.archived, l.chain, l.table_number, k.lines, k.secure, k.run
 FROM pagelog_log l JOIN me ON l.id = me.log LEFT JOIN pagelog_keeper k ON k.name = l.holder
 """
 _NEWS = "SELECT archived, table_number FROM pagelog_log WHERE id = %s AND identity = %s::uuid"
+_WHOLE = """
+WITH source AS (SELECT COALESCE((SELECT cut FROM pagelog_store WHERE log = %(log)s), 0) AS cut),
+part AS (
+  SELECT base, lead(base, 1, %(archived)s::bigint) OVER (ORDER BY base) AS next
+  FROM (SELECT 0::bigint AS base UNION SELECT base FROM pagelog_base WHERE log = %(log)s AND base <= %(archived)s) AS each)
+SELECT next, EXISTS (SELECT 1 FROM pagelog_base WHERE log = %(log)s AND base = next) FROM part, source
+WHERE next - base <> (SELECT count(*) FROM pagelog_block WHERE log = %(log)s AND lsn > GREATEST(base, cut) AND lsn <= next)
+  + (SELECT COALESCE(sum(LEAST(last, next, cut) - GREATEST(first, base + 1) + 1), 0) FROM pagelog_object
+    WHERE log = %(log)s AND state = 2 AND last > base AND first <= LEAST(next, cut))
+ORDER BY next DESC LIMIT 1
+"""
+"""Where the last part between two bases ends of which blocks are gone, and whether that is a base."""
 _END = "UPDATE pagelog_pages SET address = '', seen = now() WHERE run = %s RETURNING run"
 _LEAVE = "DELETE FROM pagelog_pages WHERE run = %s OR log IN (SELECT id FROM pagelog_log WHERE dropped) RETURNING run"
 _NAMES = (
@@ -88,6 +100,15 @@ def news(referee: Referee, log: int, identity: str) -> tuple[int, int]:
 def oldest_kept(referee: Referee, log: int) -> int:
     """The oldest position that PostgreSQL can give all pages of: that of its oldest base, or 0."""
     return spans(referee)[log].oldest
+
+
+def whole_from(referee: Referee, log: int, archived: int) -> int | None:
+    """The oldest position from which on all is kept up to the archived one: 0, or that of a base. Below it blocks are gone, as by pruning, or
+    where PostgreSQL went back and a service continued whose images were newer. None where blocks above the newest base are gone.
+    """
+    for position, is_base in referee._ask_bounded(_WHOLE, {"log": log, "archived": archived}):
+        return int(position) if is_base else None
+    return 0
 
 
 def note_end(referee: Referee, run: str) -> None:

@@ -1,5 +1,5 @@
-"""One database of a page server: it begins with the oldest base that PostgreSQL has, follows what is archived, and begins anew where that
-is another history than the one that it has."""
+"""One database of a page server: it begins with the oldest base above which all is kept, follows what is archived, and begins anew where that
+is another history than the one that it has, or blocks between the two are gone."""
 
 from __future__ import annotations
 
@@ -16,7 +16,16 @@ from pagelog.keeper.bases import NOTHING, Base, Bases
 from pagelog.keeper.referee import BrokenArchive, KeeperError, Referee, digest
 from pagelog.keeper.run import new_run
 from pagelog.pages.bell import Bell, Told
-from pagelog.pages.directory import Archived, Entry, leave, look, news, note_end, oldest_kept
+from pagelog.pages.directory import (
+    Archived,
+    Entry,
+    leave,
+    look,
+    news,
+    note_end,
+    oldest_kept,
+    whole_from,
+)
 from pagelog.pages.process import OtherChain, PagesProcess, Serving, StoreFailed, Where
 from pagelog.pages.stores import (
     MOST_ASIDE,
@@ -200,12 +209,13 @@ class Follower:
             return False
 
     def _fill(self) -> None:
-        """Of an empty store: begins with the oldest base, so that it has each position that is kept."""
+        """Of an empty store: begins with the oldest base above which no block is gone."""
         assert self._process is not None and self._archived is not None
         if self._process.where.written or self._archived.position == 0:
             return
-        bases = Bases(self._referee, self._archived.log)
-        base = bases.newest(oldest_kept(self._referee, self._archived.log))
+        log, archived = self._archived.log, self._archived.position
+        bases, begins = Bases(self._referee, log), whole_from(self._referee, log, archived)
+        base = bases.newest(archived if begins is None else begins)
         if base is NOTHING:
             return
         try:
@@ -382,14 +392,20 @@ class Follower:
                 f"PostgreSQL has positions up to {found.position}, and this has blocks up to {written}"
             )
         last: list[bytes] = []
-        for piece in self._referee.blocks(found.log, written + 1, found.position):
-            if last:
-                self._process.add(last)
-            last = piece
-            if self._ends.is_set():
-                return
-            if time.monotonic() - self._looked >= _LOOK:
-                self._enter()  # it is behind, and not gone
+        try:
+            for piece in self._referee.blocks(found.log, written + 1, found.position):
+                if last:
+                    self._process.add(last)
+                last = piece
+                if self._ends.is_set():
+                    return
+                if time.monotonic() - self._looked >= _LOOK:
+                    self._enter()  # it is behind, and not gone
+        except BrokenArchive as error:
+            begins = whole_from(self._referee, found.log, found.position)
+            if begins is not None and begins > self._process.where.written:
+                raise WentBack(f"{error}, and all from {begins} on is there") from error
+            raise
         self._process.add(last, found.chain or None)
         self._was_confirmed, self._chain = True, found.chain
         self._bell.lead(found.lines, found.position)
