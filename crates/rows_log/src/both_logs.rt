@@ -14,7 +14,7 @@ use std::alloc::Global;
 
 /// A log and a plain one, in the same epoch.
 #[derive(Drop)]
-struct Both {
+pub(crate) struct Both {
     alloc: Global,
     epoch: u32,
     log: DbLog,
@@ -32,7 +32,8 @@ fn new_log(alloc: Global, refused: &mut bool) -> Result<DbLog, Stop>
     Ok(DbLog::new(alloc, 3, 2)?)
 }
 
-fn new_logs(alloc: Global, refused: &mut bool) -> Result<Both, Stop> {
+/// Two logs without blocks.
+pub(crate) fn new_logs(alloc: Global, refused: &mut bool) -> Result<Both, Stop> {
     let log = new_log(alloc, refused)?;
     Ok(Both {
         alloc,
@@ -59,6 +60,14 @@ fn same_block(one: Option<&Block>, other: Option<&Block>) -> bool {
 }
 
 impl Both {
+    pub(crate) fn alloc(&self) -> Global {
+        self.alloc
+    }
+
+    pub(crate) fn hard(&self) -> u64 {
+        self.log.hard()
+    }
+
     // What is read of the logs in short is the same.
     fn compare(&self) -> Result<(), Stop> {
         wants(self.log.hard() == self.plain.hard(), "hard")?;
@@ -81,8 +90,8 @@ impl Both {
         wants(self.log.agrees(block) == self.plain.agrees(block), "agrees")
     }
 
-    // Writes the block, if it may be written.
-    fn write(&mut self, copy: u8, block: Block) -> Result<(), Stop> {
+    /// Writes the block, if it may be written.
+    pub(crate) fn write(&mut self, copy: u8, block: Block) -> Result<(), Stop> {
         self.compare_openness(&block)?;
         let may = self.log.in_window(block.lsn()) && self.log.agrees(&block);
         if !may || self.log.copies() <= copy {
@@ -111,8 +120,8 @@ impl Both {
         Ok(self.log.offer(again)?)
     }
 
-    // Hardens up to the LSN, if that may be hardened.
-    fn report(&mut self, lsn: u64, refused: &mut bool) -> Result<(), Stop> {
+    /// Hardens up to the LSN, if that may be hardened.
+    pub(crate) fn report(&mut self, lsn: u64, refused: &mut bool) -> Result<(), Stop> {
         let can = self.log.can_harden(lsn) == self.plain.can_harden(lsn);
         wants(can, "can_harden")?;
         if !self.log.can_harden(lsn) {
@@ -143,8 +152,8 @@ impl Both {
         Ok(run)
     }
 
-    // Ends the epoch of both, and begins the next with the zone.
-    fn recover(&mut self, zone: Zone, refused: &mut bool) -> Result<(), Stop> {
+    /// Ends the epoch of both, and begins the next with the zone.
+    pub(crate) fn recover(&mut self, zone: Zone, refused: &mut bool) -> Result<(), Stop> {
         let epoch = self.epoch;
         let run = match self.end_epoch(zone) {
             Ok(run) => run,
@@ -181,7 +190,8 @@ impl Both {
         wants(same, "the block of an LSN")
     }
 
-    fn pull(&mut self, asked: Asked, refused: &mut bool) -> Result<(), Stop> {
+    /// Both pull the same blocks, and go on at the same LSN, but for a pull of none.
+    pub(crate) fn pull(&mut self, asked: Asked, refused: &mut bool) -> Result<(), Stop> {
         let Asked {
             lo,
             hi,
@@ -200,7 +210,8 @@ impl Both {
             }
         };
         let (plain_next, plain_blocks) = self.plain.pull(lo, hi, from, max, reach)?;
-        wants(next == plain_next, "where the next pull goes on")?;
+        let goes_on = max == 0 || next == plain_next;
+        wants(goes_on, "where the next pull goes on")?;
         wants(same_blocks(&blocks, &plain_blocks), "the blocks of a pull")
     }
 
@@ -283,7 +294,7 @@ impl Both {
 }
 
 /// Steps of a seed, that end with more hardened blocks than a broker has.
-#[derive(Clone, Copy, Debug)]
+#[derive(Clone, Copy)]
 struct Steps {
     seed: u64,
     count: usize,

@@ -140,7 +140,7 @@ fn touch_each(destage: &Destage, touched: &[(u64, u16, u16, bool)]) -> Result<()
 // 4,096 places of the index are reserved at a time.
 const PAST_A_CHUNK: &[u64] = &[1, 4095, 4096, 4097, 8192, 8193, 8200];
 
-#[derive(Clone, Copy, Debug)]
+#[derive(Clone, Copy)]
 enum DestageRow {
     ReadThreeHundred,
     TouchThreeHundred,

@@ -77,7 +77,7 @@ impl Draws {
 }
 
 /// What is asked of a pull.
-#[derive(Clone, Copy, Debug)]
+#[derive(Clone, Copy)]
 pub(crate) struct Asked {
     pub(crate) lo: u16,
     pub(crate) hi: u16,

@@ -208,7 +208,7 @@ fn end_without_contents(zone: Landing) -> Result<(), Stop> {
     wants(zone.annul().is_empty(), "no contents of an empty zone")
 }
 
-#[derive(Clone, Copy, Debug)]
+#[derive(Clone, Copy)]
 enum LandingRow {
     Fills,
     RunToAGap,

@@ -106,7 +106,7 @@ fn fill_broker(alloc: Global, newest: &mut Newest) -> Result<(), Stop> {
     get_each(alloc, newest, 17..273)
 }
 
-#[derive(Clone, Copy, Debug)]
+#[derive(Clone, Copy)]
 enum BrokerRow {
     Fills,
 }

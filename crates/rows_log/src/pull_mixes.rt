@@ -1,10 +1,10 @@
 //! Pulls of long logs whose blocks touch partitions in many mixes, beside those of plain lists.
 
-use crate::draws::Draws;
-use crate::plain::{PlainLog, Zone};
-use crate::stores::{Row, Stop, meets_refusal, plays, wants};
+use crate::both_logs::{Both, new_logs};
+use crate::draws::{Asked, Draws};
+use crate::plain::Zone;
+use crate::stores::{Row, Stop, plays, wants};
 use pl_block::{Block, Record};
-use pl_log::DbLog;
 use std::alloc::Global;
 
 /// The zone of a log: one copy is enough.
@@ -14,7 +14,7 @@ const ONE_COPY: Zone = Zone {
 };
 
 /// Which partitions the block of an LSN touches.
-#[derive(Clone, Copy, Debug)]
+#[derive(Clone, Copy)]
 enum Mix {
     /// One in 100 touches partition 1, each other one partition 0.
     Rare,
@@ -29,7 +29,7 @@ enum Mix {
 }
 
 /// A log of so many blocks of a mix, which is pulled from so often.
-#[derive(Clone, Copy, Debug)]
+#[derive(Clone, Copy)]
 struct Pulls {
     mix: Mix,
     blocks: u64,
@@ -70,91 +70,62 @@ fn block_of(alloc: Global, mix: Mix, lsn: u64) -> Result<Block, Stop> {
     Ok(Block::new(alloc, lsn, records)?)
 }
 
-/// A log and a plain one of the same blocks.
-#[derive(Drop)]
-struct Both {
-    alloc: Global,
-    log: DbLog,
-    plain: PlainLog,
+// Writes the next block to both, and hardens it.
+fn harden(both: &mut Both, mix: Mix, refused: &mut bool) -> Result<(), Stop> {
+    let lsn = both.hard().saturating_add(1);
+    both.write(0, block_of(both.alloc(), mix, lsn)?)?;
+    both.report(lsn, refused)?;
+    wants(both.hard() == lsn, "the next block is hardened")
 }
 
-impl Both {
-    // Writes the next block to both.
-    fn write(&mut self, mix: Mix) -> Result<(), Stop> {
-        let lsn = self.log.hard().saturating_add(1);
-        let block = block_of(self.alloc, mix, lsn)?;
-        if !self.log.in_window(block.lsn()) || !self.log.agrees(&block) || self.log.copies() < 1 {
-            return Err(Stop::Wrong("the next block may be written"));
-        }
-        self.plain.write(0, block.share()?)?;
-        self.log.write(0, block);
-        Ok(())
+// Partitions of the mix, or near them, from an LSN that is drawn.
+fn drawn(mix: Mix, draws: &mut Draws, hard: u64) -> Asked {
+    let (first, second) = partitions(mix, draws.lsn_to(hard));
+    let some = second.or(first).unwrap_or(7);
+    let lo = some.saturating_sub(draws.below(3));
+    let hi = match draws.below(4) {
+        0 => lo.saturating_add(draws.below(u16::MAX)),
+        1 => lo.saturating_add(draws.below(300)),
+        _ => lo.saturating_add(draws.below(3)),
+    };
+    Asked {
+        lo,
+        hi,
+        from: draws.lsn_to(hard),
+        max: draws.below(20),
+        reach: hard.saturating_sub(u64::from(draws.below(300))),
     }
+}
 
-    // Writes the next block to both, and hardens it.
-    fn harden(&mut self, mix: Mix, refused: &mut bool) -> Result<(), Stop> {
-        self.write(mix)?;
-        let lsn = self.log.hard().saturating_add(1);
-        self.plain.report(lsn)?;
-        if !self.log.can_harden(lsn) {
-            return Err(Stop::Wrong("the next block may be hardened"));
-        }
-        if self.log.report(lsn).is_err() {
-            meets_refusal(refused)?;
-            if !self.log.can_harden(lsn) {
-                return Err(Stop::Wrong("hardened after a refusal"));
-            }
-            self.log.report(lsn)?;
+impl Pulls {
+    fn harden_all(self, both: &mut Both, refused: &mut bool) -> Result<(), Stop> {
+        for _ in 0..self.blocks {
+            harden(both, self.mix, refused)?;
         }
         Ok(())
     }
 
-    // A pull of partitions of the mix, or near them, from an LSN that is drawn.
-    fn pull(&mut self, mix: Mix, draws: &mut Draws, refused: &mut bool) -> Result<(), Stop> {
-        let hard = self.log.hard();
-        let (first, second) = partitions(mix, draws.lsn_to(hard));
-        let some = second.or(first).unwrap_or(7);
-        let lo = some.saturating_sub(draws.below(3));
-        let hi = match draws.below(4) {
-            0 => lo.saturating_add(draws.below(u16::MAX)),
-            1 => lo.saturating_add(draws.below(300)),
-            _ => lo.saturating_add(draws.below(3)),
-        };
-        let (from, max) = (draws.lsn_to(hard), draws.below(20));
-        let reach = hard.saturating_sub(u64::from(draws.below(300)));
-        let (next, blocks) = match self.log.pull(lo, hi, from, max, reach) {
-            Ok(found) => found,
-            Err(_) => {
-                meets_refusal(refused)?;
-                self.log.pull(lo, hi, from, max, reach)?
-            }
-        };
-        let (plain_next, plain_blocks) = self.plain.pull(lo, hi, from, max, reach)?;
-        wants(
-            max == 0 || next == plain_next,
-            "where the next pull goes on",
-        )?;
-        let same = blocks
-            .iter()
-            .map(|block| block.lsn())
-            .eq(plain_blocks.iter().map(|block| block.lsn()));
-        wants(same, "the blocks of a pull")
+    fn pull_all(self, both: &mut Both, refused: &mut bool) -> Result<(), Stop> {
+        let mut draws = Draws::new(self.blocks);
+        for _ in 0..self.pulls {
+            let asked = drawn(self.mix, &mut draws, both.hard());
+            both.pull(asked, refused)?;
+        }
+        Ok(())
+    }
+
+    // Hardens and pulls in both logs.
+    fn take(self, both: &mut Both, refused: &mut bool) -> Result<(), Stop> {
+        both.recover(ONE_COPY, refused)?;
+        self.harden_all(both, refused)?;
+        self.pull_all(both, refused)
     }
 }
 
 impl Row for Pulls {
     fn play(self, alloc: Global, refused: &mut bool) -> Result<(), Stop> {
-        let log = DbLog::new(alloc, ONE_COPY.copies, ONE_COPY.quorum)?;
-        let plain = PlainLog::new(alloc, ONE_COPY);
-        let mut both = Both { alloc, log, plain };
-        let mut draws = Draws::new(self.blocks);
-        for _ in 0..self.blocks {
-            both.harden(self.mix, refused)?;
-        }
-        for _ in 0..self.pulls {
-            both.pull(self.mix, &mut draws, refused)?;
-        }
-        Ok(())
+        let mut both = new_logs(alloc, refused)?;
+        self.take(&mut both, refused)
     }
 }
 

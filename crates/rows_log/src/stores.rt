@@ -6,7 +6,7 @@ use std::alloc::{AllocError, AllocFailed, Global};
 use std::process::Abort;
 
 /// Why a row ends before its last line.
-#[derive(Debug, Drop)]
+#[derive(Drop)]
 pub(crate) enum Stop {
     /// An allocation failed.
     NoMemory,
@@ -63,7 +63,7 @@ pub(crate) fn meets_refusal(refused: &mut bool) -> Result<(), Stop> {
 const LONG: [u8; 8000] = [0x5a; 8000];
 
 /// How long the blocks of a row are.
-#[derive(Clone, Copy, Debug)]
+#[derive(Clone, Copy)]
 pub(crate) enum Size {
     Short,
     Long,
