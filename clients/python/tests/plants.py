@@ -183,12 +183,15 @@ PLANTS = {
                               "            if False:\n", "disks", "wait_is_given_up"),
     "one disk of an old leader": Plant("referee", "if self._requires_standby and rows:", "if self._requires_standby:", "disks",
                                        "left_where_a_standby"),
-    "doubt of a dead server": Plant("quick_way_referee.c", "        note(session, PQerrorMessage(connection));\n        return false;\n",
-                                    "        memset(session->kept, 1, sizeof session->kept);\n        *is_whole = true;\n        return true;\n", "disks", "go_on_in_their_generation"),
-    "no room, told": Plant("quick_way_referee.c", "        note(session, PQresultErrorField(result, PG_DIAG_MESSAGE_PRIMARY));\n        return false;\n",
-                           "        memset(session->kept, 1, sizeof session->kept);\n        return session->has_row = true;\n", "disks", "no_room_is_kept"),
-    "no room for the log, told": Plant("quick_way_referee.c", "        note(session, PQresultErrorField(result, PG_DIAG_MESSAGE_PRIMARY));\n        return false;\n",
-                           "        memset(session->kept, 1, sizeof session->kept);\n        return session->has_row = true;\n", "disks", "for_want_of_room"),
+    "doubt of a dead server": Plant("quick_way_referee.c", "        end_way(session->ways[at], WAY_DOUBT);\n",
+                           "        session->ways[at]->reached = session->ways[at]->batch.reached;\n        tell_all(session->ways[at]);\n"
+                           "        end_way(session->ways[at], WAY_DOUBT);\n", "disks", "go_on_in_their_generation"),
+    "no room, told": Plant("quick_way_referee.c", "        end_way(session->ways[at], WAY_DOUBT);\n",
+                           "        session->ways[at]->reached = session->ways[at]->batch.reached;\n        tell_all(session->ways[at]);\n"
+                           "        end_way(session->ways[at], WAY_DOUBT);\n", "disks", "no_room_is_kept"),
+    "no room for the log, told": Plant("quick_way_referee.c", "        end_way(session->ways[at], WAY_DOUBT);\n",
+                           "        session->ways[at]->reached = session->ways[at]->batch.reached;\n        tell_all(session->ways[at]);\n"
+                           "        end_way(session->ways[at], WAY_DOUBT);\n", "disks", "for_want_of_room"),
     "unknown to an old leader": Plant("referee", "        if len(kept) < len(batches):\n", "        if False:\n", "disks", "old_leader_does_not_know"),
     "life, unknown to an old leader": Plant("referee", "            self.close()\n            self.turn_hosts()\n        self.register", "            raise Superseded(self.me)\n"
                                            "        self.register", "disks",
@@ -413,7 +416,6 @@ PLANTS = {
                                         "many", "cannot_be_made"),
     "unexpected, a doubt": Plant("doubts", "except (\n                Exception\n            ) as error:  # also what nobody expected: a part of a statement may be left\n", "except KeeperError as error:\n",
                                  "meanwhile", "whatever_is_raised"),
-    "refused, at once": Plant("archiver", "        self._not_before = time.monotonic() + self._pauses.next()\n", "", "disks", "stays_full"),
     "refused, no pause": Plant("archiver", "        self._not_before = time.monotonic() + self._pauses.next()\n", "", "meanwhile", "is_refused_is_tried"),
     "refused, not careful": Plant("archiver", "        self._is_careful = True\n", "", "meanwhile", "is_refused_is_tried"),
     "failed pull, no pause": Plant("archiver", "        self._not_before = time.monotonic() + self._pauses.next()\n", "", "meanwhile",

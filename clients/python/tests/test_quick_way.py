@@ -225,6 +225,7 @@ class Hot(Referees, unittest.IsolatedAsyncioTestCase):
             self.session.not_before = 0.0  # after a doubt it connects again at once
             await self.commit(client)
             await asyncio.sleep(0.001)
+        await self.until(lambda: self.archiver._done >= self.archiver._rings, "the last pull")
         return client
 
     async def next_one(self) -> None:
@@ -449,9 +450,16 @@ class Tells(Hot):
             await client.ask("where nothing"),
             "unknown nothing" if self.keeper.look.keepers else "nowhere nothing",
         )
-        self.assertTrue(self.session.is_lent)  # the next commit waits for no connection
+        before = self.server_process()
+        self.plane._close_sessions()  # of which one stays: the next commit waits for no connection
         await self.commit(client)
+        self.assertEqual(self.server_process(), before)
         self.assert_whole()
+
+    def server_process(self) -> int:
+        connection = self.session.referee._connection
+        assert connection is not None
+        return connection.info.backend_pid
 
 
 class Shifted(Hot):
