@@ -15,7 +15,7 @@ from unittest.mock import patch
 import psycopg
 from psycopg.waiting import Ready, Wait
 
-from keepers import Gate, Keeping, Kept, Tried, batch_of, blocks, eventually
+from keepers import Gate, Keeping, Kept, Tried, Trigger, batch_of, blocks, eventually
 from pagelog.keeper import hosts, quick_calls
 from pagelog.keeper.doubts import Doubts
 from pagelog.keeper.database import Database
@@ -253,6 +253,27 @@ class InOneStatement(Together):
                 "SELECT count(*) FROM pg_stat_activity WHERE application_name = 'pagelog keeper one'"
             ).fetchone()
         return int(found[0]) if found else 0
+
+    async def test_one_that_is_refused_is_refused_alone_the_next_time(self) -> None:
+        first, clients = await self.all_hot()
+        refused, lost = self.others[4], clients[4]
+        trigger = Trigger(
+            self.url,
+            "pagelog_block",
+            f"INSERT ON pagelog_block FOR EACH ROW WHEN (NEW.log = {refused.row.id})",
+            "RAISE EXCEPTION 'no room'",
+        )
+        gate = await self.behind(first, clients)
+        await asyncio.to_thread(gate.open)
+        self.assertEqual(await first.answer(), self.durable(len(self.written)))
+        for other, client in zip(self.others, clients):
+            if other is not refused:
+                self.assertEqual(await client.answer(), other.durable(len(other.written)))
+        self.assertFalse(lost.has_answer())
+        trigger.close()
+        self.assertEqual(await lost.answer(), refused.durable(len(refused.written)))
+        for other in self.others:
+            other.assert_whole()
 
     async def test_a_statement_that_is_cut_puts_all_that_is_in_it_in_doubt_and_nothing_else(
         self,

@@ -657,6 +657,10 @@ class Lines(Hot):
             with refused:
                 position = self.write()
                 self.assertEqual(await third.ask(self.durable(position)), self.durable(position))
+                self.assertEqual(
+                    await third.ask(self.durable(position + 9)),
+                    f"above shop {self.served.generation} {position}",
+                )
         await self.hot(client)
         self.assert_whole()
 
@@ -1413,6 +1417,10 @@ class Services(Hot):
             )
             self.assertEqual(await client.ask(self.durable(position)), self.durable(position))
             self.assert_quick(position)
+        first = len(self.written) + 1
+        position = self.write(made=[Block.of(first + at, []).data for at in range(3000)])
+        self.archiver.ring()
+        await self.until(lambda: self.way.reached[0] == position, "what nobody waits for")
         self.assertEqual(self.ends, [])
         self.assert_whole()
 

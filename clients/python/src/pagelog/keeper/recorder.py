@@ -288,6 +288,8 @@ class Recorder:
         self._is_without = True
 
     async def _call(self, work: Callable[[], bool | None]) -> bool | None:
+        if self._wanted is not None:
+            self._wanted()
         await self.turn.take()
         try:
             return await self.turn.spend(self._trails.thread, work)

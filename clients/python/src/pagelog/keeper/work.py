@@ -143,6 +143,11 @@ class Work:
                 {asyncio.create_task(recorder.catch_up())}, timeout=self._shared.settings.ttl
             )
 
+    def stop_archiving(self) -> None:
+        """Nothing more of it can be archived."""
+        if self._archiving is not None:
+            self._archiving.cancel()
+
     def stop(self) -> None:
         """Nothing is done any more with the service."""
         for task in (self._archiving, self._looking, self._recording):
