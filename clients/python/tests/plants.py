@@ -249,7 +249,6 @@ PLANTS = {
     "quick way, empty at the end": Plant("quick_way_service.c", "fill_up(way, next, 0) ? WAY_STOPPED : WAY_NO_MEMORY", "WAY_STOPPED", "quick_way", "are_filled_in"),
     "quick way, empty between": Plant("quick_way_service.c", "        if (!fill_up(way, position, len - at)) {\n            return WAY_NO_MEMORY;\n        }\n", "", "quick_way", "are_filled_in"),
     "quick way, what fits": Plant("quick_way_service.c", "        way->pulled = way->most; /* there may be more than it has room for */\n", "", "quick_way", "are_filled_in"),
-    "quick way, alone": Plant("quick_way_referee.c", " || way->start.is_careful;", ";", "many", "refused_alone"),
     "quick way, none waits": Plant("archiver", "            case End.SERVICE if self._doorbell.is_set():\n", "            case End.SERVICE:\n", "meanwhile", "nobody_waits_is_asked"),
     "quick way, a list that went on": Plant("archiver", "            recorder.take_back(found)\n        if end is End.LINES:\n            await recorder.catch_up_soon()\n", "            pass\n        if end is End.LINES:\n            await recorder.catch_up_soon()\n        recorder.take_back(found)\n", "quick_way", "more_lines_than_one"),
     "quick way, tried again": Plant("quick_way.c", "    if (!follows || !fits) {\n", "    if (true) {\n", "disks", "stays_full"),
