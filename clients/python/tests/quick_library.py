@@ -21,7 +21,7 @@ OUT = CLIENT / "out"
 LACKING = re.compile(
     r"fatal error: (?!quick_way)\S+: No such file|cannot find -l|No module named 'setuptools'|gcc' failed: No such file"
 )
-WITHOUT = "the quick way is not built, and durable commits take longer"
+WITHOUT = "the compiled part of keepers is not built, and none starts without it"
 INSTALL = (
     "apt-get install gcc libc6-dev libpq-dev libb2-dev libssl-dev zlib1g-dev python3-setuptools"
 )

@@ -76,7 +76,6 @@ PARTS = {
     "test_grants": "PostgreSQL with least privilege",
     "test_sealed": "tables of principals that are sealed",
     "test_proofs": "lines that are bound to a principal",
-    "test_quick": "few blocks, pulled without a thread",
     "test_quick_way": "the quick way of a hot database, which is a thread of C",
     "test_looks": "looks at services, without a thread each",
     "test_fronts": "the front that speaks TLS before the services of a keeper",

@@ -63,6 +63,8 @@ def make(folder: Path, kind: str) -> Path:
         copy,
         ignore=shutil.ignore_patterns("__pycache__", ".mypy_cache", "out", LIBRARY.name),
     )
+    shutil.copytree(PYTHON.parent / "pages", copy.parent / "pages")  # with what was built
+    (copy.parent / "c").symlink_to(PYTHON.parent / "c")
     tables = folder / "crates" / "pagelog" / "data"
     tables.mkdir(parents=True)
     shutil.copy(TOP / "crates" / "pagelog" / "data" / "t0.toml", tables)

@@ -38,8 +38,7 @@ from pagelog import Connection, ConnectionLost, OlderEpoch, OtherPrimary, Primar
 from pagelog.desk.words import pagelogctl
 from pagelog.keeper import referee as referee_module
 from pagelog.keeper.bases import Base, Bases
-from pagelog.keeper.committer import Committer, Fenced
-from pagelog.keeper.committer import SMALL
+from pagelog.keeper.doubts import Doubts, Fenced
 from pagelog.keeper.referee import Doubt, Referee, digest
 from pagelog.keeper.rows import Batch, Kept as KeptBatch
 from pagelog.keeper.run import Facts, Run
@@ -349,124 +348,12 @@ class ManyFiles(unittest.TestCase):
         self.assertEqual(child.poll(), -signal.SIGKILL)
 
 
-class Committers(Referees):
-    def test_two_batches_of_one_database_are_in_one_statement_neither_with_each_other_nor_with_one_that_was_given_up(
-        self,
-    ) -> None:
-        kept, ship = self.taken(), new_database(self.referee, "ship")
-        taken = self.referee.take(ship, "r")
-        assert taken is not None
-        good = batch_of(self.row, kept, "r1")
-        given_up, late = replace(good, blocks=blocks(1, 3, b"given up")), replace(good, run="over")
-
-        async def keep() -> list[int]:
-            committer = Committer(Session(self.referee, PATIENCE), PATIENCE)
-            waits = [
-                asyncio.create_task(committer.keep(batch))
-                for batch in (given_up, good, late, batch_of(ship, taken, "r"))
-            ]
-            await asyncio.sleep(0)  # all of them are due
-            waits[0].cancel()
-            running = asyncio.create_task(committer.run())
-            try:
-                with self.assertRaises(Fenced):
-                    await asyncio.wait_for(waits[2], PATIENCE)
-                return [
-                    (await asyncio.wait_for(wait, PATIENCE)).archived
-                    for wait in (waits[1], waits[3])
-                ]
-            finally:
-                running.cancel()
-
-        self.assertEqual(asyncio.run(keep()), [3, 3])
-        self.assertEqual(self.everything(), list(good.blocks))
-
-    def test_a_batch_that_nobody_waits_for_any_more_does_no_harm_to_the_next(self) -> None:
-        kept = self.taken()
-        found = asyncio.run(
-            self.both(
-                replace(batch_of(self.row, kept, "r1"), run="over"), batch_of(self.row, kept, "r1")
-            )
-        )
-        self.assertEqual((found.archived, found.generation), (3, kept.generation))
-
-    async def both(self, over: Batch, good: Batch) -> KeptBatch:
-        """The end of a good batch, behind one whose keeper gives it up while it is looked up."""
-        loop, look_up = asyncio.get_running_loop(), self.referee.kept
-        committer = Committer(Session(self.referee, PATIENCE), PATIENCE)
-        running = asyncio.create_task(committer.run())
-        given_up = asyncio.create_task(committer.keep(over))
-
-        def give_up(log: int, run: str) -> KeptBatch | None:
-            loop.call_soon_threadsafe(given_up.cancel)
-            return look_up(log, run)
-
-        self.referee.kept = give_up  # type: ignore[method-assign]
-        await asyncio.wait({given_up})
-        try:
-            return await asyncio.wait_for(committer.keep(good), PATIENCE)
-        finally:
-            running.cancel()
-
-    def test_a_connection_that_was_made_beforehand_waits_for_a_batch_and_is_closed_where_none_comes(
-        self,
-    ) -> None:
-        batch, referee = batch_of(self.row, self.taken(), "r1"), self.new("two")
-        referee.close()
-
-        async def keep() -> int:
-            committer = Committer(Session(referee, PATIENCE), 0.02)
-            running = asyncio.create_task(committer.run())
-            for _ in range(2):
-                await committer.warm()
-                while referee.descriptor is not None:
-                    await asyncio.sleep(0.01)
-            running.cancel()
-            committer = Committer(Session(referee, PATIENCE), PATIENCE)
-            running = asyncio.create_task(committer.run())
-            await committer.warm()
-            for _ in range(20):
-                await asyncio.sleep(0)  # whoever would close it has done so
-            self.assertIsNotNone(referee.descriptor)
-            try:
-                return (await committer.keep(batch)).archived
-            finally:
-                running.cancel()
-
-        self.assertEqual(asyncio.run(asyncio.wait_for(keep(), PATIENCE)), 3)
-
-    def test_a_small_batch_waits_for_no_connection_that_is_made(self) -> None:
-        """It goes over the connection of the looks. One whose statement is long waits: the beat would wait for it."""
-        line = Line(0, stalls=True)
-        self.addCleanup(line.close)
-        own, beside = Session(Referee(line.url(self.url), "two"), PATIENCE), Session(
-            self.new("two"), PATIENCE
-        )
-        first = batch_of(self.row, self.taken(), "r1")
-        large = (b"x" * (SMALL + 1),)
-        second = replace(first, old=first.new, blocks=large, chain=digest(first.chain, large))
-
-        async def keep() -> list[int]:
-            committer = Committer(own, PATIENCE, beside=beside)
-            running = asyncio.create_task(committer.run())
-            try:
-                archived = [(await committer.keep(first)).archived]
-                line.count_from_now()
-                for each in line.open:
-                    each.close()
-                return [*archived, (await committer.keep(second)).archived]
-            finally:
-                running.cancel()
-
-        with patch.object(beside, "keep", wraps=beside.keep) as kept:
-            self.assertEqual(asyncio.run(asyncio.wait_for(keep(), PATIENCE)), [3, 4])
-        self.assertEqual(kept.call_count, 1)
-
+class Lookups(Referees):
     def test_what_a_take_lacks_is_read_without_another_thread(self) -> None:
         batch = batch_of(self.row, self.taken(), "r1")
         self.referee.keep([batch])
         shared, served = Shared(
-            Mock(), "", Session(self.referee, PATIENCE), Mock(), print, print
+            Mock(), "", Session(self.referee, PATIENCE), Mock(), Mock(), print, print
         ), Mock(reached=1, loaded=1)
         with patch(
             "pagelog.keeper.referee.threading.Timer", side_effect=AssertionError("a thread")
@@ -477,16 +364,15 @@ class Committers(Referees):
     def test_a_batch_of_a_run_that_is_over_is_fenced(self) -> None:
         kept = self.taken()
 
-        async def keep() -> None:
-            committer = Committer(Session(self.referee, PATIENCE), PATIENCE)
-            running = asyncio.create_task(committer.run())
-            try:
-                with self.assertRaises(Fenced):
-                    await committer.keep(replace(batch_of(self.row, kept, "r1"), run="over"))
-            finally:
-                running.cancel()
+        async def look_up() -> KeptBatch:
+            doubts = Doubts(Session(self.referee, PATIENCE))
+            with self.assertRaises(Fenced):
+                await doubts.look_up(self.row.id, "over")
+            return await doubts.look_up(self.row.id, "r1")
 
-        asyncio.run(keep())
+        found = asyncio.run(look_up())
+        self.assertEqual((found.archived, found.generation), (0, kept.generation))
+        self.assertIsNone(self.referee.descriptor)  # nothing is in doubt any more
 
 
 class Away(unittest.TestCase):
@@ -540,33 +426,6 @@ class Away(unittest.TestCase):
                 (word, 3, " Doubt: PostgreSQL"),
                 done.exception,
             )
-
-    def test_a_row_that_is_locked_holds_up_no_other_database(self) -> None:
-        url = new_url()
-        referee = Referee(url, "one", "life")
-        self.addCleanup(referee.close)
-        rows = [new_database(referee, name) for name in ("shop", "ship")]
-        shop, ship = [
-            batch_of(row, kept, "r") for row in rows if (kept := referee.take(row, "r")) is not None
-        ]
-
-        async def keep() -> int:
-            committer = Committer(Session(referee, PATIENCE), PATIENCE)
-            running = asyncio.create_task(committer.run())
-            locked = asyncio.create_task(committer.keep(shop))
-            while (
-                kept := await asyncio.wait_for(committer.keep(ship), PATIENCE)
-            ).archived == ship.old:
-                pass  # as an archiver does
-            self.assertFalse(locked.done())
-            session.rollback()
-            await asyncio.wait_for(locked, PATIENCE)
-            running.cancel()
-            return kept.archived
-
-        with psycopg.connect(url) as session:
-            session.execute("SELECT 1 FROM pagelog_log WHERE name = 'shop' FOR UPDATE")
-            self.assertEqual(asyncio.run(keep()), ship.new)
 
     def test_services_that_hang_hold_up_no_statement(self) -> None:
         hangs, referee = threading.Event(), Referee("postgresql://127.0.0.1:1/none")

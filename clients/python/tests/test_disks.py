@@ -15,7 +15,6 @@ import psycopg
 
 from keepers import Kept, batch_of, eventually, new_database
 from pagelog import NamedPrimary, Put
-from pagelog.keeper import quick_calls
 from pagelog.keeper.quick import QuickReferee
 from pagelog.keeper.referee import Doubt, OneDisk, Referee, Superseded
 from pagelog.keeper.rows import Look, Synchronous
@@ -26,7 +25,6 @@ from replicated import Pair, Server
 from service import PATIENCE
 from small_disk import SmallDisks
 
-IS_BUILT = quick_calls.library() is not None
 _pairs: list[Pair] = []
 
 
@@ -202,7 +200,9 @@ class Referees(unittest.TestCase):
 
                 async def keep() -> list[frozenset[int]]:
                     session = Session(writer, PATIENCE)
-                    return [await session.keep(found) for found in ((), [batch], [batch])]
+                    return [
+                        await session.ask(writer.keep, found) for found in ((), [batch], [batch])
+                    ]
 
                 self.assertEqual(asyncio.run(keep()), [frozenset(), frozenset(), {self.row.id}])
                 kept = replace(kept, archived=batch.new, chain=batch.chain)
@@ -606,7 +606,6 @@ class StandbyRequired(Durable):
     def is_quick(self) -> bool:
         return self.keeping.metrics()["pagelog_keeper_quick", "shop"] == 1
 
-    @unittest.skipUnless(IS_BUILT, "the quick way is not built")
     def test_the_quick_way_waits_for_it_too(self) -> None:
         with self.keeping.primary() as primary, boss() as session:
             eventually(

@@ -15,9 +15,9 @@ from unittest.mock import patch
 import psycopg
 from psycopg.waiting import Ready, Wait
 
-from keepers import Gate, Keeping, Kept, Tried, batch_of, blocks, eventually
+from keepers import Gate, Keeping, Kept, Tried, Trigger, batch_of, blocks, eventually
 from pagelog.keeper import hosts, quick_calls
-from pagelog.keeper.committer import Committer
+from pagelog.keeper.doubts import Doubts
 from pagelog.keeper.database import Database
 from pagelog.keeper.quick import QuickReferee
 from pagelog.keeper.quick_plane import QuickPlane
@@ -121,51 +121,23 @@ class Unexpected(Referees):
         self.assertIsNone(self.referee.descriptor)
         self.taken()
 
-    def test_a_batch_is_known_to_be_kept_where_its_answer_was_met_by_an_error(self) -> None:
+    def test_a_doubt_is_looked_up_again_where_the_answer_was_met_by_an_error(self) -> None:
         kept, said = self.taken(), list[str]()
         batch = batch_of(self.row, kept, "r1")
+        self.referee.keep([batch])
 
-        async def keep() -> int:
-            referee = QuickReferee(self.url, "one", "life of one")
-            session = Session(referee, PATIENCE)
-            committer = Committer(session, PATIENCE, said.append)
-            running = asyncio.create_task(committer.run())
-            try:
-                await committer.warm()
-                with patch("psycopg.waiting.wait", once_odd(psycopg.waiting.wait)):
-                    found = await asyncio.wait_for(committer.keep(batch), PATIENCE)
-                while found.archived < batch.new:
-                    found = await asyncio.wait_for(committer.keep(batch), PATIENCE)
-                return found.archived
-            finally:
-                running.cancel()
-                await session.close()
+        async def look_up() -> int:
+            doubts = Doubts(Session(Referee(self.url, "one", "life of one"), PATIENCE), said.append)
+            with patch("psycopg.waiting.wait", once_odd(psycopg.waiting.wait)):
+                return (
+                    await asyncio.wait_for(doubts.look_up(self.row.id, "r1"), PATIENCE)
+                ).archived
 
-        self.assertEqual(asyncio.run(keep()), batch.new)
+        self.assertEqual(asyncio.run(look_up()), batch.new)
         self.assertEqual(
             said, ["nothing is archived: PostgreSQL: ValueError: filedescriptor out of range"]
         )
 
-    def test_a_batch_of_which_nobody_can_make_a_statement_ends_no_committer(self) -> None:
-        kept, said = self.taken(), list[str]()
-        batch = batch_of(self.row, kept, "r1")
-
-        async def keep() -> int:
-            committer = Committer(Session(self.referee, PATIENCE), PATIENCE, said.append)
-            running = asyncio.create_task(committer.run())
-            try:
-                with patch.object(Referee, "keep", side_effect=ValueError("odd")):
-                    self.assertEqual(
-                        (await asyncio.wait_for(committer.keep(batch), PATIENCE)).archived, 0
-                    )
-                return (await asyncio.wait_for(committer.keep(batch), PATIENCE)).archived
-            finally:
-                running.cancel()
-
-        self.assertEqual(asyncio.run(keep()), batch.new)
-        self.assertEqual(said, ["nothing is archived: ValueError: odd"])
-
-    @unittest.skipUnless(quick_calls.library() is not None, "the quick way is not built")
     def test_the_quick_way_is_to_be_had_again(self) -> None:
         said: list[str] = []
 
@@ -180,12 +152,12 @@ class Unexpected(Referees):
             try:
                 with patch("pagelog.keeper.quick.Prepared", side_effect=ValueError("odd")):
                     for _ in range(2):
-                        plane._is_connected()
+                        plane.warm()
                         while session.is_connecting:
                             await asyncio.sleep(0.001)
                         self.assertIsNone(session.referee.descriptor)
                 plane.idle = PATIENCE
-                plane._is_connected()
+                plane.warm()
                 while session.is_connecting:
                     await asyncio.sleep(0.001)
                 return session.is_lent
@@ -193,7 +165,7 @@ class Unexpected(Referees):
                 await plane.close()
 
         self.assertTrue(asyncio.run(connect()))
-        self.assertEqual(said, ["not to be had: PostgreSQL: ValueError: odd"])
+        self.assertEqual(said, ["PostgreSQL: ValueError: odd"] * 2)
 
 
 class Together(Hot):
@@ -282,6 +254,27 @@ class InOneStatement(Together):
             ).fetchone()
         return int(found[0]) if found else 0
 
+    async def test_one_that_is_refused_is_refused_alone_the_next_time(self) -> None:
+        first, clients = await self.all_hot()
+        refused, lost = self.others[4], clients[4]
+        trigger = Trigger(
+            self.url,
+            "pagelog_block",
+            f"INSERT ON pagelog_block FOR EACH ROW WHEN (NEW.log = {refused.row.id})",
+            "RAISE EXCEPTION 'no room'",
+        )
+        gate = await self.behind(first, clients)
+        await asyncio.to_thread(gate.open)
+        self.assertEqual(await first.answer(), self.durable(len(self.written)))
+        for other, client in zip(self.others, clients):
+            if other is not refused:
+                self.assertEqual(await client.answer(), other.durable(len(other.written)))
+        self.assertFalse(lost.has_answer())
+        trigger.close()
+        self.assertEqual(await lost.answer(), refused.durable(len(refused.written)))
+        for other in self.others:
+            other.assert_whole()
+
     async def test_a_statement_that_is_cut_puts_all_that_is_in_it_in_doubt_and_nothing_else(
         self,
     ) -> None:
@@ -289,11 +282,11 @@ class InOneStatement(Together):
         self.line.count_from_now(1 << 40, 1 << 40)
         await self.commit_quickly(first)
         back = (1 << 40) - self.line.left["back"]
-        early, look_up = list[bool](), Committer.look_up
+        early, look_up = list[bool](), Doubts.look_up
 
-        async def seen(committer: Committer, log: int, run: str) -> KeptRow:
+        async def seen(doubts: Doubts, log: int, run: str) -> KeptRow:
             self.line.count_from_now()
-            kept = await look_up(committer, log, run)
+            kept = await look_up(doubts, log, run)
             early.extend(
                 client.has_answer()
                 for other, client in zip(self.others, clients)
@@ -301,7 +294,7 @@ class InOneStatement(Together):
             )
             return kept
 
-        self.enterContext(patch.object(Committer, "look_up", seen))
+        self.enterContext(patch.object(Doubts, "look_up", seen))
         # Before that of many is whole, behind its commit, and in the answer of the one before: then those that are due have another.
         for cut, count in (
             ({"to": 500}, len(self.others)),
@@ -321,6 +314,26 @@ class InOneStatement(Together):
             await self.hot(first)
         for other in self.others:
             other.assert_whole()
+        self.assert_whole()
+
+
+class Locked(Together):
+    COUNT = 3
+
+    async def test_a_row_that_is_locked_holds_up_no_other_database_but_once(self) -> None:
+        """It is in one statement with the others, which all are in doubt then; after that they go on without it."""
+        first, clients = await self.all_hot()
+        with psycopg.connect(self.url) as session:
+            session.execute("SELECT 1 FROM pagelog_log WHERE name = 'shop' FOR UPDATE")
+            first.send(self.durable(self.write()))
+            for _ in range(3):
+                for other, client in zip(self.others, clients):
+                    position = other.write()
+                    self.assertEqual(
+                        await client.ask(other.durable(position)), other.durable(position)
+                    )
+            self.assertFalse(first.has_answer())
+        self.assertEqual(await first.answer(), self.durable(len(self.written)))
         self.assert_whole()
 
 

@@ -20,13 +20,14 @@ import psycopg
 from pagelog.errors import OutOfMemory, Unreachable
 from pagelog.keeper import served as served_module
 from pagelog.keeper.archiver import Archiver, turn_of
-from pagelog.keeper.committer import Committer, Fenced
 from pagelog.keeper.database import Database
+from pagelog.keeper.doubts import Doubts, Fenced
 from pagelog.keeper.fate import Of
 from pagelog.keeper.fates import Questions, tell_block, tell_fate
 from pagelog.keeper.keeping import Keeper
 from pagelog.keeper.lines import Server
 from pagelog.keeper.machine import Action, Kind, Stage
+from pagelog.keeper.quick_way import End
 from pagelog.keeper.recorder import Recorder, Turn
 from pagelog.keeper.referee import Away, Doubt, Referee, Refused
 from pagelog.keeper.rows import Batch, KeeperRow, Kept, Lines, Look, Row, StandbyRow
@@ -81,27 +82,73 @@ def service(**facts: Any) -> Mock:
     }
     made = Mock(**known)
     made.share.return_value = 0.0
-    made.pulled_at_once, made.looked_at_once = AsyncMock(return_value=[]), AsyncMock(
-        return_value=True
-    )
+    made.looked_at_once = AsyncMock(return_value=True)
     if made.process is not None:
         made.process.descriptor = made.process.memory = 0
     return made
 
 
+class Way:
+    """In place of the fast path's of a database: it ends as the test says."""
+
+    def __init__(self, served: Any, lines: object, is_careful: bool) -> None:
+        self.lines, self.is_careful, self.why = lines, is_careful, ""
+        self.reached, self.done = (served.reached, served.chain), (0, 0)
+        self.ended: asyncio.Future[End] = asyncio.get_running_loop().create_future()
+        self.take = self.watch = self.kick = self.drop = lambda *_: None
+
+    def stop(self) -> None:
+        self.end(End.STOPPED)
+
+    def end(self, end: End) -> None:
+        if not self.ended.done():
+            self.ended.set_result(end)
+
+    async def run(self) -> End:
+        return await self.ended
+
+
+class Ways:
+    """In place of the fast path. `ends` are those of the ways to come; the others end when they are told to."""
+
+    def __init__(self, *ends: End) -> None:
+        self.made: list[Way] = []
+        self.times: list[float] = []
+        self.ends = list(ends)
+        self.warm, self.keeps_lines = Mock(), True
+
+    async def way_of(
+        self,
+        _: Row,
+        served: Any,
+        told: object,
+        lines: object = None,
+        *,
+        is_careful: bool,
+        before: Any,
+    ) -> Any:
+        self.made.append(Way(served, lines, is_careful))
+        self.times.append(time.monotonic())
+        if self.ends:
+            self.made[-1].end(self.ends.pop(0))
+        return self.made[-1]
+
+
 class Meanwhile(unittest.IsolatedAsyncioTestCase):
-    """A database of a keeper whose session and committer are the test's."""
+    """A database of a keeper whose sessions and fast path are the test's."""
 
     def setUp(self) -> None:
         self.said: list[str] = []
         self.session = Mock(referee=Mock(Referee), ask=AsyncMock(return_value=None))
-        self.committer = Mock(keep=AsyncMock(side_effect=Fenced("held no more")), warm=AsyncMock())
+        self.doubts = Mock(look_up=AsyncMock(side_effect=Fenced("held no more")))
+        self.ways: Any = Ways()
         settings = Settings.of("a", "", "", Path("."), "", "", {"standby": False, "ttl": PATIENCE})
         self.shared = Shared(
             settings,
             "life",
             self.session,
-            self.committer,
+            self.doubts,
+            self.ways,
             lambda _, sentence: self.said.append(sentence),
             Mock(),
         )
@@ -145,17 +192,17 @@ class Archives(Meanwhile):
             Recorder,
             is_ready=True,
             turn=Turn(PATIENCE),
-            lines=AsyncMock(return_value=Mock(Lines)),
+            lend=Mock(return_value=Mock()),
             run=AsyncMock(),
         )
         self.shared.trails = Mock(recorder=Mock(return_value=recorder))
-        served = self.held()
-        served.pulled_at_once.return_value = [BLOCK]
+        self.ways.ends = [End.NOT_KEPT]
+        self.held()
         await self.done(lambda: self.database.work.archiver.is_over)  # type: ignore[union-attr]
         self.see()  # it was told that it is fenced, and is not
-        await self.done(lambda: self.committer.keep.await_count == 2)
-        for call in self.committer.keep.await_args_list:
-            self.assertIsNotNone(call.args[0].lines)
+        await self.done(lambda: len(self.ways.made) == 2)
+        for way in self.ways.made:
+            self.assertIsNotNone(way.lines)
         self.assertEqual(self.shared.trails.recorder.call_count, 1)
 
     async def test_none_is_begun_beside_an_action_that_has_the_one_before(self) -> None:
@@ -179,107 +226,101 @@ class Archives(Meanwhile):
         self,
     ) -> None:
         for facts, is_over in (({}, True), ({"is_alive": False}, False), ({"hangs": True}, False)):
-            archiver = Archiver(
-                ROW, service(**facts), Waits("shop"), self.committer, Mock(), Mock()
-            )
+            archiver = self.archiver(service(**facts))
             archiver.is_over = is_over
-            waiting = asyncio.create_task(archiver.reached(9))
-            await self.rest()
-            self.assertTrue(waiting.done(), facts)
-            self.assertFalse(await waiting)
+            for waits in (archiver.reached(9), archiver.caught_up()):
+                waiting = asyncio.create_task(waits)
+                await self.rest()
+                self.assertTrue(waiting.done(), facts)
+                self.assertFalse(await waiting)
 
-    async def archive(self, served: Mock, tries: list[float], count: int) -> list[float]:
+    def archiver(self, served: Mock) -> Archiver:
+        return Archiver(ROW, served, Waits("shop"), self.doubts, Mock(), Mock(), self.ways)
+
+    async def tries(self, served: Mock, count: int) -> list[float]:
         """Archives what the service has until there were so many tries, and returns the seconds between them. Somebody rings all the time."""
-        archiver = Archiver(ROW, served, Waits("shop"), self.committer, Mock(), Mock())
+        archiver = self.archiver(served)
         running = self.shared.spawn(archiver.run(), "an archiver")
 
         def are_there() -> bool:
             archiver.ring()
-            return len(tries) >= count
+            return len(self.ways.made) >= count
 
         await self.done(are_there)
         running.cancel()
-        return [later - earlier for earlier, later in zip(tries, tries[1:count])]
+        self.assertEqual([way.is_careful for way in self.ways.made], [False] + [True] * (count - 1))
+        times = self.ways.times
+        return [later - earlier for earlier, later in zip(times, times[1:count])]
 
-    async def test_a_batch_that_is_refused_is_pulled_once_and_tried_more_and_more_seldom(
+    async def test_a_batch_that_is_refused_is_tried_carefully_and_more_and_more_seldom(
         self,
     ) -> None:
-        served, tries = service(hard=6), list[float]()
-        served.pulled_at_once.return_value = [BLOCK]
-
-        async def refuse(_: Batch) -> Kept:
-            tries.append(time.monotonic())
-            await asyncio.sleep(0)
-            return Kept(5, ROW.chain, 3)
-
-        self.committer.keep = refuse
-        gaps = await self.archive(served, tries, 5)
+        self.ways.ends = [End.DOUBT] * 4
+        self.doubts.look_up = AsyncMock(return_value=Kept(5, ROW.chain, 3))
+        gaps = await self.tries(service(hard=6), 5)
         for gap, least in zip(gaps, (0.05, 0.1, 0.2, 0.4)):
             self.assertGreater(gap, 0.9 * least, gaps)
-        self.assertEqual(served.pulled_at_once.await_count, 1)
 
     async def test_a_service_whose_pulls_fail_is_asked_more_and_more_seldom(self) -> None:
-        served, tries = service(hard=6), list[float]()
-
-        async def fail(_: int) -> None:
-            tries.append(time.monotonic())
-            await asyncio.sleep(0)
-            raise Unreachable("no connection")
-
-        served.pulled_at_once.side_effect = fail
-        gaps = await self.archive(served, tries, 5)
+        self.ways.ends = [End.SERVICE] * 4
+        served = service(hard=6, ask_for_more=Mock(side_effect=Unreachable("no connection")))
+        gaps = await self.tries(served, 5)
         for gap, least in zip(gaps, (0.05, 0.1, 0.2, 0.4)):
             self.assertGreater(gap, 0.9 * least, gaps)
+        self.assertEqual(served.ask_for_more.call_count, 4)
 
-    async def test_a_batch_that_comes_while_an_idle_connection_is_closed_is_kept(self) -> None:
-        closing, closed = asyncio.Event(), asyncio.Event()
-
-        async def close() -> None:
-            closing.set()
-            await closed.wait()  # a statement that looks up another batch has the turn
-
-        committer = Committer(Mock(close=close, keep=AsyncMock(return_value=frozenset({1}))), 0.0)
-        running = self.shared.spawn(committer.run(), "the committer")
-        await closing.wait()
-        keeping = asyncio.create_task(committer.keep(Batch(1, "mine", 3, 5, b"d" * 16, (BLOCK,))))
+    async def test_a_service_that_ends_while_nobody_waits_is_asked_for_nothing(self) -> None:
+        served = service(ask_for_more=Mock(side_effect=Unreachable("no connection")))
+        archiver = self.archiver(served)
+        running = self.shared.spawn(archiver.run(), "an archiver")
+        await self.done(lambda: self.ways.made)
+        self.ways.made[0].done = archiver._rings, archiver._rings
+        self.ways.made[0].end(End.SERVICE)
         await self.rest()
-        closed.set()
-        await self.rest()
-        self.assertTrue(keeping.done())
-        self.assertEqual((await keeping).archived, 6)
+        self.assertEqual((served.ask_for_more.called, len(self.ways.made)), (False, 1))
+        archiver.ring()
+        await self.done(lambda: len(self.ways.made) == 2)
         running.cancel()
+
+    async def test_a_doubt_is_looked_up_again_whatever_is_raised(self) -> None:
+        said, kept = list[str](), Kept(6, b"d" * 16, 3)
+        session = Mock(ask=AsyncMock(side_effect=[ValueError("odd"), kept]), close=AsyncMock())
+        self.assertEqual(await Doubts(session, said.append).look_up(1, "mine"), kept)
+        self.assertEqual(
+            (said, session.close.await_count), (["nothing is archived: ValueError: odd"], 2)
+        )
 
     async def test_what_postgresql_refuses_the_archive_is_said_once_a_minute_with_a_count(
         self,
     ) -> None:
         said, now, refused = list[str](), [0.0], Refused("PostgreSQL: too many connections")
-        answers = [Kept(5, b"c" * 16, 3), refused, Kept(5, b"c" * 16, 3)]
+        kept = Kept(5, b"c" * 16, 3)
         session = Mock(
-            keep=AsyncMock(side_effect=[refused, frozenset({1}), refused]),
-            ask=AsyncMock(side_effect=[refused, *answers]),
+            ask=AsyncMock(side_effect=[refused, kept, kept, refused, kept]), close=AsyncMock()
         )
-        committer, sentence = (
-            Committer(session, PATIENCE, said.append),
+        doubts, sentence = (
+            Doubts(session, said.append),
             "nothing is archived: PostgreSQL: too many connections",
         )
-        committer._repeats._clock = lambda: now[0]
-        running = self.shared.spawn(committer.run(), "the committer")
+        doubts._repeats._clock = lambda: now[0]
         with patch("asyncio.sleep", new=AsyncMock()):
             for now[0], lines in (
                 (0.0, [sentence]),
                 (59.0, [sentence]),
                 (60.0, [sentence, f"{sentence} (2 times in 60 s)"]),
             ):
-                await committer.keep(Batch(1, "mine", 3, 5, b"d" * 16, (BLOCK,)))
+                if now[0] == 59.0:
+                    doubts.say("PostgreSQL: too many connections")
+                await doubts.look_up(1, "mine")
                 self.assertEqual(said, lines)
-        running.cancel()
+        self.assertEqual(session.close.await_count, 3)  # nothing is in doubt any more
 
     async def test_a_service_that_may_be_the_only_copy_stays_so_where_a_look_shows_its_run(
         self,
     ) -> None:
+        self.ways.ends = [End.NOT_KEPT]
+        self.doubts.look_up = AsyncMock(return_value=Kept(2, b"other", 3))
         served = self.held(has=Mock(return_value=False))
-        served.pulled_at_once.return_value = [BLOCK]
-        self.committer.keep = AsyncMock(return_value=Kept(2, b"other", 3))
         await self.done(lambda: served.went_back)
         self.see(replace(ROW, archived=2, chain=b"other"))
         self.assertTrue(served.went_back)
@@ -431,11 +472,7 @@ class Closes(Meanwhile):
                 True,
             )
             served.process = Mock(descriptor=0, memory=0, is_alive=True)
-            served._operator, served._looker, served._puller = operator, _, _ = (
-                Mock(),
-                Mock(),
-                Mock(pull=AsyncMock(return_value=[])),
-            )
+            served._operator, served._looker = operator, _ = Mock(), Mock()
             operator.fence.return_value.hard = 5
             self.enterContext(patch.object(Served, "_table"))
             self.enterContext(patch.object(Served, "look"))
@@ -484,7 +521,7 @@ class Successions(Meanwhile):
 
     async def test_one_whose_archive_is_not_its_own_any_more_is_given_up(self) -> None:
         served, (succession, made) = self.held(), self.successor()
-        archiver = Mock(turn=asyncio.Lock(), archived=AsyncMock(return_value=False))
+        archiver = Mock(turn=asyncio.Lock(), caught_up=AsyncMock(), is_over=True)
         self.database.work.archiver = archiver
         self.assertTrue(await succession.switch(archiver))
         self.assertEqual(
@@ -495,7 +532,7 @@ class Successions(Meanwhile):
         for error, is_broken in ((OutOfMemory("no"), True), (Unreachable("no"), False)):
             self.setUp()
             served, (succession, made) = self.held(is_full=True, timeout=0.02), self.successor()
-            archiver = Mock(turn=asyncio.Lock(), archived=AsyncMock(return_value=True), lining=None)
+            archiver = Mock(turn=asyncio.Lock(), caught_up=AsyncMock(), is_over=False, lining=None)
             served.close.side_effect = error
             with patch("pagelog.keeper.succession.turn_of", Mock(return_value=AsyncMock())):
                 self.assertTrue(await succession.switch(archiver))
@@ -695,7 +732,7 @@ class Starts(unittest.TestCase):
         served = Served("shop", "mine", "", b"", timeout=PATIENCE)
         seen: list[object] = []
         with patch.object(
-            served_module, "Puller", side_effect=lambda *_: seen.append(served.process)
+            served_module, "Reader", side_effect=lambda *_: seen.append(served.process)
         ):
             served.serve(Mock(address="127.0.0.1:1"))
         self.assertEqual(seen, [None])

@@ -26,19 +26,20 @@ from keepers import Gate, Kept as KeptService, Line, Trigger, blocks, eventually
 from pagelog import Block, Put
 from pagelog.keeper import quick_calls, quick_plane, statements
 from pagelog.keeper.archiver import Archiver
-from pagelog.keeper.committer import Committer
+from pagelog.keeper.doubts import Doubts
 from pagelog.keeper.database import Database
 from pagelog.keeper.keeping import Keeper
 from pagelog.keeper.loading import Loader
 from pagelog.keeper.quick import QuickReferee
 from pagelog.keeper.quick_plane import QuickPlane, QuickSessionOf
 from pagelog.keeper.quick_way import End, QuickWay
-from pagelog.keeper.referee import digest
+from pagelog.keeper.referee import KeeperError, digest
 from pagelog.keeper.rows import Kept
 from pagelog.keeper.run import Program, Run
 from pagelog.keeper.served import Served
 from pagelog.keeper.settings import Settings
 from pagelog.place import UnknownName
+from pagelog.repeating import Backoff
 from pagelog.reply import Entry
 from pagelog.request import PULL_MAX, Operation, Status
 from pagelog.trail import Trail
@@ -47,7 +48,6 @@ from pagelog.trail.question import entries_of
 from service import PATIENCE, PROGRAM, WIDE_TABLE, stand_still
 from test_referee import Referees
 
-IS_BUILT = quick_calls.library() is not None
 READY = b"Z\0\0\0\5I"
 """What PostgreSQL says last."""
 
@@ -103,7 +103,6 @@ class Client:
         return b"\n" in self._left
 
 
-@unittest.skipUnless(IS_BUILT, "the quick way is not built")
 class Hot(Referees, unittest.IsolatedAsyncioTestCase):
     """A database that a keeper holds, with its service and its lines, and all that the keeper does but looks."""
 
@@ -138,7 +137,6 @@ class Hot(Referees, unittest.IsolatedAsyncioTestCase):
         self.database.served = self.served
         self.keeper.databases[self.row.id] = self.keeper._by_name[self.row.name] = self.database
         self.keeper.lines = await self.keeper._server.start("127.0.0.1:0")
-        self.shared.spawn(self.shared.committer.run(), "the committer")
         self.ends: list[End] = []
         self.enterContext(patch.object(QuickWay, "run", self._noted(QuickWay.run)))
         self.written: list[bytes] = []
@@ -178,7 +176,6 @@ class Hot(Referees, unittest.IsolatedAsyncioTestCase):
 
     @property
     def plane(self) -> QuickPlane:
-        assert self.shared.ways is not None
         return self.shared.ways
 
     @property
@@ -225,21 +222,28 @@ class Hot(Referees, unittest.IsolatedAsyncioTestCase):
         """Commits until the quick way has the database, and the line of this client."""
         client = client or self.client()
         while not self.is_hot or not self.way._lent:
-            if self.shared.ways is not None:
-                self.session.not_before = 0.0  # after a doubt it connects again at once
+            self.session.not_before = 0.0  # after a doubt it connects again at once
             await self.commit(client)
             await asyncio.sleep(0.001)
+        await self.until(lambda: self.archiver._done >= self.archiver._rings, "the last pull")
         return client
 
+    async def next_one(self) -> None:
+        """Its way ends, and another begins."""
+        self.ends.clear()
+        self.archiver.leave_way()
+        await self.until(lambda: self.ends, "its end")
+        await self.until(lambda: self.is_hot or len(self.ends) > 1, "the next one")
+        del self.ends[0]
+
     async def commit_quickly(self, client: Client, count: int = 1) -> int:
-        """A commit that the keeper's own path knows nothing of."""
+        """A commit, by the way that there is."""
         position = await self.commit(client, count)
         self.assert_quick(position)
         return position
 
     def assert_quick(self, position: int) -> None:
         self.assertEqual(self.way.reached[0], position)
-        self.assertLess(self.served.reached, position)
 
     def assert_whole(self) -> None:
         """The archive has the blocks of the service, under its digest, and no other."""
@@ -328,31 +332,25 @@ class Tells(Hot):
 
     async def test_what_is_behind_is_archived_though_nobody_waits(self) -> None:
         await self.hot()
-        self.archiver._end_way()
-        is_at_rest = lambda: not (
-            self.is_hot or self.archiver._doorbell.is_set() or self.archiver.turn.locked()
-        )
-        await self.until(
-            is_at_rest, "its end, and the pull of nothing that somebody rang for meanwhile"
-        )
-        with patch.object(Served, "pulled", autospec=True, side_effect=Served.pulled) as pulled:
-            self.served.hard = position = self.write(5000)
-            self.archiver.ring()
+        for ends in (True, False):
+            if ends:
+                await self.next_one()
+            position = self.write(5000)
+            self.archiver.ring()  # as a look does that finds them
             await self.until(
                 lambda: self.is_hot and self.way.reached[0] == position, "what is behind"
             )
-            self.assertEqual((pulled.call_count, self.archived()), (1, position))
+            self.assertEqual(self.archived(), position)
         self.assert_whole()
 
     async def test_who_asks_for_what_is_archived_already_is_told_at_once(self) -> None:
         client, other = await self.hot(), self.client()
         position = await self.commit_quickly(client)
-        with patch.object(Served, "pulled_at_once", side_effect=AssertionError("it was pulled")):
-            self.assertEqual(await client.ask(self.durable(1)), self.durable(position))
-            self.assertEqual(
-                await other.ask(self.durable(position)), self.durable(position)
-            )  # of which the keeper's path knows nothing
-            self.assertEqual(await other.ask(self.durable(position - 1)), self.durable(position))
+        self.assertEqual(await client.ask(self.durable(1)), self.durable(position))
+        self.assertEqual(
+            await other.ask(self.durable(position)), self.durable(position)
+        )  # of which the keeper's path knows nothing
+        self.assertEqual(await other.ask(self.durable(position - 1)), self.durable(position))
         self.assertEqual((self.ends, len(self.way._lent)), ([], 2))
         await self.commit_quickly(other)
 
@@ -393,16 +391,36 @@ class Tells(Hot):
         client.send("ring shop 77", "ring ship 1")  # not held here
         self.assertEqual(await client.ask(self.durable(position)), self.durable(position))
 
-    async def test_what_is_not_there_is_said_by_the_keepers_path(self) -> None:
-        client = await self.hot()
+    async def test_what_is_not_there_is_said_and_ends_nothing(self) -> None:
+        client, other = await self.hot(), self.client()
+        self.assertTrue((await other.ask("hello 2")).startswith("hello 2 nonce="))
         position = await self.commit_quickly(client)
-        self.assertEqual(
-            await client.ask(self.durable(position + 1)),
-            f"above shop {self.served.generation} {position}",
-        )
-        self.assertEqual(self.ends, [End.STOPPED])
-        await self.hot(client)
+        above = f"above shop {self.served.generation} {position}"
+        self.assertEqual(await client.ask(self.durable(position + 1)), above)
+        of = f" of={self.database.row.identity}/r1"
+        self.assertEqual(await other.ask(self.durable(position + 1) + of), above + of)
         await self.commit_quickly(client)
+        self.assertEqual(self.ends, [])
+
+    async def test_who_asks_for_what_is_there_only_after_a_pull_began_is_told_of_the_next(
+        self,
+    ) -> None:
+        """It is not told that it is above what a pull has found that began before it asked."""
+        client, other = await self.hot(), self.client()
+        position = await self.commit(other)
+        for _ in range(200):
+            client.send(
+                self.durable(position + 1)
+            )  # above, or not any more: as the writer is in time
+            position = self.write()
+            other.send(self.durable(position))
+            self.assertEqual(await other.answer(), self.durable(position))
+            self.assertIn(
+                await client.answer(),
+                (f"above shop {self.served.generation} {position - 1}", self.durable(position)),
+            )
+        self.assertEqual(self.ends, [])
+        self.assert_whole()
 
     async def test_a_position_that_is_no_number_of_64_bits_is_above_too(self) -> None:
         client = await self.hot()
@@ -432,9 +450,16 @@ class Tells(Hot):
             await client.ask("where nothing"),
             "unknown nothing" if self.keeper.look.keepers else "nowhere nothing",
         )
-        await self.until(lambda: not self.session.statements, "the end of its connection")
+        before = self.server_process()
+        self.plane._close_sessions()  # of which one stays: the next commit waits for no connection
         await self.commit(client)
+        self.assertEqual(self.server_process(), before)
         self.assert_whole()
+
+    def server_process(self) -> int:
+        connection = self.session.referee._connection
+        assert connection is not None
+        return connection.info.backend_pid
 
 
 class Shifted(Hot):
@@ -466,7 +491,7 @@ class Shifted(Hot):
             await client.ask(self.durable(len(self.written) + 1)),
             f"above shop {self.served.generation} {len(self.written)}",
         )
-        self.assertEqual(self.ends, [End.STOPPED])
+        self.assertEqual(self.ends, [])
         self.assert_whole()
 
 
@@ -632,12 +657,16 @@ class Lines(Hot):
             with refused:
                 position = self.write()
                 self.assertEqual(await third.ask(self.durable(position)), self.durable(position))
+                self.assertEqual(
+                    await third.ask(self.durable(position + 9)),
+                    f"above shop {self.served.generation} {position}",
+                )
         await self.hot(client)
         self.assert_whole()
 
     async def test_what_has_rung_as_it_begins_is_seen_to(self) -> None:
         client, other, is_held, goes_on = (
-            self.client(),
+            await self.hot(),
             self.client(),
             asyncio.Event(),
             asyncio.Event(),
@@ -653,9 +682,8 @@ class Lines(Hot):
             is_held.clear()
             goes_on.clear()
             with patch.object(Served, "pulling_line", held):
-                while not is_held.is_set():
-                    await self.commit(client)
-                    await asyncio.sleep(0.001)
+                self.archiver.leave_way()
+                await asyncio.wait_for(is_held.wait(), PATIENCE)
                 position = self.write()
                 if rings:
                     client.send(f"ring shop {self.served.generation}")
@@ -667,20 +695,14 @@ class Lines(Hot):
                 await asyncio.sleep(0.01)
                 goes_on.set()
                 await self.until(lambda: self.archived() == position, "the block")
-                await self.until(lambda: self.is_hot or self.ends, "the quick way")
-            if rings:
-                self.archiver._end_way()
-                await self.until(lambda: not self.is_hot, "its end")
-                self.ends.clear()
         self.assertEqual(await other.answer(), self.durable(position))
         self.assertEqual(await other.answer(), f"above shop {self.served.generation} {position}")
 
     async def test_a_client_that_goes_ends_nothing_for_the_others(self) -> None:
         client = await self.hot()
         gone = [self.client() for _ in range(4)]
-        position = self.write()
         for each in gone:
-            self.assertEqual(await each.ask(self.durable(position)), self.durable(position))
+            await self.commit(each)
         await self.until(lambda: len(self.way._lent) == 5, "its lines")
         gate = Gate(self.url, "true")
         try:
@@ -788,16 +810,16 @@ class Statements(Hot):
         self,
     ) -> None:
         client, looked = await self.hot(), list[bool]()
-        look_up = Committer.look_up
+        look_up = Doubts.look_up
 
-        async def seen(committer: Committer, log: int, run: str) -> Kept:
+        async def seen(doubts: Doubts, log: int, run: str) -> Kept:
             if "WARNING" in level:
                 self.undeferred()
             await asyncio.sleep(0.05)
             looked.append(client.has_answer())
-            return await look_up(committer, log, run)
+            return await look_up(doubts, log, run)
 
-        self.enterContext(patch.object(Committer, "look_up", seen))
+        self.enterContext(patch.object(Doubts, "look_up", seen))
         for level in ("NOTICE", "INFO", "LOG", "WARNING"):
             await self.hot(client)
             self.deferred(f"RAISE {level} 'cancelled'")
@@ -840,7 +862,7 @@ class Statements(Hot):
         self.assert_whole()
 
     async def test_a_turn_that_is_wanted_as_it_begins_is_had(self) -> None:
-        client, turns = self.client(), list[asyncio.Task[object]]()
+        client, turns = await self.hot(), list[asyncio.Task[object]]()
         pulling_line = Served.pulling_line
 
         async def wanted(served: Served) -> tuple[int, bytes, bytes]:
@@ -849,11 +871,10 @@ class Statements(Hot):
             return await pulling_line(served)
 
         with patch.object(Served, "pulling_line", wanted):
-            while not turns:
-                await self.commit(client)
-                await asyncio.sleep(0.001)
+            self.archiver.leave_way()
+            await self.until(lambda: turns, "the next one")
         self.assertTrue(await asyncio.wait_for(turns[0], PATIENCE))
-        self.assertEqual((self.ends, self.is_hot), ([End.STOPPED], False))
+        self.assertEqual((self.ends, self.is_hot), ([End.STOPPED] * 2, False))
         self.archiver.turn.release()
         await self.hot(client)
 
@@ -959,16 +980,16 @@ class Cut(Hot):
         self,
     ) -> None:
         client, early, found = await self.hot(), list[bool](), set[tuple[str, int]]()
-        look_up = Committer.look_up
+        look_up = Doubts.look_up
 
-        async def seen(committer: Committer, log: int, run: str) -> Kept:
+        async def seen(doubts: Doubts, log: int, run: str) -> Kept:
             self.line.count_from_now()
-            kept = await look_up(committer, log, run)
+            kept = await look_up(doubts, log, run)
             early.append(client.has_answer())
             found.add((way, kept.archived - len(self.written)))
             return kept
 
-        self.enterContext(patch.object(Committer, "look_up", seen))
+        self.enterContext(patch.object(Doubts, "look_up", seen))
         self.line.count_from_now(1 << 40, 1 << 40)
         await self.commit_quickly(client)
         to, back = (1 << 40) - self.line.left["to"], (1 << 40) - self.line.left["back"]
@@ -1013,13 +1034,13 @@ class Stalled(Hot):
 
     async def test_an_end_without_a_result_is_no_commit(self) -> None:
         client, looked = await self.hot(), asyncio.Event()
-        look_up = Committer.look_up
+        look_up = Doubts.look_up
 
-        async def later(committer: Committer, log: int, run: str) -> Kept:
+        async def later(doubts: Doubts, log: int, run: str) -> Kept:
             await looked.wait()
-            return await look_up(committer, log, run)
+            return await look_up(doubts, log, run)
 
-        self.enterContext(patch.object(Committer, "look_up", later))
+        self.enterContext(patch.object(Doubts, "look_up", later))
         for instead in (READY, b"C\0\0\0\x0dINSERT 0\0" + READY):
             self.line.instead = instead
             self.line.count_from_now(back=0)
@@ -1040,8 +1061,7 @@ class Stalled(Hot):
     ) -> None:
         client, other = await self.hot(), self.client()
         self.plane.deadline = 0.5
-        self.archiver._end_way()
-        await self.until(lambda: not self.is_hot, "the end of the one with more time")
+        await self.next_one()  # with less time
         await self.hot(client)
         await self.commit(other)
         self.ends.clear()
@@ -1050,28 +1070,39 @@ class Stalled(Hot):
         while not self.ends:
             other.flood(f"ring shop {self.served.generation}")
             await asyncio.sleep(0)
+        self.assertFalse(client.has_answer())
+        self.line.count_from_now()
         self.assertEqual(await client.answer(), self.durable(position))
         self.assertEqual(self.ends[0], End.DOUBT)
 
     async def test_a_connection_that_hangs_as_its_statements_are_prepared_is_cut(self) -> None:
         plane, session = self.plane, self.session
+        self.database.work.stop()
+        await self.until(lambda: not plane._ways, "its end")
+
+        async def close() -> None:
+            plane.library.plane_retract(plane.address, session.key)
+            await self.until(lambda: not session.statements, "the end of its connection")
+
+        await self.until(lambda: session.is_lent, "its statements")
+        await close()
         self.line.count_from_now(back=1 << 40)
-        self.assertFalse(plane._is_connected())
+        plane.warm()
         await self.until(lambda: session.is_lent, "its statements")
         back = (1 << 40) - self.line.left["back"]
-        plane._close_sessions()
-        await self.until(lambda: not session.statements, "the end of its connection")
+        await close()
         plane.deadline = 0.05
         while self.line.left["back"]:
             if not session.is_connecting:  # it was cut before it came so far
                 self.line.count_from_now(back=back - 1)
                 session.not_before, plane.deadline = 0.0, 2 * plane.deadline
-                self.assertFalse(plane._is_connected())
+                plane.warm()
             await asyncio.sleep(0.001)
         self.line.count_from_now()
         await self.until(lambda: not session.is_connecting, "its end")
         self.assertEqual(session.statements, ())
         plane.deadline = PATIENCE
+        self.begin()
         client = await self.hot()  # over the next one
         await self.commit_quickly(client)
 
@@ -1143,16 +1174,16 @@ class CutAsItIsConfirmed(Confirming):
 
     async def test_what_is_cut_anywhere_is_told_once_it_was_looked_up(self) -> None:
         client, early = await self.hot(), list[bool]()
-        look_up = Committer.look_up
+        look_up = Doubts.look_up
 
-        async def seen(committer: Committer, log: int, run: str) -> Kept:
+        async def seen(doubts: Doubts, log: int, run: str) -> Kept:
             self.line.count_from_now()
             early.append(client.has_answer())
-            kept = await look_up(committer, log, run)
+            kept = await look_up(doubts, log, run)
             self.assertEqual(kept.archived, len(self.written))
             return kept
 
-        self.enterContext(patch.object(Committer, "look_up", seen))
+        self.enterContext(patch.object(Doubts, "look_up", seen))
         self.line.count_from_now(1 << 40, 1 << 40)
         await self.commit_quickly(client)
         to, back = (1 << 40) - self.line.left["to"], (1 << 40) - self.line.left["back"]
@@ -1198,7 +1229,7 @@ class Services(Hot):
         """A client of a database whose service answers the pulls of the quick way so, once there is a block at the position."""
         ours, theirs = socket.socketpair()
         theirs.setblocking(False)
-        frame = self.served._puller.frame(self.served._reader.epoch)
+        frame = self.served.questions()[0]
         pulling_line = Served.pulling_line
 
         async def line(served: Served) -> tuple[int, bytes, bytes]:
@@ -1219,11 +1250,9 @@ class Services(Hot):
                     ours.sendall(answer)
 
         threading.Thread(target=serve, daemon=True).start()
-        client = self.client()
+        client = await self.hot()
         with patch.object(Served, "pulling_line", line):
-            while not self.is_hot and not self.ends:
-                await self.commit(client)
-                await asyncio.sleep(0.001)
+            await self.next_one()
         return client, len(self.written)
 
     async def test_whatever_else_than_new_blocks_it_says_is_left_to_the_keepers_path(self) -> None:
@@ -1249,8 +1278,9 @@ class Services(Hot):
             "another block": lambda lsn, block: self.blocks_reply(
                 lsn, [(lsn + 1).to_bytes(8, "big") + block[8:]]
             ),
-            "another next": lambda lsn, block: self.blocks_reply(lsn, [block], lsn + 2),
-            "none, and another next": lambda lsn, block: self.blocks_reply(lsn, [], lsn + 1),
+            "another next": lambda lsn, block: self.blocks_reply(lsn, [block], lsn),
+            "none, and no next": lambda lsn, block: self.blocks_reply(lsn, [], lsn),
+            "no memory": lambda lsn, block: self.reply(6),
             "fewer blocks": lambda lsn, block: self.blocks_reply(lsn, [block], count=2),
             "more blocks": lambda lsn, block: self.blocks_reply(lsn, [block, block], lsn + 1, 1),
             "too many": lambda lsn, block: self.blocks_reply(lsn, [block] * 17),
@@ -1267,9 +1297,6 @@ class Services(Hot):
                     await self.commit(client)
                 await self.until(lambda: self.ends, "its end")
                 self.assertEqual(self.ends[0], End.SERVICE)
-                await self.hot(client)
-                self.archiver._end_way()
-                await self.until(lambda: not self.is_hot, "the end of the next one")
         self.assert_whole()
 
     async def test_the_length_of_a_reply_behind_others_takes_no_memory(self) -> None:
@@ -1301,7 +1328,7 @@ class Services(Hot):
     async def test_a_reply_that_comes_byte_by_byte_is_taken(self) -> None:
         ours, theirs = socket.socketpair()
         theirs.setblocking(False)
-        frame = self.served._puller.frame(self.served._reader.epoch)
+        frame = self.served.questions()[0]
 
         async def line(_: Served) -> tuple[int, bytes, bytes]:
             return theirs.detach(), frame, b""
@@ -1359,29 +1386,42 @@ class Services(Hot):
 
     async def test_an_epoch_that_begins_between_two_pulls(self) -> None:
         client = await self.hot()
-        await asyncio.to_thread(self.served.close)  # a fence begins an epoch of its own
-        await asyncio.to_thread(self.served.open)
-        before = len(self.written)
-        self.assertEqual(
-            await client.ask(self.durable(before + 1)),
-            f"above shop {self.served.generation} {before}",
-        )
-        self.assertEqual(self.ends, [End.SERVICE])
+        position = self.write(300)
+        for asked, answer in ((position, "durable"), (position + 1, "above")):
+            await asyncio.to_thread(self.served.close)  # a fence begins an epoch of its own
+            await asyncio.to_thread(self.served.open)
+            self.assertEqual(
+                await client.ask(self.durable(asked)),
+                f"{answer} shop {self.served.generation} {position}",
+            )
+        self.assertEqual((self.ends, self.way.reached[0]), ([], position))
+        self.assert_whole()
 
-    async def test_blocks_without_records_are_left_to_the_keepers_path(self) -> None:
+    async def test_blocks_without_records_are_filled_in(self) -> None:
+        """No pull serves them: a reply goes on behind them, and more than one batch may have none but these."""
         client = await self.hot()
+        for pattern in (
+            [1, 0, 1, 0],
+            [0],
+            [0] * 40,
+            [0, 1] * 700,
+            [1] + [0] * 3000 + [1],
+            [0] * 1024,
+        ):
+            first = len(self.written) + 1
+            position = self.write(
+                made=[
+                    blocks(first + at, 1)[0] if has else Block.of(first + at, []).data
+                    for at, has in enumerate(pattern)
+                ]
+            )
+            self.assertEqual(await client.ask(self.durable(position)), self.durable(position))
+            self.assert_quick(position)
         first = len(self.written) + 1
-        position = self.write(
-            made=[
-                blocks(first, 1)[0],
-                Block.of(first + 1, []).data,
-                blocks(first + 2, 1)[0],
-                Block.of(first + 3, []).data,
-            ]
-        )
-        self.assertEqual(await client.ask(self.durable(position)), self.durable(position))
-        self.assertEqual(self.ends[0], End.SERVICE)
-        await self.hot(client)
+        position = self.write(made=[Block.of(first + at, []).data for at in range(3000)])
+        self.archiver.ring()
+        await self.until(lambda: self.way.reached[0] == position, "what nobody waits for")
+        self.assertEqual(self.ends, [])
         self.assert_whole()
 
 
@@ -1427,13 +1467,12 @@ class Trails(Hot):
             await self.assert_with_lines(await self.commit_quickly(client, count))
         for _ in range(2):
             before = self.pieces
-            self.archiver._end_way()
-            await self.until(lambda: not self.is_hot, "its end")
+            await self.next_one()
             await self.assert_with_lines(await self.commit(client))
             await self.hot(client)
             await self.assert_with_lines(await self.commit_quickly(client))
             self.assertGreater(self.pieces, before)
-        self.assertEqual(set(self.ends), {End.STOPPED})
+        self.assertEqual(self.ends, [])
         self.assert_whole()
 
     def asked(self, count: int) -> None:
@@ -1451,6 +1490,16 @@ class Trails(Hot):
         await self.hot(client)
         await self.assert_with_lines(await self.commit_quickly(client))
 
+    async def test_lines_are_kept_with_their_blocks_in_an_epoch_that_has_begun(self) -> None:
+        client = await self.hot()
+        position = self.write(20)
+        await asyncio.to_thread(self.served.close)
+        await asyncio.to_thread(self.served.open)
+        self.assertEqual(await client.ask(self.durable(position)), self.durable(position))
+        self.assert_quick(position)
+        await self.assert_with_lines(position)
+        self.assertEqual(self.ends, [])
+
     async def test_lines_in_doubt_are_asked_of_the_trail(self) -> None:
         client = await self.hot()
         trigger = Trigger(
@@ -1467,6 +1516,23 @@ class Trails(Hot):
         await self.assert_with_lines(position)
         await self.hot(client)
         await self.assert_with_lines(await self.commit_quickly(client))
+
+    async def test_blocks_go_without_lines_while_a_thread_has_the_list_and_with_them_after_that(
+        self,
+    ) -> None:
+        client, recorder = await self.hot(), self.archiver.recorder
+        assert recorder is not None
+        recorder.turn._patience = 0.02
+        taken = asyncio.create_task(recorder.turn.take())
+        await asyncio.sleep(0)
+        self.archiver.leave_way()
+        await taken
+        position = await self.commit(client)
+        self.assertIsNone(self.way.lines)
+        recorder.turn.leave()
+        await self.until(lambda: self.is_hot and self.way.lines is not None, "the next one")
+        await self.assert_with_lines(await self.commit(client))
+        await self.assert_with_lines(position)
 
     async def test_once_a_day_it_is_given_back_to_be_pruned(self) -> None:
         client = await self.hot()
@@ -1506,8 +1572,8 @@ class Ends(Hot):
             if count % 3 == 0:
                 self.archiver._end_way()
             elif count % 3 == 1:
-                client.send(self.durable(1 << 40))
-                await client.answer()
+                self.assertTrue((await client.ask(self.durable(1 << 40))).startswith("above"))
+                self.archiver.leave_way()
             else:
                 async with self.archiver.turn:
                     pass
@@ -1525,12 +1591,14 @@ class Ends(Hot):
             patch.object(Served, "pulling_line", side_effect=OSError(111, "refused")),
         ):
             before = self.open()
+            self.archiver._pauses = Backoff(0.001, 0.001)
             with refused as call:
-                self.archiver._end_way()
-                while call.call_count < self.MANY:
-                    await self.commit(client)
-                    await asyncio.sleep(0.001)
-                await self.commit(client)
+                self.archiver.leave_way()
+                position = self.write()
+                client.send(self.durable(position))
+                await self.until(lambda: call.call_count >= self.MANY, "its tries")  # noqa: B023
+                self.assertFalse(client.has_answer())
+            self.assertEqual(await client.answer(), self.durable(position))
             await self.hot(client)
             await self.few_more_are_open_than(before)
 
@@ -1548,65 +1616,35 @@ class Ends(Hot):
         self.assertTrue(self.plane._running.done())
 
 
-class Without(Hot):
-    """Where there is no quick way all goes on by the other path."""
+class Without(unittest.TestCase):
+    """There is no keeper without the compiled part."""
 
-    __unittest_skip__ = False  # where it is not built these are all that can be tested
-
-    async def goes_on(self) -> None:
-        client = self.client()
-        with patch.object(
-            QuickPlane, "way_of", side_effect=AssertionError("a quick way")
-        ) if self.shared.ways is None else suppress():
-            for _ in range(8):
-                await self.commit(client)
-                client.send(f"ring shop {self.served.generation}")
-                await asyncio.sleep(0.002)
-        self.assertEqual((self.ends, self.is_hot), ([], False))
-        self.assert_whole()
-
-    async def test_it_was_not_built(self) -> None:
-        with patch("importlib.util.find_spec", return_value=None):
-            self.shared.ways = QuickPlane(
-                lambda: QuickReferee(self.url, "one", "life of one"),
-                idle=PATIENCE,
-                deadline=PATIENCE,
+    def keeper(self, **section: object) -> Keeper:
+        with patch("pagelog.keeper.keeping.Folder"):
+            return Keeper(
+                Settings.of("one", "", "", Path("."), PROGRAM, "postgresql://nobody@/none", section)
             )
-        self.assertFalse(self.shared.ways.is_there)
-        self.archiver._ways = self.shared.ways
-        await self.goes_on()
 
-    async def test_it_has_another_libpq(self) -> None:
-        with patch.object(quick_calls.pq, "version", return_value=1):
-            self.assertIsNone(quick_calls.library())
-        with patch.object(quick_calls.pq, "__impl__", "binary"):
-            self.assertIsNone(quick_calls.library())
+    def test_it_was_not_built_or_has_another_libpq(self) -> None:
+        for refused, why in (
+            (patch("importlib.util.find_spec", return_value=None), "is not there"),
+            (patch.object(quick_calls.pq, "version", return_value=1), "another libpq"),
+            (patch.object(quick_calls.pq, "__impl__", "binary"), "the system's libpq"),
+            (patch("ctypes.CDLL", side_effect=OSError("damaged")), "cannot be loaded: damaged"),
+        ):
+            with refused, self.assertRaisesRegex(KeeperError, why):
+                self.keeper()
 
-    async def test_a_recorder_keeps_lines_with_the_blocks(self) -> None:
-        self.archiver.recorder = Mock(is_ready=False, first_try=self._nothing)
-        await self.goes_on()
-
-    async def _nothing(self) -> None:
-        return None
-
-    def test_with_a_trail(self) -> None:
+    def test_what_its_statements_are(self) -> None:
         sections: tuple[dict[str, Any], ...] = ({"trail": 7}, {"require_standby": True}, {})
         for section in sections:
-            with patch("pagelog.keeper.keeping.Folder"):
-                made = Keeper(
-                    Settings.of(
-                        "one", "127.0.0.1:0", "127.0.0.1", Path("."), PROGRAM, self.url, section
-                    )
-                )
-            ways = made._shared.ways
-            assert ways is not None
+            ways = self.keeper(**section)._shared.ways
             self.assertEqual(
                 (ways.confirms, len(ways.values)),
                 ("require_standby" in section, 4 if "trail" in section else 3),
             )
 
 
-@unittest.skipUnless(IS_BUILT, "the quick way is not built")
 class Moves(KeptService):
     """Keepers, each a process."""
 

@@ -36,7 +36,7 @@ from pagelog import (
     UnknownPrincipal,
 )
 from pagelog.keeper.archiver import Archiver
-from pagelog.keeper.committer import Committer
+from pagelog.keeper.doubts import Doubts
 from pagelog.keeper.acknowledged import memory_of, new_memory
 from pagelog.keeper.definition import Definition, Seal
 from pagelog.keeper.loading import Loader
@@ -309,7 +309,7 @@ class Runs(unittest.TestCase):
         self.assertEqual((following.pulled(0), following.reached), ([*known, *switch.blocks], 5))
         self.assertEqual(digest(b"", [*known, *switch.blocks]), switch.chain)
         # The same of a release.
-        archiver = Archiver(Row(7, "shop"), present, Waits("shop"), Committer(None, 1.0), print, int)  # type: ignore[arg-type]
+        archiver = Archiver(Row(7, "shop"), present, Waits("shop"), Doubts(None), print, int, None)  # type: ignore[arg-type]
         last = asyncio.run(archiver.rest(5, None))
         assert last is not None
         self.assertEqual((last.old, last.blocks, last.chain), (2, switch.blocks, switch.chain))

@@ -37,12 +37,19 @@ from postgres import postgres
 from service import IS_LONG, PATIENCE, token
 
 CUTTING = Path(__file__).resolve().parent / "cutting.py"
-SHORT = """import pathlib, pagelog.keeper.puller, pagelog.reader
+SHORT = """import pathlib, pagelog.reader
 from pagelog.errors import OutOfMemory
+from pagelog.keeper.archiver import Archiver
+from pagelog.keeper.quick_plane import QuickPlane
 
-class Puller(pagelog.keeper.puller.Puller):
-    async def pull(self, position, epoch):
-        return None if lacks(self._address) else await super().pull(position, epoch)
+def ring(self):
+    if not self._is_careful and lacks(self._served.process.address):
+        self.leave_way()
+    rang(self)
+
+async def way_of(self, row, served, *rest, is_careful, before):
+    lacks_it = not is_careful and lacks(served.process.address)
+    return None if lacks_it else await way(self, row, served, *rest, is_careful=is_careful, before=before)
 
 def lacks(address):
     return mark.exists() and mark.read_text() == str(address)
@@ -52,10 +59,9 @@ def few(self, starts, *rest, most=16, **how):
         raise OutOfMemory("the service had no memory for it")
     return span(self, starts, *rest, most=most, **how)
 
-mark, span = pathlib.Path({!r}), pagelog.reader.Reader._span_of
-pagelog.reader.Reader._span_of = few
-import pagelog.keeper.served
-pagelog.keeper.served.Puller = Puller
+mark, span, way = pathlib.Path({!r}), pagelog.reader.Reader._span_of, QuickPlane.way_of
+pagelog.reader.Reader._span_of, QuickPlane.way_of = few, way_of
+rang, Archiver.ring = Archiver.ring, ring
 import pagelog.__main__
 """
 """A keeper that gets no memory for pulls of more than one block of the service whose address is in a file."""

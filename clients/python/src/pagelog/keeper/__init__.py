@@ -13,11 +13,11 @@ named database is and how far it is durable, and takes over what another keeper 
     runner      has services run as another user, by runner_process; `unix` has sockets by paths
     loading     fills a service from the archive, as frames
     machine     what a keeper decides, without any IO
-    puller      pulls a few blocks in the event loop; looker looks at a service in it
+    looker      looks at a service in the event loop
     served      a service that this keeper has, and what is asked of it
-    archiver    pulls what is hardened, in batches; committer keeps those of all databases in one statement
-    quick_way   the same in a thread of C, for databases that are waited for: quick_plane is that thread and its sessions (`quick`),
-                quick_way_plane.c its loop, quick_way_service.c pulls, quick_way_statement.c keeps, quick_way_lines.c answers
+    quick_way   archives what is hardened, in a thread of C: quick_plane is that thread and its sessions (`quick`), quick_way_plane.c
+                its loop, quick_way_service.c pulls, quick_way_statement.c keeps, quick_way_lines.c answers
+    archiver    begins that for a database, and sees to what it leaves; doubts looks up what became of a batch
     recorder    keeps the audit lists beside the blocks
     lines       the line protocol; waits has who waits, turns whose turn it is to write, proving who a line's principal is
     front       the one haproxy by which clients reach all of it by TLS; haproxy is its process, front_care sees to it, certificate reads

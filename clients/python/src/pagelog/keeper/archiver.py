@@ -1,16 +1,18 @@
-"""Archives what a service hardens, while it is held: pulled when somebody waits for it, or a look has found it."""
+"""Archives what a service hardens, while it is held: by the fast path, which this begins, and sees to what that leaves to it."""
 
 from __future__ import annotations
 
 import asyncio
 import time
 from contextlib import asynccontextmanager
+from dataclasses import dataclass
 from typing import TYPE_CHECKING, AsyncIterator, Callable, Literal, Sequence
 
 from pagelog.errors import AuditListFull, PagelogError, TurnsSpent
-from pagelog.keeper.committer import Committer, Fenced
+from pagelog.keeper.doubts import Doubts, Fenced
+from pagelog.keeper.lines import Line
 from pagelog.keeper.quick_plane import QuickPlane
-from pagelog.keeper.quick_way import QuickWay
+from pagelog.keeper.quick_way import End, QuickWay
 from pagelog.keeper.referee import digest
 from pagelog.keeper.rows import Batch, Kept, Lines, Row
 from pagelog.keeper.served import Served
@@ -19,17 +21,24 @@ from pagelog.repeating import Backoff
 
 if TYPE_CHECKING:
     from pagelog.keeper.recorder import Recorder
+    from pagelog.trail.store import TrailList
 
 _LONGEST = 5.0
 """Seconds after which it is tried again in any case: PostgreSQL may have room again."""
-FEW = 8
-"""Of a service that is known to have more than so many new blocks, a thread pulls a thousand at once."""
+
+
+@dataclass(frozen=True)
+class _Waited:
+    """Those who waited here before a ring, which has this number."""
+
+    number: int
+    waits: dict[Line, list[int]]
 
 
 class Archiver:
     """Of one run. The line `durable` is its doorbell: it polls nothing.
 
-    `changed` is called where there is something to decide. A batch is told to those who wait once it is committed.
+    `changed` is called where there is something to decide. What is archived is told to those who wait once it is committed.
     """
 
     def __init__(
@@ -37,25 +46,33 @@ class Archiver:
         row: Row,
         served: Served,
         waits: Waits,
-        committer: Committer,
+        doubts: Doubts,
         say: Callable[[str, str], None],
         changed: Callable[[], None],
-        ways: QuickPlane | None = None,
+        ways: QuickPlane,
     ) -> None:
-        self._row, self._served, self._waits, self._committer = row, served, waits, committer
+        self._row, self._served, self._waits, self._doubts = row, served, waits, doubts
         waits.confirmations.watch = self._watch
         self._say, self._changed = say, changed
-        self._doorbell, self._advanced = asyncio.Event(), asyncio.Event()
+        self._doorbell, self._advanced, self._heard = (
+            asyncio.Event(),
+            asyncio.Event(),
+            asyncio.Event(),
+        )
         self.turn = Turn(self._end_way)
-        """Held for each batch, from its pull until its fate is known."""
+        """Held from the first pull of the fast path until it is known what became of its last batch."""
         self._ways = ways
         self._way: QuickWay | None = None
-        self._is_asked = False
-        """Whether somebody waited for the last batch."""
+        self._rings = self._done = 0
+        """How often it was rung, and the last of these rings since which a pull was archived, or has found nothing."""
+        self._waited: list[_Waited] = []
+        """Those whose lines the fast path has not, since the rings that are not done."""
+        self._is_careful = False
+        """Whether the last try has failed: the next one is of one block."""
+        self._before: QuickWay | None = None
+        """One whose last batch was not kept: it is tried again, and the service is asked for nothing."""
         self._pauses, self._not_before = Backoff(0.05, _LONGEST), 0.0
-        """How long it waits after a pull that failed, or a batch that was refused, and until when."""
-        self._refused: tuple[int, Sequence[bytes]] = 0, ()
-        """What was pulled behind a position, and not kept: it is tried again, and the service is asked for nothing."""
+        """How long it waits after a try that failed, and until when."""
         self._was_full = served.is_full
         self.recorder: Recorder | None = None
         """Who keeps the lines of its audit list, if they are kept."""
@@ -75,29 +92,53 @@ class Archiver:
 
     @property
     def is_quick(self) -> bool:
-        """Whether it has the quick way."""
+        """Whether the fast path has it now."""
         return self._way is not None
 
     def ring(self) -> None:
         """There is something to archive, or somebody who waits."""
+        self._rings += 1
         self._doorbell.set()
-        if self._way is not None and not self._way.take(self._waits):
-            self._way.kick()
+        if self._way is not None:
+            self._ask(self._way)
+
+    def _ask(self, way: QuickWay) -> None:
+        """Has it look for new blocks, and lends it the lines of those who wait."""
+        way.take(self._waits)
+        if len(self._waits):
+            self._waited.append(_Waited(self._rings, self._waits.now()))
+        way.kick(self._rings)
 
     def stir(self) -> None:
         """Wakes who waits in `reached`, to look again."""
         self._advanced.set()
+        self._heard.set()
 
     async def reached(self, end: int) -> bool:
         """Returns once all up to `end` is archived; False where it never will be, or the service hangs."""
         self.refresh()
         while self._served.reached < end:
-            if self.is_over or not self._served.is_alive or self._served.hangs:
+            if not self._goes_on:
                 return False  # also where it was so before: nobody would wake this any more
             self._advanced.clear()
             self.ring()
             await self._advanced.wait()
         return True
+
+    async def caught_up(self) -> bool:
+        """Returns once that is archived which was hardened when it was called, or 1,024 blocks of it; False as of `reached`."""
+        self.ring()
+        number = self._rings
+        while self._done < number:
+            if not self._goes_on:
+                return False
+            self._heard.clear()
+            await self._heard.wait()
+        return True
+
+    @property
+    def _goes_on(self) -> bool:
+        return not self.is_over and self._served.is_alive and not self._served.hangs
 
     async def run(self) -> None:
         """Goes on until the run holds the database no more, or its service is of no use."""
@@ -105,7 +146,8 @@ class Archiver:
             await self._run()
         finally:
             self.is_over = True
-            self._advanced.set()
+            self._forget()
+            self.stir()
         self._changed()
 
     async def _run(self) -> None:
@@ -114,114 +156,155 @@ class Archiver:
             await self._doorbell.wait()
             if (left := self._not_before - time.monotonic()) > 0:
                 await asyncio.sleep(left)  # whoever rings meanwhile
+            if self.recorder is not None:
+                await self.recorder.first_try()
             async with self.turn:
-                self._doorbell.clear()
-                if not await self.archived() or not await self._quickly():
+                if not self.turn.is_wanted and not await self._archived():
                     return
 
-    async def archived(self) -> bool:
-        """Archives what is hardened by now, with its lines. False where nothing more can be. The turn is the caller's."""
-        if self.recorder is not None:
-            await self.recorder.first_try()
-        async with turn_of(self.lining) as recorder:
-            return await self._archived(recorder)
+    async def _archived(self) -> bool:
+        """Archives by the fast path until that ends. False where nothing more can be. The turn is the caller's."""
+        self._doorbell.clear()
+        async with turn_of(self.lining if self._ways.keeps_lines else None) as recorder:
+            lines = None if recorder is None else await self._lent(recorder)
+            if recorder is not None and lines is not None:
+                return await self._archived_with(recorder, lines)
+        way, end = await self._went(None)  # whoever has the list meanwhile
+        return await self._ended(way, end)
 
-    async def _archived(self, recorder: Recorder | None) -> bool:
-        served, waited = self._served, self._waits.now()
-        self._is_asked = False
+    async def _archived_with(self, recorder: Recorder, lines: TrailList) -> bool:
+        """As `_archived`, with lines. The recorder's turn is the caller's too."""
+        found: TrailList | None = None
         try:
-            batch = await self._next_batch(recorder)
+            way, end = await self._went(lines)
+            found = lines if way is None else way.lines
+        finally:  # before a thread asks how far the list is
+            recorder.take_back(found)
+        if end is End.LINES:
+            await recorder.catch_up_soon()
+        return await self._ended(way, end)
+
+    async def _lent(self, recorder: Recorder) -> TrailList | None:
+        """The list, with whose lines the blocks are kept. A thread finds out how far it is where that is not known."""
+        lines = recorder.lend(self._end_way)
+        if lines is None:
+            await recorder.catch_up_soon()
+            lines = recorder.lend(self._end_way)
+        return lines
+
+    def line_up(self) -> None:
+        """The recorder may keep lines with the blocks from now on: what goes without them ends, and the next one has them."""
+        may = self.lining is not None and self.lining.may_lend
+        if self._way is not None and self._way.lines is None and may:
+            self._end_way()
+
+    async def _went(self, lines: TrailList | None) -> tuple[QuickWay | None, End]:
+        """Begins the fast path, and returns once it has ended."""
+        way = await self._ways.way_of(
+            self._row,
+            self._served,
+            self._hear_way,
+            lines,
+            is_careful=self._is_careful,
+            before=self._before,
+        )
+        if way is None:
+            return None, End.SERVICE
+        self._forget()
+        self._way = way
+        way.is_unlined = self.lining is not None and not self._ways.keeps_lines
+        way.watch(len(self._waits.confirmations) > 0)
+        self._ask(way)
+        if self.turn.is_wanted:
+            way.stop()
+        self.line_up()
+        before = self._served.reached
+        try:
+            end = await way.run()
+        finally:
+            self._way = None
+            self._waited.clear()
+        self._take(way)
+        done, _ = way.done
+        if self._served.reached > before or done > self._done:
+            self._is_careful = False
+            self._pauses.reset()
+        self._done = max(self._done, done)
+        self._heard.set()
+        return way, end
+
+    def _forget(self) -> None:
+        """What PostgreSQL has not kept is not tried again as it was."""
+        if self._before is not None:
+            self._before.drop()
+        self._before = None
+
+    async def _ended(self, way: QuickWay | None, end: End) -> bool:
+        """Sees to what the fast path has left. False where the run holds the database no more, or the service is of no use."""
+        is_asked = self._done < self._rings or len(self._waits) > 0
+        if is_asked or self._served.hard > self._served.reached or end is End.STOPPED:
+            self._doorbell.set()  # also for a client's ring, which the fast path alone has heard
+        else:
+            self._doorbell.clear()
+        match end:
+            case End.DOUBT | End.NOT_KEPT if way is not None:
+                self._before = way
+                return await self._looked_up(way.why)
+            case End.SERVICE if self._doorbell.is_set():
+                return await self._asked_why()
+            case End.NO_MEMORY:
+                self._try_again()
+            case End.LINES:
+                self.ring()
+        return True
+
+    async def _asked_why(self) -> bool:
+        """The fast path has not got from the service what it has asked for: why, that is found out beside it. False where it is of no use."""
+        try:
+            await asyncio.to_thread(self._served.ask_for_more)
         except (AuditListFull, TurnsSpent):
-            served.is_broken = True
+            self._served.is_broken = True
             return False
         except PagelogError as error:
             self._say(self._row.name, f"a pull failed: {error}")
-            self._see_memory()
-            self._pause()
-            return True
-        self._see_memory()
-        if not batch.blocks:
-            self._pauses.reset()
-            self._waits.tell_above(waited, served.generation, served.reached)
-            return True
-        return await self._kept(batch)
+        if (
+            self._served.is_full and not self._was_full
+        ):  # another follows it, as where it had none for a writer
+            self._was_full = True
+            self._changed()
+        self._try_again()
+        return True
 
-    def _pause(self) -> None:
-        """Tries again, and not at once."""
+    def _try_again(self) -> None:
+        """Carefully, and not at once."""
+        self._is_careful = True
         self._not_before = time.monotonic() + self._pauses.next()
         self.ring()
 
-    def _see_memory(self) -> None:
-        """A service that had no memory for a pull is followed by another, as where it had none for a writer."""
-        if self._served.is_full and not self._was_full:
-            self._was_full = True
-            self._changed()
-
-    async def rest(self, end: int, recorder: Recorder | None) -> Batch | None:
-        """What is not archived of a log that ends there; None where that is much, or cannot be pulled. Both turns are the caller's."""
-        served = self._served
+    async def _looked_up(self, why: str) -> bool:
+        """Finds out what became of a batch. False where the run holds the database no more, or the archive has something else."""
+        before = self._served.reached
+        if why:
+            self._doubts.say(f"PostgreSQL: {why}")
         try:
-            blocks = (
-                await asyncio.to_thread(served.pulled, served.reached)
-                if served.reached < end
-                else []
-            )
-        except PagelogError:
-            return None
-        return (
-            await self._batch_of(blocks, recorder) if served.reached + len(blocks) == end else None
-        )
-
-    async def _next_batch(self, recorder: Recorder | None) -> Batch:
-        served = self._served
-        position, refused = self._refused
-        if refused and position == served.reached:
-            return await self._batch_of(refused, recorder)
-        blocks = (
-            None
-            if served.hard > served.reached + FEW
-            else await served.pulled_at_once(served.reached)
-        )
-        if blocks is None:
-            blocks = await asyncio.to_thread(served.pulled, served.reached)
-        return await self._batch_of(blocks, recorder)
-
-    async def _batch_of(self, blocks: Sequence[bytes], recorder: Recorder | None) -> Batch:
-        served = self._served
-        lines = await recorder.lines() if blocks and recorder is not None else None
-        return Batch(
-            self._row.id,
-            served.run,
-            served.generation,
-            served.reached,
-            digest(served.chain, blocks),
-            tuple(blocks),
-            lines,
-        )
-
-    async def _kept(self, batch: Batch) -> bool:
-        """Has the batch archived, and tells those who wait for it. False where the run holds the database no more."""
-        served = self._served
-        try:
-            kept = await self._told(batch)
+            kept = await self._doubts.look_up(self._row.id, self._served.run)
         except Fenced:
             return False  # the next look shows by whom
-        goes_on = await self._entered(kept, (batch.new, batch.chain))
-        if goes_on and served.reached == batch.old:
-            self._refused, self._is_asked = (batch.old, batch.blocks), False
-            self._pause()
+        goes_on = await self._entered(kept)
+        if goes_on and self._served.reached == before:
+            self._try_again()
         else:
-            self._refused = 0, ()
+            self._forget()
             self._pauses.reset()
         return goes_on
 
-    async def _entered(self, kept: Kept, expected: tuple[int, bytes]) -> bool:
-        """Takes what is archived of the run, which may be what was expected. False where the archive has something else."""
+    async def _entered(self, kept: Kept) -> bool:
+        """Takes what is archived of the run. False where the archive has something else."""
         served = self._served
         try:
-            is_known = (kept.archived, kept.chain) in (expected, (served.reached, served.chain))
-            # Else a batch that an earlier life of this keeper had sent has come late, or PostgreSQL went back.
-            has = is_known or await asyncio.to_thread(self._served.has, kept.archived, kept.chain)
+            is_known = (kept.archived, kept.chain) == (served.reached, served.chain)
+            # Else it is the batch, or one that an earlier life of this keeper had sent has come late, or PostgreSQL went back.
+            has = is_known or await asyncio.to_thread(served.has, kept.archived, kept.chain)
         except PagelogError:
             self.ring()
             return True  # the next pull shows why
@@ -238,59 +321,19 @@ class Archiver:
                 f"the archive went back, to position {kept.archived}: what the service has after it is archived again",
             )
         served.reached, served.chain = kept.archived, kept.chain
-        self._advanced.set()
-        self._is_asked = len(self._waits) > 0
-        self._waits.tell(served.generation, served.reached)
-        self._waits.confirmations.tell(served.reached, served.chain)
+        self._tell()
         if served.hard > served.reached or len(self._waits):
             self.ring()
         return True
 
-    # The quick way.
-
-    async def _quickly(self) -> bool:
-        """Where somebody waits for each batch, or much is behind, the quick way goes on as long as it can. False where the run holds the
-        database no more. The turn is the caller's."""
+    def _tell(self) -> None:
+        """Tells those who wait here how far all is archived."""
         served = self._served
-        is_behind = served.hard > served.reached
-        if self._ways is None or not (self._is_asked or is_behind):
-            return True
-        async with turn_of(self.lining) as recorder:
-            return recorder is not self.recorder or await self._went_quickly(
-                self._ways, recorder
-            )  # no block goes without its lines
+        self._advanced.set()
+        self._waits.tell(served.generation, served.reached)
+        self._waits.confirmations.tell(served.reached, served.chain)
 
-    async def _went_quickly(self, ways: QuickPlane, recorder: Recorder | None) -> bool:
-        """As `_quickly`, once it is known that it may. The recorder's turn is the caller's too."""
-        lines, way = None if recorder is None else recorder.lend(self._end_way), None
-        try:
-            if not self.turn.is_wanted and (recorder is None or lines is not None):
-                way = await ways.way_of(self._row, self._served, self._hear_way, lines)
-            return way is None or await self._gone(way)
-        finally:
-            if recorder is not None and lines is not None:
-                recorder.take_back(lines if way is None else way.lines)
-
-    async def _gone(self, way: QuickWay) -> bool:
-        self._way = way
-        way.watch(len(self._waits.confirmations) > 0)
-        way.take(self._waits)
-        if self._doorbell.is_set():
-            way.kick()  # it rang meanwhile: for who waits, and cannot be lent, or for a ring alone
-        if self.turn.is_wanted:
-            way.stop()
-        try:
-            end = await way.run()
-        finally:
-            self._way = None
-        self._take(way)
-        if end.is_known:
-            return True
-        try:
-            kept = await self._committer.look_up(self._row.id, self._served.run)
-        except Fenced:
-            return False
-        return await self._entered(kept, way.last)
+    # What the fast path says.
 
     def _watch(self, is_watched: bool) -> None:
         """Whether somebody waits for what is archived, whatever that is."""
@@ -298,7 +341,7 @@ class Archiver:
             self._way.watch(is_watched)
 
     def leave_way(self) -> None:
-        """What is asked is to be answered here from now on: by a way that knows more."""
+        """It ends, and begins again with what is known by then."""
         self._end_way()
 
     def _end_way(self) -> None:
@@ -307,13 +350,22 @@ class Archiver:
             self._way.stop()
 
     def _hear_way(self) -> None:
-        """The quick way has news: what was waited for here is archived, or is not there, which it does not say."""
-        self.refresh()
-        if len(self._waits):
-            self._end_way()
+        """There is news of it: rings are done."""
+        if self._way is None:
+            return
+        self._take(self._way)
+        self._done, nothing_since = self._way.done
+        served, waited = self._served, self._waited
+        self._waited = [each for each in waited if each.number > self._done]
+        for each in waited:
+            if each.number <= nothing_since:
+                self._waits.tell_above(each.waits, served.generation, served.reached)
+        self._heard.set()
+        if len(self._waits) and not self._waited:
+            self.ring()
 
     def refresh(self) -> None:
-        """How far the quick way has come is known from now on."""
+        """How far the fast path has come is known from now on."""
         if self._way is not None:
             self._take(self._way)
 
@@ -322,18 +374,41 @@ class Archiver:
         reached, chain = way.reached
         if reached > served.reached:
             served.reached, served.chain, served.hard = reached, chain, max(served.hard, reached)
-            self._advanced.set()
-            self._waits.tell(served.generation, reached)
-            self._waits.confirmations.tell(reached, chain)
+            self._tell()
 
-    async def _told(self, batch: Batch) -> Kept:
-        """What the committer says of it; its recorder knows then whether the lines are kept."""
-        kept = None
+    # The end of the run's log.
+
+    async def rest(self, end: int, recorder: Recorder | None) -> Batch | None:
+        """What is not archived of a log that ends there; None where that is much, or cannot be pulled. Both turns are the caller's."""
+        served = self._served
         try:
-            kept = await self._committer.keep(batch)
-            return kept
-        finally:
-            self.settle(batch.lines, is_kept=kept is not None and kept.is_told)
+            blocks = (
+                await asyncio.to_thread(served.pulled, served.reached)
+                if served.reached < end
+                else []
+            )
+        except PagelogError:
+            return None
+        if served.reached + len(blocks) != end:
+            return None
+        lines = (
+            await asyncio.to_thread(recorder.last_lines)
+            if blocks and recorder is not None
+            else None
+        )
+        return self._batch_of(blocks, lines)
+
+    def _batch_of(self, blocks: Sequence[bytes], lines: Lines | None) -> Batch:
+        served = self._served
+        return Batch(
+            self._row.id,
+            served.run,
+            served.generation,
+            served.reached,
+            digest(served.chain, blocks),
+            tuple(blocks),
+            lines,
+        )
 
     def settle(self, lines: Lines | None, *, is_kept: bool) -> None:
         """Whether lines are kept that a statement had with their blocks is known."""

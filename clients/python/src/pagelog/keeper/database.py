@@ -169,7 +169,7 @@ class Database:
             and served.kind is Kind.STANDBY
             and row.wanted in ("*", self.shared.settings.name)
         ):
-            self.shared.spawn(self.shared.committer.warm(), row.name)
+            self.shared.ways.warm()
         self.note_seen()
         self._see_way(row)
         if (

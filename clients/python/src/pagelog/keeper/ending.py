@@ -43,6 +43,8 @@ class Ending:
         recorder = database.work.recorder
         async with archiver.turn:
             archived = await self._release_at(archiver, end)
+            if archived is not None:
+                database.work.stop_archiving()  # at once: its recorder has the rest to keep
         if archived is not None:
             return await self._released(archived, recorder)
         return await archiver.reached(end) and database.holds and await self.release()

@@ -17,7 +17,7 @@ from typing import TYPE_CHECKING, Any, Mapping
 from pagelog.errors import CredentialsError, PagelogError
 from pagelog.keeper.aside import Aside
 from pagelog.keeper.certificate import Shown
-from pagelog.keeper.committer import Committer
+from pagelog.keeper.doubts import Doubts
 from pagelog.keeper.database import Database
 from pagelog.keeper.fate import Of
 from pagelog.keeper.folder import Folder
@@ -92,24 +92,22 @@ class Keeper:
             ),
             settings.ttl,
         )
-        self._writer = Session(
-            QuickReferee(
+        self._doubting = Session(
+            Referee(
                 settings.url, settings.name, self.life, requires_standby=settings.require_standby
             ),
             2 * settings.ttl,
         )
-        committer = Committer(
-            self._writer, settings.ttl, partial(self._say, "the archive"), beside=self._session
-        )
+        doubts = Doubts(self._doubting, partial(self._say, "the archive"))
         self._shared = Shared(
             settings,
             self.life,
             self._session,
-            committer,
+            doubts,
+            self._ways(doubts),
             self._say,
             self._changed,
             self._trails(),
-            self._ways(),
         )
         self._server = Server(self)
         self._care = (
@@ -169,19 +167,16 @@ class Keeper:
         check_libraries(self.settings.store)
         return Storing(self.settings, self._repeats.say)
 
-    def _ways(self) -> QuickPlane:
+    def _ways(self, doubts: Doubts) -> QuickPlane:
         settings = self.settings
-        ways = QuickPlane(
+        return QuickPlane(
             lambda: QuickReferee(settings.url, settings.name, self.life),
             idle=settings.ttl,
             deadline=2 * settings.ttl,
             confirms=settings.require_standby,
             has_trails=bool(settings.trail),
-            say=partial(self._repeats.say, "the quick way"),
+            say=doubts.say,
         )
-        if not ways.is_there:
-            self._say("the keeper", "the quick way is not built: durable commits take longer")
-        return ways
 
     def _say(self, name: str, sentence: str) -> None:
         _log.info("%s: %s", name, sentence)
@@ -221,7 +216,6 @@ class Keeper:
             self.lines = await self._server.start(self.settings.lines)
         notify("READY=1")  # PostgreSQL may be away still
         self._shared.spawn(self._live(), "the watchdog")
-        committing = self._shared.spawn(self._shared.committer.run(), "the committer")
         if self._storing is not None:
             self._shared.spawn(self._storing.run(), "the store")
         try:
@@ -229,8 +223,6 @@ class Keeper:
             await self._look()
             print(f"listening {self.lines}", flush=True)
             while not self._is_over():
-                if committing.done():
-                    return 1  # its next life adopts what it has
                 await self._look()
                 await self._session.rest(self._pause)
             await self._say_what_is_left()
@@ -450,7 +442,7 @@ class Keeper:
 
     async def _stop(self) -> None:
         await self._server.stop()
-        for session in (self._session, self._writer):
+        for session in (self._session, self._doubting):
             session.referee.cut()  # no thread is left that waits for PostgreSQL
         for task in list(self._shared.tasks):
             task.cancel()
@@ -459,11 +451,10 @@ class Keeper:
             if database.served is not None and database.served.process is not None:
                 asyncio.get_running_loop().remove_reader(database.served.process.descriptor)
         await self._session.close()
-        await self._writer.close()
+        await self._doubting.close()
         if self._shared.trails is not None:
             self._shared.trails.close()
-        if self._shared.ways is not None:
-            await self._shared.ways.close()
+        await self._shared.ways.close()
         if self._is_disowned:
             await self._end_services()
         if self._care is not None:

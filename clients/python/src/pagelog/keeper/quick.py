@@ -50,6 +50,20 @@ class QuickReferee(Referee):
         assert self._connection is not None
         self._connection.execute("SET plan_cache_mode = force_generic_plan")
 
+    def prepare_if_free(self, statement: str) -> Prepared | None:
+        """As `prepare_statement`; None where a table of it is locked, as a trail's may be for long."""
+        connection = self._connected()
+        try:
+            connection.execute("SET lock_timeout = '100ms'")
+            try:
+                return Prepared(connection, statement)
+            except psycopg.errors.LockNotAvailable:
+                return None
+            finally:
+                connection.execute("RESET lock_timeout")
+        except Exception as error:
+            raise self._meaning(error) from error
+
     def prepare_statement(self, statement: str) -> Prepared:
         """The statement, prepared on the connection. Raises `Away`, `Refused` or `Doubt`."""
         connection = self._connected()

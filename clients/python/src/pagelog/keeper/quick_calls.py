@@ -9,6 +9,8 @@ from typing import TYPE_CHECKING
 
 from psycopg import pq
 
+from pagelog.keeper.referee import KeeperError
+
 if TYPE_CHECKING:
     from pagelog.trail.store import TrailList
 
@@ -70,6 +72,8 @@ class Start(ctypes.Structure):
         ("list", List),
         ("audit", ctypes.c_char_p),
         ("audit_len", ctypes.c_size_t),
+        ("is_careful", ctypes.c_int),
+        ("before", ctypes.c_void_p),
         ("service", ctypes.c_int),
         ("service_ms", ctypes.c_int),
         ("referee_ms", ctypes.c_int),
@@ -116,19 +120,26 @@ class Event(ctypes.Structure):
         return ctypes.string_at(ctypes.addressof(self) + Event.data.offset, self.len)
 
 
-def library() -> ctypes.CDLL | None:
-    """The compiled part; None where it was not built, or has another libpq than psycopg, whose connections it takes."""
+def library() -> ctypes.CDLL:
+    """The compiled part. Raises `KeeperError` where it was not built, or has another libpq than psycopg, whose connections it takes."""
     found = importlib.util.find_spec("pagelog.keeper._quick_way")
-    if found is None or found.origin is None or pq.__impl__ == "binary":
-        return None
+    if found is None or found.origin is None:
+        raise KeeperError(
+            "the compiled part of a keeper is not there: Debian's package has it; from source clients/python/setup.py builds it"
+        )
+    if pq.__impl__ == "binary":
+        raise KeeperError(
+            "a keeper needs psycopg with the system's libpq, which its binary has not"
+        )
     try:
         made = ctypes.CDLL(found.origin)
-    except OSError:
-        return None
+    except OSError as error:
+        raise KeeperError(f"the compiled part of a keeper cannot be loaded: {error}") from error
     if made.PQlibVersion() != pq.version():
-        return None
+        raise KeeperError("the compiled part of a keeper has another libpq than psycopg")
     made.plane_new.restype = made.way_new.restype = ctypes.c_void_p
-    made.way_reached.restype, made.plane_due.restype = ctypes.c_uint64, ctypes.c_size_t
+    made.way_reached.restype = made.way_done.restype = ctypes.c_uint64
+    made.plane_due.restype = ctypes.c_size_t
     plane = way = ctypes.c_void_p
     for name, kinds in (
         ("plane_new", [ctypes.c_int]),
@@ -141,7 +152,8 @@ def library() -> ctypes.CDLL | None:
         ("plane_next", [plane, ctypes.POINTER(Event)]),
         ("way_new", [plane, ctypes.POINTER(Start)]),
         ("way_add", [way, ctypes.c_int, ctypes.c_uint64, ctypes.c_int]),
-        ("way_kick", [way]),
+        ("way_kick", [way, ctypes.c_uint64]),
+        ("way_done", [way, ctypes.POINTER(ctypes.c_uint64)]),
         ("way_stop", [way]),
         ("way_free", [way]),
         ("way_watch", [way, ctypes.c_int]),

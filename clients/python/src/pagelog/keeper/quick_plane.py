@@ -13,6 +13,7 @@ from pagelog.keeper import quick_calls, statements
 from pagelog.keeper.quick import Prepared, QuickReferee
 from pagelog.keeper.quick_calls import Event, SessionStart
 from pagelog.keeper.quick_way import QuickWay
+from pagelog.keeper.referee import KeeperError
 from pagelog.keeper.refusal import line_of
 from pagelog.keeper.rows import Row
 from pagelog.keeper.served import Served
@@ -75,14 +76,15 @@ class QuickPlane:
         say: Callable[[str], None] = lambda _: None,
         most: int = SESSIONS,
     ) -> None:
-        """Without a question for `idle` seconds a database gives its way back, and without a way the sessions are closed. `deadline` is
-        for a statement, in seconds. If it `confirms`, nothing is told before a synchronous standby is known to have it. Why a session is
-        not to be had it will `say`. `make` makes each."""
-        self._found = quick_calls.library()
+        """Without a question for `idle` seconds a database gives its way back, and without a way all sessions but one are closed. `deadline`
+        is for a statement, in seconds. If it `confirms`, nothing is told before a synchronous standby is known to have it. Why no session
+        is to be had it will `say`. `make` makes each. Raises `KeeperError` where the compiled part is not there.
+        """
+        self.library = quick_calls.library()
         self.confirms = confirms
         self.values = VALUES | LINES if has_trails else VALUES
         self.idle, self.deadline = idle, deadline
-        self._say, self._said = say, ""
+        self._say = say
         self._thread = ThreadPoolExecutor(1, "quick-way")
         self.sessions = [QuickSessionOf(self, key, make()) for key in range(most)]
         self._ways: dict[int, QuickWay] = {}
@@ -91,17 +93,6 @@ class QuickPlane:
         self._running: asyncio.Future[object] | None = None
         self._news: tuple[int, int] = -1, -1
         self._closing: asyncio.TimerHandle | None = None
-
-    @property
-    def is_there(self) -> bool:
-        """Whether it was built."""
-        return self._found is not None
-
-    @property
-    def library(self) -> ctypes.CDLL:
-        """The compiled part."""
-        assert self._found is not None
-        return self._found
 
     @property
     def address(self) -> int:
@@ -115,18 +106,33 @@ class QuickPlane:
         return 0 if self._address is None else int(self.library.plane_due(self._address))
 
     async def way_of(
-        self, row: Row, served: Served, told: Callable[[], None], lines: TrailList | None = None
+        self,
+        row: Row,
+        served: Served,
+        told: Callable[[], None],
+        lines: TrailList | None = None,
+        *,
+        is_careful: bool = False,
+        before: QuickWay | None = None,
     ) -> QuickWay | None:
-        """One for this database, begun; None where it is not to be had yet. `told` is called where there is news of it. Behind `lines` of
-        its audit list those are kept that speak of its blocks. Who gets one has to `run` it."""
-        if self._found is None or not self._is_connected():
-            return None
+        """One for this database, begun; None where its service takes no connection. `told` is called where there is news of it. Behind `lines`
+        of its audit list those are kept that speak of its blocks. Where the last try has failed it `is_careful`, and tries again what is
+        left of the one `before`. Who gets one has to `run` it."""
+        self.warm()
         try:
             line = await served.pulling_line()
             self._begin()
             self._last_key += 1
             way = self._ways[self._last_key] = QuickWay(
-                self, self._last_key, row, served, line, told, lines
+                self,
+                self._last_key,
+                row,
+                served,
+                line,
+                told,
+                lines,
+                is_careful=is_careful,
+                before=before,
             )
         except (MemoryError, OSError):
             return None
@@ -135,13 +141,10 @@ class QuickPlane:
 
     # Its sessions.
 
-    def _is_connected(self) -> bool:
-        """Whether a session is lent; if not, one connects beside all else."""
+    def warm(self) -> None:
+        """Has one connected, beside all else. From then on there is one: the first commit after a rest waits for no connection."""
         self._close_later()
-        if any(each.is_lent for each in self.sessions):
-            return True
         self._connect(1)
-        return False
 
     def connect_more(self) -> None:
         """As many as there are ways. They connect one after the other."""
@@ -172,14 +175,27 @@ class QuickPlane:
             self.failed(error)
         if not session.is_lent:
             session.take_back(is_clean=True)
+        elif session.keeps_lines:
+            for way in self._ways.values():
+                way.line_up()
+        else:
+            asyncio.get_running_loop().call_later(self.idle / 4, self._retract, session)
         self.connect_more()
+
+    @property
+    def keeps_lines(self) -> bool:
+        """Whether lines can be kept with the blocks, as far as is known."""
+        lent = [each for each in self.sessions if each.is_lent]
+        return not lent or any(each.keeps_lines for each in lent)
+
+    def _retract(self, session: QuickSessionOf) -> None:
+        if session.is_lent and self._address is not None:
+            self.library.plane_retract(self.address, session.key)
 
     def failed(self, error: Exception) -> None:
         """A session was not to be had."""
-        sentence = line_of(error)
-        if sentence != self._said:
-            self._say(f"not to be had: {sentence}")
-        self._said = sentence
+        if not any(each.is_lent for each in self.sessions):
+            self._say(str(error) if isinstance(error, KeeperError) else line_of(error))
 
     def _close_later(self) -> None:
         if self._closing is not None:
@@ -190,9 +206,8 @@ class QuickPlane:
         """Nobody has asked for a way for a while."""
         if self._ways:
             return self._close_later()
-        for session in self.sessions:
-            if session.is_lent:
-                self.library.plane_retract(self.address, session.key)
+        for session in self.sessions[1:]:
+            self._retract(session)
 
     # The thread.
 
@@ -286,8 +301,17 @@ class QuickSessionOf:
             asyncio.get_running_loop().call_later(self._plane.deadline, self._cut, connecting)
 
     def _prepare(self) -> tuple[Prepared, ...]:
-        """In a thread."""
-        return tuple(map(self.referee.prepare_statement, self._plane.values))
+        """In a thread. Without that of lines where their tables are locked: blocks wait for no trail."""
+        made = [
+            self.referee.prepare_statement(each) for each in self._plane.values if each not in LINES
+        ]
+        lined = [self.referee.prepare_if_free(each) for each in self._plane.values if each in LINES]
+        return (*made, *(each for each in lined if each is not None))
+
+    @property
+    def keeps_lines(self) -> bool:
+        """Whether lines can be kept over it, where lines are kept at all."""
+        return len(self.statements) == len(self._plane.values)
 
     def _connected(self, made: asyncio.Future[tuple[Prepared, ...]]) -> None:
         self._connecting = None

@@ -34,6 +34,24 @@ static bool copy(struct way *way, const struct way_start *start) {
     return true;
 }
 
+/* Takes the batch of one that has ended, where it comes behind what is archived by now, and behind the kept lines. */
+static void take_batch(struct way *way, struct way *before) {
+    struct trail *trail = &before->trail;
+    bool follows = before->batch.blocks > 0 && before->reached == way->reached && before->chain_len == way->chain_len &&
+                   memcmp(before->chain, way->chain, way->chain_len) == 0;
+    bool fits = trail->is_kept == way->trail.is_kept && trail->kept == way->trail.kept && trail->seen == way->trail.seen &&
+                memcmp(trail->digest, way->trail.digest, WAY_SHA) == 0;
+    if (!follows || !fits) {
+        return;
+    }
+    way->batch = before->batch;
+    way->trail = before->trail;
+    way->pulled = before->pulled;
+    way->most = before->most;
+    before->batch.bytes = before->trail.lines = before->trail.data = NULL;
+    before->batch.blocks = before->batch.room = before->trail.lines_room = before->trail.data_room = 0;
+}
+
 /* Puts it among those that have orders. The lock is the caller's. */
 static void touch(struct way *way) {
     if (!way->is_touched && !way->takes_none) {
@@ -54,6 +72,9 @@ struct way *way_new(struct plane *plane, const struct way_start *start) {
     if (!copy(way, start)) {
         way_free(way);
         return NULL;
+    }
+    if (start->before != NULL) {
+        take_batch(way, start->before);
     }
     pthread_mutex_lock(&plane->lock);
     bool takes = !plane->takes_none;
@@ -120,16 +141,20 @@ int way_add(struct way *way, int descriptor, uint64_t position, int is_named) {
     return 1;
 }
 
-static void set(struct way *way, bool *flag) {
+void way_kick(struct way *way, uint64_t number) {
     pthread_mutex_lock(&way->plane->lock);
-    *flag = true;
+    way->kick = number;
     touch(way);
     pthread_mutex_unlock(&way->plane->lock);
     wake(way->plane->control);
 }
 
-void way_kick(struct way *way) {
-    set(way, &way->kicked);
+uint64_t way_done(struct way *way, uint64_t *found_nothing) {
+    pthread_mutex_lock(&way->plane->lock);
+    uint64_t done = way->done;
+    *found_nothing = way->found_nothing;
+    pthread_mutex_unlock(&way->plane->lock);
+    return done;
 }
 
 void way_watch(struct way *way, int is_watched) {
@@ -139,7 +164,11 @@ void way_watch(struct way *way, int is_watched) {
 }
 
 void way_stop(struct way *way) {
-    set(way, &way->stops);
+    pthread_mutex_lock(&way->plane->lock);
+    way->stops = true;
+    touch(way);
+    pthread_mutex_unlock(&way->plane->lock);
+    wake(way->plane->control);
 }
 
 uint64_t way_reached(struct way *way, uint8_t chain[WAY_DIGEST], size_t *chain_len) {
@@ -167,6 +196,9 @@ bool begin_way(struct way *way) {
     }
     plane->ways = way;
     way->asked_at = now_ms();
+    if (way->batch.blocks > 0) {
+        set_due(way); /* as it was before */
+    }
     wake_by(plane, until(way));
     return watch(plane, way->start.service, way);
 }
@@ -184,14 +216,15 @@ static void take_line(struct way *way, struct line *line) {
     }
 }
 
-void take_order(struct way *way, struct line *added, bool stops, bool kicked) {
+void take_order(struct way *way, struct line *added, bool stops, uint64_t kick) {
     while (added != NULL) {
         struct line *next = added->next;
         take_line(way, added);
         added = next;
     }
     way->is_over |= stops;
-    if (kicked) {
+    if (kick != 0) {
+        way->kicked = kick;
         way->rung = way->news_wanted = true;
         way->asked_at = now_ms();
     }
@@ -220,12 +253,12 @@ void advance(struct way *way) {
 }
 
 int64_t until(const struct way *way) {
-    bool is_at_it = way->phase == KEEPING || (way->phase == READY && way->rung);
+    bool is_at_it = way->phase == DUE || way->phase == KEEPING || (way->phase == READY && way->rung);
     return is_at_it ? INT64_MAX : way->phase == READY ? way->asked_at + way->start.idle_ms : way->due;
 }
 
 enum way_end late(const struct way *way) {
-    return way->phase == READY ? WAY_IDLE : way->phase == PULLING ? WAY_SERVICE : WAY_AWAY;
+    return way->phase == READY ? WAY_IDLE : WAY_SERVICE;
 }
 
 /* Takes nothing more from other threads. Returns the lines that they have given it. */

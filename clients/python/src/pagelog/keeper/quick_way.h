@@ -20,6 +20,7 @@ enum {
     WAY_DIGEST = 16,        /* bytes of the digest of all archived blocks */
     WAY_SHA = 32,           /* bytes of the digest of an audit list's kept lines */
     WAY_LINE = 1024,        /* the longest line of a client */
+    WAY_WHY = 256,          /* of what PostgreSQL says of a statement */
     WAY_BLOCKS = 1024,      /* the most blocks of a database in one statement */
     WAY_BYTES = 1 << 20,    /* so many bytes of them are enough */
 };
@@ -32,8 +33,7 @@ enum way_end {
     WAY_NOT_KEPT = 3,       /* PostgreSQL has kept nothing of it: the run holds the database no more, or the archive went back */
     WAY_DOUBT = 4,          /* it is not known whether PostgreSQL has kept the last blocks */
     WAY_NO_MEMORY = 5,
-    WAY_AWAY = 6,           /* for a while there was no connection to PostgreSQL; nothing is in doubt */
-    WAY_LINES = 7,          /* the lines of its audit list are not to be had so; nothing is in doubt */
+    WAY_LINES = 6,          /* the lines of its audit list are not to be had so; nothing is in doubt */
 };
 
 /* An audit list, as far as its lines are kept. */
@@ -62,9 +62,11 @@ struct way_start {
     struct way_list list;       /* with each batch the lines are kept that speak of it */
     const uint8_t *audit;       /* as `pull`: it ends with the number of a line, 8 bytes, and how many, 2 bytes */
     size_t audit_len;
+    int is_careful;             /* until something is kept it pulls one block, which has a statement of its own: the last try has failed */
+    struct way *before;         /* one that has ended: what PostgreSQL has not kept of it is tried again, and not pulled; NULL: none */
     int service;                /* a connection to the service, which does not block */
     int service_ms;             /* the longest wait for the service */
-    int referee_ms;             /* for PostgreSQL: for a connection that is free, and then for its answer */
+    int referee_ms;             /* for PostgreSQL's answer */
     int idle_ms;                /* without a question */
 };
 
@@ -73,7 +75,7 @@ struct session_start {
     uint64_t key;
     void *connection;           /* PGconn: nothing else is asked over it meanwhile */
     const char *keep, *keep_block; /* the statements of batches and of one block, as they were prepared */
-    const char *keep_lines;     /* that of batches some of which have lines; NULL: none have */
+    const char *keep_lines;     /* that of batches some of which have lines; NULL: lines cannot be kept over it */
     const char *flushed;        /* the statement that tells how far this server and a synchronous standby have flushed; NULL: none is required */
 };
 
@@ -91,7 +93,7 @@ struct way_event {
     int end;                    /* of a way that ended: why; of a session: whether something of a statement may be left in it */
     int descriptor;             /* of a line; and what follows too */
     uint64_t position;          /* what is waited for over it; 0: nothing */
-    size_t len;                 /* what was read of it, and not answered */
+    size_t len;                 /* what was read of it, and not answered; of a doubt what PostgreSQL has said */
     char data[WAY_LINE];
 };
 
@@ -122,15 +124,19 @@ int plane_next(struct plane *, struct way_event *);
 /* Where there is no way any more. */
 void plane_free(struct plane *);
 
-/* Begins that of a database. What `start` points to is not needed any more. NULL without memory, or where the plane has ended. */
+/* Begins that of a database. What `start` points to is not needed any more, but for `noted`. NULL without memory, or where the plane has
+ * ended. */
 struct way *way_new(struct plane *, const struct way_start *start);
 
 /* From now on it reads a line, of which nothing is left unread, and over which `position` is waited for; 0: nothing. What is told over
  * it says of what, if it `is_named`. False where it takes no line any more. */
 int way_add(struct way *, int descriptor, uint64_t position, int is_named);
 
-/* There may be new blocks, for somebody who waits elsewhere. */
-void way_kick(struct way *);
+/* There may be new blocks, for somebody who waits elsewhere. The numbers of these rise. */
+void way_kick(struct way *, uint64_t number);
+
+/* The highest of them since which a pull has begun whose blocks are archived; and the highest since which one has found nothing. */
+uint64_t way_done(struct way *, uint64_t *found_nothing);
 
 /* From now on `WAY_ARCHIVED` is said whenever something is archived, or no more. */
 void way_watch(struct way *, int is_watched);

@@ -33,8 +33,7 @@ class End(IntEnum):
     NOT_KEPT = 3
     DOUBT = 4
     NO_MEMORY = 5
-    AWAY = 6
-    LINES = 7
+    LINES = 6
 
     @property
     def is_known(self) -> bool:
@@ -54,9 +53,13 @@ class QuickWay:
         line: tuple[int, bytes, bytes],
         told: Callable[[], None],
         lines: TrailList | None = None,
+        *,
+        is_careful: bool = False,
+        before: QuickWay | None = None,
     ) -> None:
         """`line` is a connection to the service, and a pull and a question for its audit list as frames. `told` is called where there is
-        news of it. Behind `lines` of the list those are kept that speak of the blocks. Raises `MemoryError`.
+        news of it. Behind `lines` of the list those are kept that speak of the blocks. Where it `is_careful` it begins with one block,
+        or with what is left of the one `before`. Raises `MemoryError`.
         """
         self._plane, self._library, self._told = plane, plane.library, told
         self._service, pull, audit = line
@@ -71,6 +74,11 @@ class QuickWay:
         self._ended: asyncio.Future[End] = asyncio.get_running_loop().create_future()
         self.last = served.reached, served.chain
         """How far it came, once it has ended."""
+        self._last_done, self._is_left, self._is_given_up = (0, 0), False, False
+        self.is_unlined = False
+        """Whether it keeps no lines for want of a session by which it could."""
+        self.why = ""
+        """What PostgreSQL has said of a statement that is in doubt."""
         self.lines = lines
         """How far the list is kept, once it has ended; None where that is not known."""
         start = Start(
@@ -91,6 +99,8 @@ class QuickWay:
             List.from_list(lines),
             audit,
             len(audit),
+            is_careful,
+            None if before is None or not before._is_left else before._way,
             self._service,
             *(round(1000 * each) for each in (served.timeout, plane.deadline, plane.idle)),
         )
@@ -108,26 +118,35 @@ class QuickWay:
         reached = self._library.way_reached(self._way, chain, ctypes.byref(size))
         return int(reached), bytes(chain)[: size.value]
 
-    def take(self, waits: Waits) -> bool:
-        """Takes the lines of those who wait. Returns whether there were some, and none is left."""
-        if self._is_over or self._stops or not len(waits):
-            return False
+    def take(self, waits: Waits) -> None:
+        """Takes the lines of those who wait, where it can."""
+        if self._is_over or self._stops:
+            return
         for line, positions in waits.now().items():
             if (
                 len(positions) == 1
                 and positions[0] < _MOST
                 and (descriptor := line.lend()) is not None
             ):
-                waits.gone(line)
-                self._lent[descriptor] = line
-                if not self._library.way_add(self._way, descriptor, positions[0], line.version > 1):
-                    self._take_back(descriptor, positions[0], b"")
-        return not len(waits)
+                if self._library.way_add(self._way, descriptor, positions[0], line.version > 1):
+                    waits.gone(line)
+                    self._lent[descriptor] = line
+                else:
+                    os.close(descriptor)
+                    line.take_back(b"")
 
-    def kick(self) -> None:
-        """There may be new blocks, for somebody who waits for them here."""
+    def kick(self, number: int) -> None:
+        """There may be new blocks, for somebody who waits for them here. The numbers of these rise."""
         if not self._is_over:
-            self._library.way_kick(self._way)
+            self._library.way_kick(self._way, number)
+
+    @property
+    def done(self) -> tuple[int, int]:
+        """The highest of them since which a pull has begun whose blocks are archived, and the highest since which one has found nothing."""
+        if self._is_over:
+            return self._last_done
+        nothing = ctypes.c_uint64()
+        return int(self._library.way_done(self._way, ctypes.byref(nothing))), nothing.value
 
     def watch(self, is_watched: bool) -> None:
         """Whether there is news of it whenever something is archived."""
@@ -140,6 +159,11 @@ class QuickWay:
         if not self._is_over:
             self._library.way_stop(self._way)
 
+    def line_up(self) -> None:
+        """Lines may be kept by the next one: it ends, if it keeps none."""
+        if self.is_unlined and self.lines is None:
+            self.stop()
+
     async def run(self) -> End:
         """Returns once it has ended. Where the caller is cancelled, it ends by itself."""
         try:
@@ -147,7 +171,15 @@ class QuickWay:
         except asyncio.CancelledError:
             self.stop()
             self.lines = None if not self._is_over else self.lines
+            self._is_given_up = True
+            self.drop()
             raise
+
+    def drop(self) -> None:
+        """What is left of it, as of a batch in doubt, is not tried again."""
+        if self._is_left:
+            self._library.way_free(self._way)
+        self._is_left = False
 
     def hear(self, event: Event) -> None:
         """What the thread says of it."""
@@ -157,12 +189,11 @@ class QuickWay:
             case quick_calls.ARCHIVED:
                 self._told()
             case quick_calls.ENDED:
+                self.why = event.text.decode(errors="replace")
                 self._end(End(event.end))
 
     def _take_back(self, descriptor: int, position: int, data: bytes) -> None:
-        """A line is the keeper's again. Where somebody waits over it, the quick way has no answer to that, and ends."""
-        if position:
-            self.stop()
+        """A line is the keeper's again, and what was asked over it."""
         line = self._lent.pop(descriptor)
         of = f" of={self._of}" if line.version > 1 else ""
         question = (
@@ -174,12 +205,14 @@ class QuickWay:
         line.take_back(question + data)
 
     def _end(self, end: End) -> None:
-        self.last, self._is_over = self.reached, True
+        self.last, self._last_done, self._is_over = self.reached, self.done, True
         if self.lines is not None:  # else nobody waits for its end
             known = List()
             self._library.way_list_of(self._way, ctypes.byref(known))
             self.lines = known.with_lines(self.lines) if end.is_known else None
-        self._library.way_free(self._way)
         os.close(self._service)
+        self._is_left = True
+        if end.is_known or self._is_given_up:
+            self.drop()
         if not self._ended.done():
             self._ended.set_result(end)

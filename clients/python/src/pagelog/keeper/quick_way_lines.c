@@ -17,10 +17,11 @@ void give_back(struct line *line) {
     say(way->plane, &line->event, WAY_LINE_BACK, line);
 }
 
-/* Says how far all is durable. False where the client takes no answer: then it is the keeper's, and so is its question. */
-static bool tell(struct way *way, struct line *line) {
+/* Answers by this word, and how far all is archived. False where the client takes no answer: then it is the keeper's, and so is its
+ * question. */
+static bool tell(struct way *way, struct line *line, const char *word) {
     char answer[2 * WAY_LINE + 2 * NUMBER];
-    int len = snprintf(answer, sizeof answer, "durable %s %" PRIu64 " %" PRIu64 "%s%s\n", way->name, way->start.generation, way->reached,
+    int len = snprintf(answer, sizeof answer, "%s %s %" PRIu64 " %" PRIu64 "%s%s\n", word, way->name, way->start.generation, way->reached,
                        line->is_named ? " " : "", line->is_named ? way->of : "");
     ssize_t sent = send(line->descriptor, answer, (size_t)len, MSG_DONTWAIT | MSG_NOSIGNAL);
     if (sent == len) {
@@ -37,7 +38,7 @@ void tell_all(struct way *way) {
     for (struct line *line = way->lines, *next; line != NULL; line = next) {
         next = line->next;
         bool is_due = line->position != 0 && line->position <= way->reached;
-        if (is_due && !tell(way, line)) {
+        if (is_due && !tell(way, line, "durable")) {
             give_back(line);
         }
     }
@@ -85,7 +86,7 @@ static bool answer(struct way *way, struct line *line, const char *text) {
         return true;
     }
     if (position <= way->reached) {
-        return tell(way, line);
+        return tell(way, line, "durable");
     }
     line->position = position;
     line->asked = false;
@@ -129,10 +130,10 @@ void hear_line(struct line *line) {
 
 /* Going on. */
 
-void leave_waits(struct way *way) {
+void tell_above(struct way *way) {
     for (struct line *line = way->lines, *next; line != NULL; line = next) {
         next = line->next;
-        if (line->asked && line->position != 0) {
+        if (line->asked && line->position != 0 && !tell(way, line, "above")) {
             give_back(line);
         }
     }

@@ -90,8 +90,9 @@ struct way {
 
     /* Under the plane's lock. */
     struct way *next_touched;
-    bool is_touched, is_new, stops, kicked, takes_none, is_watched;
+    bool is_touched, is_new, stops, takes_none, is_watched;
     struct line *added;
+    uint64_t kick, done, found_nothing; /* as `way_done` has them; 0: there was none since */
     uint64_t reached;
     uint8_t chain[WAY_DIGEST];
     size_t chain_len;
@@ -101,12 +102,17 @@ struct way {
     bool is_over, is_gone, rung, news_wanted, news_due, is_active, has_ended;
     enum way_end end;
     int64_t due, asked_at;
+    uint64_t kicked, pulls_for;         /* the last kick, and the last one before the pull */
     struct batch batch;
     struct trail trail;
     size_t pulls;                       /* whose replies are to come of the service */
+    uint64_t first;                     /* the position that the next one of them was asked for */
     size_t depth;                       /* how many the next ones may be */
+    size_t most;                        /* blocks of one */
     size_t pulled;                      /* blocks of the last one; below the most where it has come to the end */
     bool awaits_lines;
+    bool is_outdated;                   /* they were asked for in an epoch that is over: all is asked for again */
+    char why[WAY_WHY];                  /* what PostgreSQL has said of a statement in doubt */
     uint8_t *in;
     size_t in_len, in_room;
 };
@@ -125,6 +131,7 @@ struct session {
 
     enum answer answer;
     bool warned, has_row, wants_out, leaves, is_unclean, is_back;
+    char why[WAY_WHY];                  /* what the server has said of its statement, or libpq of the connection */
     int64_t due;
     int64_t confirm_at;                 /* when a standby is asked for again that had not flushed all; 0: it is being asked for */
     uint64_t wanted, standby;           /* how far one has to have flushed; how far it had; 0: not known */
@@ -214,7 +221,7 @@ void say(struct plane *plane, struct event *event, enum way_news news, void *own
 bool begin_way(struct way *way);
 
 /* Takes what other threads have left of it. They have given it these lines. */
-void take_order(struct way *way, struct line *added, bool stops, bool kicked);
+void take_order(struct way *way, struct line *added, bool stops, uint64_t kick);
 
 /* Sees to it before the turn is over. */
 void set_active(struct way *way);
@@ -239,8 +246,8 @@ void tell_all(struct way *way);
 /* Hears a line that has something to say. */
 void hear_line(struct line *line);
 
-/* Who waited before a pull that found nothing waits for what is not there: the keeper says so. */
-void leave_waits(struct way *way);
+/* Who waited before a pull that found nothing waits for what is not there. */
+void tell_above(struct way *way);
 
 /* What it was kicked for before the last pull is archived, or is not there. */
 void tell_news(struct way *way);

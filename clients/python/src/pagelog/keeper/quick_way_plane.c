@@ -149,6 +149,8 @@ static void tell_event(struct event *event, struct way_event *told) {
         const struct way *way = event->owner;
         told->key = way->start.key;
         told->end = event->news == WAY_ENDED ? (int)way->end : 0;
+        told->len = told->end == WAY_DOUBT ? strlen(way->why) : 0;
+        memcpy(told->data, way->why, told->len);
     }
 }
 
@@ -187,7 +189,7 @@ static void take_lent(struct plane *plane) {
 }
 
 /* The next of those that were touched, and what was left of it. */
-static struct way *next_touched(struct plane *plane, struct line **added, bool *is_new, bool *stops, bool *kicked) {
+static struct way *next_touched(struct plane *plane, struct line **added, bool *is_new, bool *stops, uint64_t *kick) {
     pthread_mutex_lock(&plane->lock);
     struct way *way = plane->touched;
     if (way != NULL) {
@@ -196,9 +198,10 @@ static struct way *next_touched(struct plane *plane, struct line **added, bool *
         *added = way->added;
         *is_new = way->is_new;
         *stops = way->stops;
-        *kicked = way->kicked;
+        *kick = way->kick;
         way->added = NULL;
-        way->is_new = way->kicked = false;
+        way->is_new = false;
+        way->kick = 0;
     }
     pthread_mutex_unlock(&plane->lock);
     return way;
@@ -217,16 +220,17 @@ static void take_orders(struct plane *plane) {
     pthread_mutex_unlock(&plane->lock);
     struct way *way;
     struct line *added;
-    bool is_new, stops, kicked;
-    while ((way = next_touched(plane, &added, &is_new, &stops, &kicked)) != NULL) {
+    bool is_new, stops;
+    uint64_t kick;
+    while ((way = next_touched(plane, &added, &is_new, &stops, &kick)) != NULL) {
         bool is_begun = !is_new || begin_way(way);
-        take_order(way, added, stops, kicked);
+        take_order(way, added, stops, kick);
         if (!is_begun) {
             end_way(way, WAY_NO_MEMORY);
         }
     }
     for (way = plane->is_over ? plane->ways : NULL; way != NULL; way = way->next) {
-        take_order(way, NULL, true, false);
+        take_order(way, NULL, true, 0);
     }
 }
 

@@ -1,5 +1,6 @@
 #include "quick_way_parts.h"
 
+#include <stdio.h>
 #include <string.h>
 #include <sys/epoll.h>
 
@@ -57,11 +58,18 @@ void leave_if_free(struct session *session) {
 /* It cannot be known what became of its statement, or it is of no use any more. */
 static void lose(struct session *session) {
     for (size_t at = 0; at < session->count; at++) {
+        memcpy(session->ways[at]->why, session->why, sizeof session->why);
         end_way(session->ways[at], WAY_DOUBT);
     }
     session->count = 0;
     session->answer = FREE;
     session->is_unclean = true;
+}
+
+/* What was said last of its statement, in one line. */
+static void note(struct session *session, const char *said) {
+    snprintf(session->why, sizeof session->why, "%s", said == NULL ? "" : said);
+    session->why[strcspn(session->why, "\n")] = 0;
 }
 
 void begin_session(struct session *session) {
@@ -86,8 +94,6 @@ static bool flush(struct session *session) {
 void set_due(struct way *way) {
     struct plane *plane = way->plane;
     way->phase = DUE;
-    way->due = now_ms() + way->start.referee_ms;
-    wake_by(plane, way->due);
     way->next_due = NULL;
     *plane->last_due = way;
     plane->last_due = &way->next_due;
@@ -107,19 +113,23 @@ void take_from_due(struct way *way) {
     plane->due--;
 }
 
-/* Gives it what is due: few blocks of each, or what one has that is behind. */
+/* Gives it what is due: few blocks of each, or what one has that is behind, or that was tried before. */
 static void take_due(struct session *session) {
     struct plane *plane = session->plane;
-    bool takes_many = session == plane->sessions, has_many = false;
+    bool takes_many = session == plane->sessions, has_one = false;
     size_t bytes = 0;
     session->count = 0;
-    for (struct way *way = plane->first_due, *next; way != NULL && !has_many; way = next) {
+    for (struct way *way = plane->first_due, *next; way != NULL && !has_one; way = next) {
         next = way->next_due;
-        bool is_many = way->batch.blocks > FEW;
-        if (session->count == SESSION_WAYS || bytes >= SESSION_BYTES || (is_many && (!takes_many || session->count > 0))) {
+        if (way->trail.count > 0 && session->keep_lines == NULL) {
+            end_way(way, WAY_LINES);
             continue;
         }
-        has_many = is_many;
+        bool is_many = way->batch.blocks > FEW, is_alone = is_many || way->start.is_careful;
+        if (session->count == SESSION_WAYS || bytes >= SESSION_BYTES || (is_many && !takes_many) || (is_alone && session->count > 0)) {
+            continue;
+        }
+        has_one = is_alone;
         take_from_due(way);
         way->phase = KEEPING;
         bytes += way->batch.len;
@@ -139,6 +149,7 @@ static void ask(struct session *session) {
     session->due = now_ms() + session->ways[0]->start.referee_ms;
     wake_by(plane, session->due);
     session->warned = session->has_row = false;
+    session->why[0] = 0;
     bool is_asked = false;
     if (send_batches(session, &is_asked) && flush(session)) {
         return;
@@ -180,6 +191,7 @@ static bool take_flushed(struct session *session, const PGresult *result) {
 /* Takes a result. False where it leaves in doubt what became of the statement. */
 static bool take_result(struct session *session, const PGresult *result) {
     if (PQresultStatus(result) != PGRES_TUPLES_OK || session->has_row) {
+        note(session, PQresultErrorField(result, PG_DIAG_MESSAGE_PRIMARY));
         return false;
     }
     session->has_row = true;
@@ -201,6 +213,7 @@ static bool take_answer(struct session *session, bool *is_whole) {
     PGconn *connection = session->connection;
     *is_whole = false;
     if (PQconsumeInput(connection) == 0 || !flush(session)) {
+        note(session, PQerrorMessage(connection));
         return false;
     }
     while (session->answer != FREE && PQisBusy(connection) == 0) {
@@ -247,13 +260,15 @@ static void enter(struct way *way) {
     way->reached = way->batch.reached;
     way->chain_len = way->batch.chain_len;
     memcpy(way->chain, way->batch.chain, way->batch.chain_len);
+    way->done = way->pulls_for;
     way->news_due |= way->is_watched;
     pthread_mutex_unlock(&way->plane->lock);
     if (way->trail.count > 0) {
         enter_lines(&way->trail);
     }
     way->phase = READY;
-    way->rung |= way->pulled == PULL_MOST; /* there may be more */
+    way->rung |= way->pulled == way->most; /* there may be more */
+    way->start.is_careful = 0;
     trim(way);
     wake_by(way->plane, until(way));
     if (way->start.noted != NULL && *way->start.noted < way->reached) {

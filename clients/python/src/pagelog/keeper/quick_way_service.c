@@ -10,6 +10,8 @@ enum {
     BLOCKS = 1,      /* the kind of such a reply */
     DENIED = 5,      /* that of a denial: its section, its row, and a value of 8 bytes */
     DENIED_LEN = 12,
+    EMPTY_LEN = 12,  /* bytes of a block without records: its LSN, and zeros */
+    EPOCH_AT = 29,   /* where a frame has the epoch, 4 bytes */
     REPLY_HEAD = 11, /* its kind, the next LSN, and how many blocks */
     REPLY_MOST = 524363,
     READ_MANY = 1 << 16, /* bytes that are read at once of many replies */
@@ -38,17 +40,19 @@ static bool ask(struct way *way) {
     uint8_t questions[(PULLS + 1) * FRAME_MOST];
     size_t len = 0, room = (WAY_BLOCKS - way->batch.blocks) / PULL_MOST;
     way->pulls = way->depth < room ? way->depth : room;
+    way->first = way->batch.reached + 1;
     for (size_t pull = 0; pull < way->pulls; pull++) {
         memcpy(questions + len, way->asks, way->start.pull_len);
         len += way->start.pull_len;
-        put_number(questions + len - 10, way->batch.reached + 1 + pull * PULL_MOST - way->start.shift);
+        put_number(questions + len - 10, way->first + pull * PULL_MOST - way->start.shift);
+        questions[len - 1] = (uint8_t)way->most; /* of two bytes */
     }
     forget_lines(&way->trail);
     way->awaits_lines = way->trail.is_kept;
     if (way->awaits_lines) {
         len += put_audit(way, questions + len);
     }
-    way->pulled = PULL_MOST;
+    way->pulled = way->most;
     return send_questions(way, questions, len);
 }
 
@@ -64,6 +68,8 @@ void begin_pull(struct way *way) {
         line->asked = line->position != 0;
     }
     way->rung = false;
+    way->pulls_for = way->kicked;
+    way->most = way->start.is_careful ? 1 : PULL_MOST;
     way->news_due |= way->news_wanted;
     way->news_wanted = false;
     way->batch.blocks = way->batch.len = 0;
@@ -99,29 +105,69 @@ static bool take_block(struct way *way, const uint8_t *block, size_t len) {
     return true;
 }
 
-/* Takes the blocks of a reply. False where it is something else than those behind the batch, without a gap. `count` is how many. */
-static bool take_blocks(struct way *way, const uint8_t *body, size_t len, size_t *count) {
-    if (len < REPLY_HEAD || body[0] != BLOCKS) {
-        return false;
+/* Takes blocks without records, which no pull serves, up to before this position, if the batch has room for them. `rest`: bytes that come
+ * behind them. False without memory. */
+static bool fill_up(struct way *way, uint64_t position, size_t rest) {
+    struct batch *batch = &way->batch;
+    uint8_t empty[EMPTY_LEN] = {0};
+    while (batch->reached + 1 < position && batch->blocks < WAY_BLOCKS) {
+        if (!grow(&batch->bytes, &batch->room, batch->len + EMPTY_LEN + rest)) {
+            return false;
+        }
+        put_number(empty, batch->reached + 1 - way->start.shift);
+        take_block(way, empty, EMPTY_LEN);
     }
-    uint64_t next = number_in(body + 1, 8);
+    return true;
+}
+
+/* Takes the blocks of a reply that are behind the batch, and fills up what is between them. `count` is how many it has. */
+static enum way_end take_blocks(struct way *way, const uint8_t *body, size_t len, size_t *count) {
+    if (len < REPLY_HEAD || body[0] != BLOCKS) {
+        return WAY_SERVICE;
+    }
+    struct batch *batch = &way->batch;
+    uint64_t least = way->first, next = number_in(body + 1, 8) + way->start.shift;
     *count = (size_t)number_in(body + 9, 2);
-    if (*count > PULL_MOST) {
-        return false;
+    if (*count > way->most || next <= least || least > batch->reached + 1) {
+        return WAY_SERVICE;
     }
     size_t at = REPLY_HEAD;
     for (size_t block = 0; block < *count; block++) {
-        if (len - at < 4) {
-            return false;
-        }
-        size_t size = (size_t)number_in(body + at, 4);
+        size_t size = len - at < 4 ? 0 : (size_t)number_in(body + at, 4);
         at += 4;
-        if (len - at < size || !take_block(way, body + at, size)) {
-            return false;
+        if (size < EMPTY_LEN || len - at < size) {
+            return WAY_SERVICE;
         }
+        uint64_t position = number_in(body + at, 8) + way->start.shift;
+        if (position < least || position >= next) {
+            return WAY_SERVICE;
+        }
+        if (!fill_up(way, position, len - at)) {
+            return WAY_NO_MEMORY;
+        }
+        if (position == batch->reached + 1 && batch->blocks < WAY_BLOCKS && !take_block(way, body + at, size)) {
+            return WAY_SERVICE;
+        }
+        least = position + 1;
         at += size;
     }
-    return at == len && next == way->batch.reached + 1 - way->start.shift;
+    return at != len ? WAY_SERVICE : fill_up(way, next, 0) ? WAY_STOPPED : WAY_NO_MEMORY;
+}
+
+/* Whether a reply denies what was asked for the sake of an epoch that has begun: all is asked for again, in that. */
+static bool is_outdated(struct way *way, const uint8_t *body, size_t len) {
+    uint64_t epoch = len == DENIED_LEN ? number_in(body + 4, 8) : 0;
+    if (epoch <= number_in(way->asks + EPOCH_AT, 4) || body[0] != DENIED || body[1] != 1 || body[2] != 0 || body[3] < 2 || body[3] > 3 ||
+        epoch > UINT32_MAX) {
+        return false;
+    }
+    size_t at[] = {EPOCH_AT, way->start.pull_len + EPOCH_AT};
+    for (size_t frame = 0; frame < (way->trail.is_kept ? 2 : 1); frame++) {
+        for (size_t byte = 0; byte < 4; byte++) {
+            way->asks[at[frame] + byte] = (uint8_t)(epoch >> (24 - 8 * byte));
+        }
+    }
+    return true;
 }
 
 /* Whether a reply denies the pull because the log ends with the blocks of the batch. */
@@ -154,30 +200,39 @@ static bool receive(struct way *way, bool *lacks_memory) {
 static enum way_end take_pulled(struct way *way, const uint8_t *body, size_t len) {
     struct batch *batch = &way->batch;
     way->pulls--;
-    if (way->pulled < PULL_MOST) {
+    way->is_outdated |= is_outdated(way, body, len);
+    if (way->pulled < way->most || batch->blocks == WAY_BLOCKS || way->is_outdated) {
         return WAY_STOPPED;
     }
     if (!grow(&batch->bytes, &batch->room, batch->len + len)) {
         return WAY_NO_MEMORY;
     }
-    way->pulled = 0;
     size_t fits = len < WAY_BYTES / PULLS ? PULLS : WAY_BYTES / len;
     way->depth = 4 * way->depth < fits ? 4 * way->depth : fits > 0 ? fits : 1;
-    return is_the_end(way, body, len) || take_blocks(way, body, len, &way->pulled) ? WAY_STOPPED : WAY_SERVICE;
+    way->pulled = 0;
+    enum way_end end = is_the_end(way, body, len) ? WAY_STOPPED : take_blocks(way, body, len, &way->pulled);
+    if (batch->blocks == WAY_BLOCKS) {
+        way->pulled = way->most; /* there may be more than it has room for */
+    }
+    way->first += PULL_MOST;
+    return end;
 }
 
 /* Nothing was there. */
 static void rest(struct way *way) {
     way->phase = READY;
+    pthread_mutex_lock(&way->plane->lock);
+    way->done = way->found_nothing = way->pulls_for;
+    pthread_mutex_unlock(&way->plane->lock);
     wake_by(way->plane, until(way));
-    leave_waits(way);
+    tell_above(way);
     tell_news(way);
     set_active(way);
 }
 
 /* Whether there may be more blocks, and room for them. */
 static bool pulls_on(const struct way *way) {
-    return way->pulled == PULL_MOST && way->batch.blocks + PULL_MOST <= WAY_BLOCKS && way->batch.len < WAY_BYTES;
+    return way->pulled == way->most && !way->start.is_careful && way->batch.blocks + PULL_MOST <= WAY_BLOCKS && way->batch.len < WAY_BYTES;
 }
 
 /* Goes on once all has come that was asked for. Returns WAY_STOPPED where nothing stands against it. */
@@ -185,7 +240,8 @@ static enum way_end go_on(struct way *way) {
     if (way->in_len > 0) {
         return WAY_SERVICE; /* more than was asked for */
     }
-    if (pulls_on(way)) {
+    if (way->is_outdated || pulls_on(way)) {
+        way->is_outdated = false;
         return ask(way) ? WAY_STOPPED : WAY_SERVICE;
     }
     if (way->batch.blocks == 0) {
@@ -201,6 +257,10 @@ static enum way_end go_on(struct way *way) {
 static enum way_end take_listed(struct way *way, const uint8_t *body, size_t len) {
     bool is_more = false;
     way->awaits_lines = false;
+    way->is_outdated |= is_outdated(way, body, len);
+    if (way->is_outdated) {
+        return WAY_STOPPED;
+    }
     if (!take_lines(way, body, len, &is_more)) {
         return WAY_LINES;
     }

@@ -40,7 +40,9 @@ _Result = TypeVar("_Result")
 class Turn:
     """Held from when lines are asked for until it is known whether they are kept, and by a thread until it has done."""
 
-    def __init__(self, patience: float) -> None:
+    def __init__(self, patience: float, freed: Callable[[], None] = lambda: None) -> None:
+        """`freed` is called once it was left."""
+        self._freed = freed
         self._lock = asyncio.Lock()
         self._patience = patience
         self._work: asyncio.Future[Any] | None = None
@@ -55,18 +57,31 @@ class Turn:
         if self._is_late:
             return False
         try:
-            async with asyncio.timeout(self._patience if self._lock.locked() else None):
+            async with asyncio.timeout(
+                self._patience
+            ):  # also where it is free: another may be before it
                 await self._lock.acquire()
         except TimeoutError:
             self._is_late = True
         return not self._is_late
 
+    @property
+    def is_free(self) -> bool:
+        """Whether nobody has it."""
+        return not self._lock.locked()
+
+    @property
+    def is_at_work(self) -> bool:
+        """Whether a thread has not done yet what it was given."""
+        return self._work is not None and not self._work.done()
+
     def leave(self) -> None:
         """It is free, once a thread has done that was not waited for."""
-        if self._work is None or self._work.done():
+        if not self.is_at_work:
             self._is_late = False
             self._lock.release()
-        else:
+            self._freed()
+        elif self._work is not None:
             self._work.add_done_callback(lambda _: self.leave())
 
     async def spend(
@@ -90,10 +105,16 @@ class Trails:
         self.thread = ThreadPoolExecutor(1)
 
     def recorder(
-        self, served: Served, of: Of, say: Callable[[str, str], None], *, is_waited_for: bool
+        self,
+        served: Served,
+        of: Of,
+        say: Callable[[str, str], None],
+        freed: Callable[[], None],
+        *,
+        is_waited_for: bool,
     ) -> Recorder:
-        """Of one run, which this keeper holds."""
-        return Recorder(self, served, of, say, is_waited_for)
+        """Of one run, which this keeper holds. `freed` is called where it may keep lines with blocks again."""
+        return Recorder(self, served, of, say, freed, is_waited_for)
 
     def trail(self, name: str, of: Of) -> Trail:
         """That of a database."""
@@ -116,13 +137,14 @@ class Recorder:
         served: Served,
         of: Of,
         say: Callable[[str, str], None],
+        freed: Callable[[], None] = lambda: None,
         is_waited_for: bool = False,
     ) -> None:
         self._trails, self._served, self._of, self._say = trails, served, of, say
         self._operator = served.operator()  # it connects once it asks
         self._due = asyncio.Event()
         self._due.set()
-        self.turn = Turn(_PATIENCE * trails.ttl)
+        self.turn = Turn(_PATIENCE * trails.ttl, freed)
         self._keeper: TrailKeeper | None = None
         self._kept, self._last, self._pruned = 0, float("-inf"), 0
         self._said = ""
@@ -183,26 +205,29 @@ class Recorder:
                 return is_all
         return False
 
-    async def lines(self) -> Lines | None:
-        """The lines that come behind the kept ones, to be kept with the blocks that they speak of. The turn is the caller's.
+    async def catch_up_soon(self) -> None:
+        """A thread keeps what there is, as after a doubt, or where there are very many lines. Where it cannot, or that takes long, it is said:
+        blocks wait for no trail. The turn is the caller's."""
+        if not self._is_over:
+            is_all = await self.turn.spend(self._trails.thread, self._keep, is_short=True)
+            if is_all is None:
+                self._due.set()
+                self._say_without()
 
-        None where a thread has kept them meanwhile, as after a doubt; or where it cannot be done, or takes long, which is said: blocks
-        wait for no trail.
-        """
-        one = None if self._is_over or self._keeper is None else self._keeper.list
-        found = None if one is None else await self._served.lines_at_once(one.kept + 1)
-        if one is not None and found:
-            return Lines(*piece_behind(one, found, now()))
-        if (
-            not self._is_over
-            and await self.turn.spend(self._trails.thread, self._keep, is_short=True) is None
-        ):
-            self._due.set()
-            self._say_without()
-        return None
+    @property
+    def may_lend(self) -> bool:
+        """Whether nobody has the list, and it is known how far it is."""
+        return self.turn.is_free and self._known is not None
+
+    @property
+    def _known(self) -> TrailList | None:
+        """The list, if it is known how far it is, and no thread is at it."""
+        is_known = not (self._is_over or self._keeper is None or self.turn.is_at_work)
+        return self._keeper.list if self._keeper is not None and is_known else None
 
     def last_lines(self) -> Lines | None:
-        """As `lines`, of a list that grows no more, in a thread of the caller's, who has the turn. None where it cannot be done."""
+        """The lines that come behind the kept ones, of a list that grows no more, to be kept with the blocks that they speak of: in a
+        thread of the caller's, who has the turn. None where it cannot be done."""
         one = None if self._is_over or self._keeper is None else self._keeper.list
         if one is None:
             return None
@@ -230,7 +255,7 @@ class Recorder:
         """The list, for one who keeps its lines with the blocks in place of this, until `take_back`; None where that cannot be. `wanted` is
         called once it is needed here, as once a day to prune. The turn is the caller's until then.
         """
-        one = None if self._is_over or self._keeper is None else self._keeper.list
+        one = self._known
         self._wanted = None if one is None else wanted
         return one
 
@@ -263,6 +288,8 @@ class Recorder:
         self._is_without = True
 
     async def _call(self, work: Callable[[], bool | None]) -> bool | None:
+        if self._wanted is not None:
+            self._wanted()
         await self.turn.take()
         try:
             return await self.turn.spend(self._trails.thread, work)

@@ -3,6 +3,7 @@
 from __future__ import annotations
 
 import asyncio
+import socket
 import time
 from contextlib import suppress
 from itertools import islice
@@ -20,7 +21,6 @@ from pagelog.keeper.images import blocks_of, labelled
 from pagelog.keeper.loading import EPOCH, GROUP, Loader
 from pagelog.keeper.looker import Looker
 from pagelog.keeper.machine import Kind
-from pagelog.keeper.puller import Puller, connected
 from pagelog.keeper.referee import BrokenArchive, Referee, digest
 from pagelog.keeper.rows import TableOf, Where
 from pagelog.keeper.run import NotStarted, Program, Run
@@ -30,7 +30,7 @@ from pagelog.keeper.ways import NOWHERE, Way
 from pagelog.operator import Operator
 from pagelog.reader import Reader, Span
 from pagelog.reply import Entries, State, expect
-from pagelog.request import Audit, Status
+from pagelog.request import AUDIT_MAX, Act, Audit, Head, Pull, Request, Role, Status
 
 FEW = 16
 """So many entries of an audit list a look may not have seen yet. Its own questions alone are two."""
@@ -209,7 +209,6 @@ class Served:
         self._looker = Operator(self._connection(process), credentials)
         self._quick_looker = Looker(process.address, credentials, self.timeout)
         self._reader = Reader(self._connection(process), credentials)
-        self._puller = Puller(process.address, credentials, self.timeout)
         self.acknowledged = process.acknowledged
         self.process = process  # last: from now on the event loop asks it
 
@@ -451,28 +450,35 @@ class Served:
 
     # Pulling.
 
-    async def pulled_at_once(self, position: int) -> list[bytes] | None:
-        """As `pulled`, of few blocks, and without a thread; None where `pulled` has to see to it."""
-        found = await self._puller.pull(position - self.shift, self._reader.epoch)
-        if found is None:
-            return None
-        self.hard = max(self.hard, position + len(found))
-        return labelled(found, position + 1) if self.shift else found
-
     async def pulling_line(self) -> tuple[int, bytes, bytes]:
-        """A descriptor of a connection of its own to the service, which does not block, and a pull and a question for lines as frames.
-        Raises `OSError`."""
+        """A descriptor of a connection of its own to the service, which does not block, and a pull and a question for lines as frames, which
+        end with the LSN or the number of a line, and how many. Raises `OSError`."""
         assert self.process is not None
-        made = await asyncio.to_thread(connected, Address.parse(self.process.address), self.timeout)
-        return (
-            made.detach(),
-            self._puller.frame(self._reader.epoch),
-            self._puller.audit_frame(self._reader.epoch),
-        )
+        address = Address.parse(self.process.address)
+        made = await _connected(address, self.timeout)
+        return made.detach(), *self.questions()
 
-    async def lines_at_once(self, first: int) -> bytes | None:
-        """The bytes of the audit list's lines from this number on, without a thread; None where they are not to be had so."""
-        return await self._puller.audit(first, self._reader.epoch)
+    def questions(self) -> tuple[bytes, bytes]:
+        """A pull, and a question for lines of the audit list, as frames."""
+        credentials = self._reader.credentials
+        asked: tuple[tuple[Role, Act], ...] = (
+            (Role.SECONDARY, Pull(1)),
+            (Role.OPERATOR, Audit(1, AUDIT_MAX)),
+        )
+        pull, audit = (
+            Request(
+                Head(credentials.id, credentials.token, role, 0, self._reader.epoch), act
+            ).encode()
+            for role, act in asked
+        )
+        return _framed(pull), _framed(audit)
+
+    def ask_for_more(self) -> None:
+        """Asks for the next blocks, and leaves them: what stands against that is raised, or known then."""
+        try:
+            self._reader.span(self.reached + 1 - self.shift, pulls=1)
+        finally:
+            self.is_full |= self._reader.has_lacked_memory
 
     def began_with(self) -> Iterator[list[bytes]]:
         """The blocks that make the images with which it began, as they are there."""
@@ -522,6 +528,32 @@ def _pieces(blocks: Iterator[bytes]) -> Iterator[list[bytes]]:
     while piece := labelled(islice(blocks, GROUP), first):
         yield piece
         first += len(piece)
+
+
+async def _connected(address: Address, timeout: float) -> socket.socket:
+    """A connection that does not block, made within so many seconds. Raises `OSError`."""
+    loop, error = asyncio.get_running_loop(), OSError(f"{address}: no address is found")
+    async with asyncio.timeout(timeout):
+        for family, kind, _, _, where in await loop.getaddrinfo(
+            address.host, address.port, type=socket.SOCK_STREAM
+        ):
+            made = socket.socket(family, kind)
+            try:
+                made.setblocking(False)
+                made.setsockopt(socket.IPPROTO_TCP, socket.TCP_NODELAY, 1)
+                await loop.sock_connect(made, where)
+                return made
+            except OSError as failed:
+                made.close()
+                error = failed
+            except BaseException:
+                made.close()
+                raise
+    raise error
+
+
+def _framed(body: bytes) -> bytes:
+    return len(body).to_bytes(4, "big") + body
 
 
 def seconds() -> float:

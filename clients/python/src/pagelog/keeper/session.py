@@ -5,10 +5,9 @@ from __future__ import annotations
 import asyncio
 import os
 from concurrent.futures import ThreadPoolExecutor
-from typing import Any, Callable, Sequence, TypeVar
+from typing import Any, Callable, TypeVar
 
 from pagelog.keeper.referee import Referee
-from pagelog.keeper.rows import Batch
 
 Result = TypeVar("Result")
 _LONGEST = 60.0
@@ -70,10 +69,6 @@ class Session:
     def _end_turn(self) -> None:
         self._take_notified()
         self._turn.release()
-
-    async def keep(self, batches: Sequence[Batch]) -> frozenset[int]:
-        """What the referee's `keep` returns or raises."""
-        return await self.ask(self.referee.keep, batches)
 
     def was_quick(self) -> None:
         """A statement has come to its end in time."""

@@ -8,7 +8,7 @@ from functools import partial
 from typing import TYPE_CHECKING, Any, Callable, Coroutine
 
 from pagelog.keeper.aside import Asides
-from pagelog.keeper.committer import Committer
+from pagelog.keeper.doubts import Doubts
 from pagelog.keeper.fates import EACH_BLOCK, Questions, tell_block, tell_fate
 from pagelog.keeper.fate import Of
 from pagelog.keeper.front import Front
@@ -38,11 +38,11 @@ class Shared:
     settings: Settings
     life: str
     session: Session
-    committer: Committer
+    doubts: Doubts
+    ways: QuickPlane
     say: Callable[[str, str], None]
     changed: Callable[[str], None]
     trails: Trails | None = None
-    ways: QuickPlane | None = None
     front: Front | None = None
     """What leads clients to the services by TLS."""
     ending: bool = False

@@ -238,9 +238,6 @@ class Succession:
                 raise Refused("the table was changed meanwhile")
             await self._follow(served)
             await asyncio.to_thread(successor.open)  # nobody knows where it is, nor has its tokens
-            await successor.pulled_at_once(
-                successor.reached
-            )  # the first batch finds its connection made
             await self._ask(rehearse)
             with successor.loader() as loader:
                 if not await self._near(served, archiver):
@@ -254,10 +251,10 @@ class Succession:
     async def _near(self, served: Served, archiver: Archiver) -> bool:
         """Archives until little is left for the switch. False where the archive is not this run's any more."""
         for _ in range(_ROUNDS):
-            async with archiver.turn:
-                before = served.reached
-                if not await archiver.archived():
-                    return False
+            before = served.reached
+            await archiver.caught_up()
+            if archiver.is_over:
+                return False
             await self._follow(served)
             if served.reached - before <= _LITTLE:
                 break

@@ -71,7 +71,7 @@ class Work:
             row,
             served,
             self._waits,
-            self._shared.committer,
+            self._shared.doubts,
             self._shared.repeats.say,
             self._news,
             self._shared.ways,
@@ -87,11 +87,16 @@ class Work:
         if self._shared.trails is not None and self.recorder is None and served is self._served:
             of = Of(self._identity, served.run)
             self.recorder = self._shared.trails.recorder(
-                served, of, self._shared.repeats.say, is_waited_for=is_first
+                served, of, self._shared.repeats.say, self._line_up, is_waited_for=is_first
             )
             if self.archiver is not None:
                 self.archiver.recorder = self.recorder
             self._recording = self._shared.spawn(self.recorder.run(), self._name)
+
+    def _line_up(self) -> None:
+        """Lines may be kept with the blocks from now on."""
+        if self.archiver is not None:
+            self.archiver.line_up()
 
     def _news(self) -> None:
         self._shared.session.woken.set()
@@ -137,6 +142,11 @@ class Work:
             await asyncio.wait(
                 {asyncio.create_task(recorder.catch_up())}, timeout=self._shared.settings.ttl
             )
+
+    def stop_archiving(self) -> None:
+        """Nothing more of it can be archived."""
+        if self._archiving is not None:
+            self._archiving.cancel()
 
     def stop(self) -> None:
         """Nothing is done any more with the service."""
