@@ -1,0 +1,12 @@
+"""Of what writers of SQLite are told in many orders of events: edits of clients/c."""
+
+from plant import Plant
+
+_MOVE, _ORDERS, _TEST = "c/pagelog_move.c", "c/orders", "holds_in_every_order"
+
+PLANTS = {
+    "orders, any block is the same": Plant(_MOVE, "    return one_length == other_length &&\n           memcmp(one + LSN_BYTES, other + LSN_BYTES, one_length - LSN_BYTES) == 0;\n",
+                                           "    return one_length > 0 || memcmp(one, other, 0) == (int)other_length;\n", _ORDERS, _TEST),
+    "orders, a loss is not told": Plant(_MOVE, "    bool was_told = position <= named->own;\n    pagelog_tail_cut", "    bool was_told = false;\n    pagelog_tail_cut", _ORDERS, _TEST),
+    "orders, durable beyond the end": Plant(_MOVE, "    uint64_t told = fate.end < named->told ? fate.end : named->told;\n", "    uint64_t told = named->tail.next - 1;\n", _ORDERS, _TEST),
+}  # fmt: skip
