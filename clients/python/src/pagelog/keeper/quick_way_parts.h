@@ -126,6 +126,7 @@ struct session {
     struct event back;
     uint64_t key;
     PGconn *connection;
+    int watched;                        /* a descriptor of its socket, which libpq may close at any time; -1: there is none */
     char *keep, *keep_block, *keep_lines, *flushed;
     bool is_retracted;                  /* under the plane's lock */
 

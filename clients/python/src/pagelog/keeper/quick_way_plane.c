@@ -74,6 +74,7 @@ static struct session *new_session(const struct session_start *start) {
     session->kind = SESSION;
     session->key = start->key;
     session->connection = start->connection;
+    session->watched = -1;
     session->keep = strdup(start->keep);
     session->keep_block = strdup(start->keep_block);
     session->keep_lines = start->keep_lines == NULL ? NULL : strdup(start->keep_lines);
@@ -134,21 +135,21 @@ static void tell_of_line(const struct line *line, struct way_event *told) {
 }
 
 /* Says what an event says, and frees what nobody needs any more. */
-static void tell_event(struct event *event, struct way_event *told) {
-    *told = (struct way_event){.news = (int)event->news};
-    if (event->news == WAY_LINE_BACK) {
-        struct line *line = event->owner;
+static void tell_event(enum way_news news, void *owner, struct way_event *told) {
+    *told = (struct way_event){.news = (int)news};
+    if (news == WAY_LINE_BACK) {
+        struct line *line = owner;
         tell_of_line(line, told);
         free(line);
-    } else if (event->news == WAY_SESSION_BACK) {
-        struct session *session = event->owner;
+    } else if (news == WAY_SESSION_BACK) {
+        struct session *session = owner;
         told->key = session->key;
         told->end = session->is_unclean;
         free_session(session);
     } else {
-        const struct way *way = event->owner;
+        const struct way *way = owner;
         told->key = way->start.key;
-        told->end = event->news == WAY_ENDED ? (int)way->end : 0;
+        told->end = news == WAY_ENDED ? (int)way->end : 0;
         told->len = told->end == WAY_DOUBT ? strlen(way->why) : 0;
         memcpy(told->data, way->why, told->len);
     }
@@ -157,7 +158,11 @@ static void tell_event(struct event *event, struct way_event *told) {
 int plane_next(struct plane *plane, struct way_event *told) {
     pthread_mutex_lock(&plane->lock);
     struct event *event = plane->said;
+    enum way_news news = WAY_ARCHIVED;
+    void *owner = NULL;
     if (event != NULL) {
+        news = event->news; /* now: it may be said again at any time */
+        owner = event->owner;
         plane->said = event->next;
         event->is_queued = false;
         if (plane->said == NULL) {
@@ -168,7 +173,7 @@ int plane_next(struct plane *plane, struct way_event *told) {
     if (event == NULL) {
         return 0;
     }
-    tell_event(event, told);
+    tell_event(news, owner, told);
     return 1;
 }
 
@@ -239,14 +244,13 @@ static void take_orders(struct plane *plane) {
 void say(struct plane *plane, struct event *event, enum way_news news, void *owner) {
     pthread_mutex_lock(&plane->lock);
     bool is_queued = event->is_queued;
-    event->is_queued = true;
+    if (!is_queued) {
+        *event = (struct event){.news = news, .owner = owner, .is_queued = true};
+    }
     pthread_mutex_unlock(&plane->lock);
     if (is_queued) {
         return; /* who takes that sees this too */
     }
-    event->next = NULL;
-    event->news = news;
-    event->owner = owner;
     *plane->last_event = event;
     plane->last_event = &event->next;
 }

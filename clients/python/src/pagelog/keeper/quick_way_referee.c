@@ -1,5 +1,6 @@
 #include "quick_way_parts.h"
 
+#include <fcntl.h>
 #include <stdio.h>
 #include <string.h>
 #include <sys/epoll.h>
@@ -37,7 +38,10 @@ static void count_warning(void *argument, const PGresult *notice) {
 /* It is the keeper's again. */
 static void leave(struct session *session) {
     struct plane *plane = session->plane;
-    watch_no_more(plane, PQsocket(session->connection));
+    if (session->watched >= 0) { /* also where a child that was just forked has the socket still: it would be heard of again and again */
+        watch_no_more(plane, session->watched);
+        close(session->watched);
+    }
     PQsetNoticeReceiver(session->connection, count_warning, NULL);
     pthread_mutex_lock(&plane->lock);
     *session->place = session->next;
@@ -75,7 +79,8 @@ static void note(struct session *session, const char *said) {
 void begin_session(struct session *session) {
     PQsetnonblocking(session->connection, 1);
     PQsetNoticeReceiver(session->connection, count_warning, session);
-    session->is_unclean = !watch(session->plane, PQsocket(session->connection), session);
+    session->watched = fcntl(PQsocket(session->connection), F_DUPFD_CLOEXEC, 0);
+    session->is_unclean = session->watched < 0 || !watch(session->plane, session->watched, session);
 }
 
 /* Has epoll tell when more can be sent, if there is more. False where the connection is of no use. */
@@ -84,7 +89,7 @@ static bool flush(struct session *session) {
     if (left >= 0 && (left > 0) != session->wants_out) {
         session->wants_out = left > 0;
         struct epoll_event event = {.events = EPOLLIN | (left > 0 ? EPOLLOUT : 0), .data.ptr = session};
-        return epoll_ctl(session->plane->epoll, EPOLL_CTL_MOD, PQsocket(session->connection), &event) == 0;
+        return epoll_ctl(session->plane->epoll, EPOLL_CTL_MOD, session->watched, &event) == 0;
     }
     return left >= 0;
 }
