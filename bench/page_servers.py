@@ -1,16 +1,16 @@
 """Page servers beside the service's own gets, all in one run; what they take; and how soon they have what is durable.
 
-Usage: python3 -B bench/page_servers.py [SHARE]     (1; less pages, blocks and rounds with 0.1)
+Usage: python3 -B bench/page_servers.py [PART ..] [SHARE]     (gets, large, following, readable; 1: less of all with 0.1)
 
 The service is crates/pagelog/out/pagelog, or the program that PAGELOG names; the page server that of `make -C clients/pages`. Servers have
 processors 0 and 1, clients 2 and 3. Both have the same blocks, ten records in each page, and are asked in turn, by bench/frames.c.
 
-- gets of drawn pages, one at a time on 1, 8 and 64 connections, and 64 together on one: rates, and shares of the service's, round by
+- gets: of drawn pages, one at a time on 1, 8 and 64 connections, and 64 together on one: rates, and shares of the service's, round by
   round: the median, and the half of the rounds around it. Then two page servers, each on a processor of its own, beside one.
-- a larger database, of which nothing is in memory, with 512 MiB of cache and O_DIRECT: reads, beside reads of 8 KiB of the same files;
+- large: a database of which nothing is in memory, with 512 MiB of cache and O_DIRECT: reads, beside reads of 8 KiB of the same files;
   memory after many of them.
-- how many blocks are taken in a second, and how soon it answers again after a SIGKILL amid that.
-- under keepers: from when a commit is told to be durable until a get at its position is answered.
+- following: how many blocks are taken in a second, and how soon it answers again after a SIGKILL amid that.
+- readable: under keepers, from when a commit is told to be durable until a get at its position is answered.
 """
 
 import contextlib
@@ -26,13 +26,17 @@ import sys
 import tempfile
 import time
 
-import kept
-import rounds
-from serving import ROOT, SHARE, TABLE, Service, about, build_frames, get, wire, words_of_service
-import serving
-from pagelog.keeper.referee import digest
-from pagelog.pages.process import PagesProcess
-from pagelog.pages.table import lines_of
+WANTED = [word for word in sys.argv[1:] if word.isalpha()]
+sys.argv[1:] = [word for word in sys.argv[1:] if not word.isalpha()]  # serving reads the rest
+
+import kept  # noqa: E402
+import rounds  # noqa: E402
+import serving  # noqa: E402
+from serving import ROOT, SHARE, TABLE, Service, about, build_frames, get, wire  # noqa: E402
+from pagelog import Connection, Reader  # noqa: E402
+from pagelog.keeper.referee import digest  # noqa: E402
+from pagelog.pages.process import PagesProcess  # noqa: E402
+from pagelog.rules import AboveTheEnd  # noqa: E402
 
 PAGES = ROOT / "clients" / "pages" / "out" / "pagelog-pages"
 SERVERS, CLIENTS = {0, 1}, "2,3"
@@ -105,9 +109,9 @@ class Asking:
         return 64 * count / float(asked(self.frames, port, words)[0])
 
 
-def gets(folder, frames):
+def gets(folder):
     """The service and a page server; then two beside one."""
-    asking = Asking(folder, frames)
+    asking = Asking(folder, build_frames(folder))
     blocks = [block(lsn) for lsn in range(1, LAST + 1)]
     table = pathlib.Path(folder, "table.toml")
     table.write_text(ALLOWED)
@@ -331,7 +335,11 @@ def readable(folder):
             env={**os.environ, "PYTHONPATH": str(ROOT / "clients" / "python" / "src")},
         )
         try:
-            with keeping.reader(pages="only") as reader:
+            with keeping.reader(pages="only") as named:
+                kept.eventually(lambda: bool(named.keepers.page_servers()), "a page server")
+                [place] = named.keepers.page_servers()
+                account = named._account.in_run(place.run)
+            with Reader(Connection(place.address), account) as reader:
                 times = [one(primary, reader) for _ in range(max(100, round(1000 * SHARE)))]
         finally:
             follower.send_signal(signal.SIGTERM)
@@ -348,8 +356,13 @@ def one(primary, reader):
     primary.append(kept.RECORD)
     position = primary.commit(durable=True)
     began = time.perf_counter()
-    assert reader.page(0, position).at == position
-    return time.perf_counter() - began
+    while True:
+        with contextlib.suppress(AboveTheEnd):  # it has waited for as long as a get may
+            reader.page(0, position)
+            return time.perf_counter() - began
+
+
+PARTS = {"gets": gets, "large": large, "following": following, "readable": readable}
 
 
 def main():
@@ -357,11 +370,8 @@ def main():
     work = ROOT / "bench" / "work"
     work.mkdir(exist_ok=True)
     with tempfile.TemporaryDirectory(dir=work) as folder:
-        frames = build_frames(folder)
-        gets(folder, frames)
-        large(folder)
-        following(folder)
-        readable(folder)
+        for name in WANTED or PARTS:
+            PARTS[name](folder)
 
 
 if __name__ == "__main__":

@@ -115,21 +115,31 @@ static ssize_t take(const struct connection *connection, uint8_t *bytes, size_t 
     return recv(connection->socket, bytes, room, MSG_DONTWAIT);
 }
 
-static enum step read_once(struct connection *connection) {
-    if (!connection->in && !(connection->in = malloc(MOST_FRAME))) return IS_OVER;
+/* `*is_drained` says that there was no more: what comes later is told. By TLS that is not known. */
+static enum step read_once(struct connection *connection, struct room *common, bool *is_drained) {
+    if (!connection->in) {
+        connection->in = common->spare ? common->spare : malloc(MOST_FRAME);
+        common->spare = NULL;
+    }
+    if (!connection->in) return IS_OVER;
+    size_t room = MOST_FRAME - connection->in_length;
     ssize_t got;
     do {
-        got = take(connection, connection->in + connection->in_length, MOST_FRAME - connection->in_length);
+        got = take(connection, connection->in + connection->in_length, room);
     } while (got < 0 && errno == EINTR);
+    *is_drained = !connection->secure && got > 0 && (size_t)got < room;
     if (got < 0) return errno == EAGAIN || errno == EWOULDBLOCK ? RESTS : IS_OVER;
     connection->in_length += (size_t)got;
     return got == 0 ? IS_OVER : GOES_ON;
 }
 
-/* A silent connection has no buffer. */
-static void give_back(struct connection *connection) {
+/* A silent connection has no buffer: the next one that reads takes it. */
+static void give_back(struct connection *connection, struct room *room) {
     if (connection->in_length != 0) return;
-    free(connection->in);
+    if (room->spare)
+        free(connection->in);
+    else
+        room->spare = connection->in;
     connection->in = NULL;
 }
 
@@ -147,6 +157,7 @@ static enum step shake(struct connection *connection, const struct room *room) {
 bool connection_turn(struct connection *connection, struct room *room) {
     enum step shaken = shake(connection, room);
     if (shaken != GOES_ON) return shaken == RESTS;
+    bool is_drained = false;
     enum step step = send_left(connection), read = GOES_ON;
     while (step == GOES_ON && read == GOES_ON && !connection->is_over) {
         uint8_t *end = room->out;
@@ -154,9 +165,10 @@ bool connection_turn(struct connection *connection, struct room *room) {
         connection->is_over = answered == IS_OVER;
         step = send_replies(connection, room->out, (size_t)(end - room->out));
         if (connection->wanted) break;
-        if (step == GOES_ON && answered == RESTS) read = read_once(connection);
+        if (step == GOES_ON && answered == RESTS)
+            read = is_drained ? RESTS : read_once(connection, room, &is_drained);
         if (read == IS_OVER) connection->is_over = true;
     }
-    give_back(connection);
+    give_back(connection, room);
     return step == RESTS || (step == GOES_ON && !connection->is_over);
 }

@@ -23,6 +23,7 @@ struct connection {
     bool is_over;     /* it ends once its replies are sent */
     uint64_t wanted;  /* the position that its next request waits for; 0: it waits for none */
     int64_t deadline; /* of that, in ms of the system's steady clock */
+    uint32_t watched; /* the events that it is polled for */
     struct connection *before, *after;
 };
 
@@ -34,7 +35,8 @@ struct room {
     const struct shown *shown;
     unsigned wait_ms;
     int64_t now;
-    uint8_t *out; /* of OUT_ROOM */
+    uint8_t *out;   /* of OUT_ROOM */
+    uint8_t *spare; /* of MOST_FRAME, for the next connection that reads; NULL: none is left */
 };
 
 /* Writes, answers and reads as far as that goes without waiting. False: the connection is over. */

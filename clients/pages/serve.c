@@ -56,6 +56,8 @@ static void ring(struct worker *worker) {
 static void watch(struct worker *worker, struct connection *connection, int how) {
     bool sends = connection->out || connection->shakes_out;
     uint32_t events = sends ? EPOLLOUT : connection->wanted ? 0 : EPOLLIN;
+    if (how == EPOLL_CTL_MOD && events == connection->watched) return;
+    connection->watched = events;
     struct epoll_event event = {.events = events, .data.ptr = connection};
     epoll_ctl(worker->poll, how, connection->socket, &event);
 }
@@ -198,6 +200,7 @@ static void free_worker(struct worker *worker) {
     if (worker->bell >= 0) close(worker->bell);
     store_view_free(worker->room.view);
     free(worker->room.out);
+    free(worker->room.spare);
 }
 
 /* Hears of who comes to a listener, if there is one. */

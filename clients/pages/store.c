@@ -10,7 +10,8 @@ enum {
     BLOOM_BITS = 10,
     TABLE_BLOCK = 8 << 10,
     XXH3 = 4,
-    TABLE_FORMAT = 5
+    TABLE_FORMAT = 5,
+    HOT_PART = 8 /* of the cache: whole pages */
 };
 
 static rocksdb_block_based_table_options_t *table_options(struct store *store) {
@@ -104,6 +105,7 @@ static void free_all(struct store *store) {
     if (store->flushes) rocksdb_flushoptions_destroy(store->flushes);
     if (store->options) rocksdb_options_destroy(store->options);
     if (store->cache) rocksdb_cache_destroy(store->cache);
+    hot_free(store->hot);
     free(store->counters);
     free(store->due);
     free(store->folder);
@@ -114,13 +116,14 @@ static void free_all(struct store *store) {
 struct store *store_open(const struct store_settings *settings, char **why) {
     struct store *store = calloc(1, sizeof *store);
     *why = NULL;
-    if (!store || !(store->counters = calloc(COUNTERS, 1)) || !(store->folder = strdup(settings->folder))) {
+    if (!store || !(store->counters = calloc(COUNTERS, 1)) || !(store->folder = strdup(settings->folder)) ||
+        !(store->hot = hot_new(settings->cache / HOT_PART))) {
         if (store) free_all(store);
         *why = strdup("out of memory");
         return NULL;
     }
     store->oldest = store_read_oldest(store->folder);
-    store->cache = rocksdb_cache_create_lru(settings->cache);
+    store->cache = rocksdb_cache_create_lru(settings->cache - settings->cache / HOT_PART);
     store->options = options_of(store, settings);
     store->unlogged = rocksdb_writeoptions_create();
     rocksdb_writeoptions_disable_WAL(store->unlogged, 1);

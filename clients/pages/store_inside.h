@@ -3,6 +3,7 @@
 #define STORE_INSIDE_H
 
 #include "bytes.h"
+#include "hot.h"
 #include "store.h"
 
 #include <rocksdb/c.h>
@@ -31,6 +32,7 @@ struct store {
     rocksdb_writeoptions_t *unlogged;
     rocksdb_readoptions_t *reads;
     rocksdb_cache_t *cache;
+    struct hot *hot;
     rocksdb_flushoptions_t *flushes;
     char *folder;
     _Atomic uint64_t confirmed, written, persisted, oldest;

@@ -89,16 +89,29 @@ static bool apply_set(const struct set *set, uint8_t page[PAGE_BYTES]) {
     return at == set->length;
 }
 
+static bool is_of_page(rocksdb_iterator_t *rows, const uint8_t key[PAGE_KEY]) {
+    size_t length;
+    if (!rocksdb_iter_valid(rows)) return false;
+    const char *found = rocksdb_iter_key(rows, &length);
+    return length == PAGE_KEY && memcmp(found, key, PAGE_PREFIX) == 0;
+}
+
+/* The position of the newest row at or below that of the key, to which it goes; 0: there is none. */
+static uint64_t newest_row(rocksdb_iterator_t *rows, const uint8_t key[PAGE_KEY]) {
+    size_t length;
+    rocksdb_iter_seek(rows, (const char *)key, PAGE_KEY);
+    if (!is_of_page(rows, key)) return 0;
+    return ~number_at((const uint8_t *)rocksdb_iter_key(rows, &length) + PAGE_PREFIX, 8);
+}
+
 /* Walks from the newest row at or below the position back to one that makes the page whole, or to the first.
  */
 static bool gather(struct store_view *view, rocksdb_iterator_t *rows, const uint8_t key[PAGE_KEY],
                    uint8_t out[PAGE_BYTES]) {
     memset(out, 0, PAGE_BYTES);
-    for (rocksdb_iter_seek(rows, (const char *)key, PAGE_KEY); rocksdb_iter_valid(rows);
-         rocksdb_iter_next(rows)) {
+    for (; is_of_page(rows, key); rocksdb_iter_next(rows)) {
         size_t key_length, length;
         const char *found = rocksdb_iter_key(rows, &key_length), *value = rocksdb_iter_value(rows, &length);
-        if (key_length != PAGE_KEY || memcmp(found, key, PAGE_PREFIX) != 0) break;
         if (found[PAGE_KEY - 1] == IMAGE) {
             if (length != PAGE_BYTES) return false;
             memcpy(out, value, PAGE_BYTES);
@@ -118,13 +131,19 @@ static bool is_sound(rocksdb_iterator_t *rows) {
 }
 
 bool store_page(struct store_view *view, uint32_t page, uint64_t position, uint8_t out[PAGE_BYTES]) {
+    /* the writer's own reads are of what is not confirmed yet, each once */
+    struct hot *hot = view == view->store->own ? NULL : view->store->hot;
+    if (hot && hot_find(hot, page, position, out)) return true;
     uint8_t key[PAGE_KEY];
     page_key(key, page, position, IMAGE);
     rocksdb_iterator_t *rows = fresh_rows(view);
+    uint64_t from = newest_row(rows, key);
+    if (hot && is_sound(rows) && hot_is_still(hot, page, from, position, out)) return true;
     bool is_good = gather(view, rows, key, out) && is_sound(rows);
     for (size_t n = view->sets.count; is_good && n-- > 0;)
         is_good = apply_set(&view->sets.found[n], out);
     free_sets(&view->sets);
+    if (hot && is_good) hot_keep(hot, page, from, position, out);
     return is_good;
 }
 

@@ -149,6 +149,20 @@ class Pages(Paged):
                 pages = self.start()
                 self.assertLessEqual(pages.where.confirmed, upto)
 
+    def test_what_is_in_memory_is_right_at_each_position(self) -> None:
+        """Pages that take each other's place there, read again and again, before and behind what changes them."""
+        log = Log(240, 31)
+        pages = self.start("--cache", "1")  # of which 16 whole pages: 0 and 65536 have one place
+        for upto in range(20, 241, 20):
+            self.feed(pages, log, upto)
+            reader = self.reader(pages.address)
+            for _ in range(40):
+                page, back = log.random.choice(PAGES), log.random.choice((0, 0, 0, 1, 2, 5, 30))
+                position = max(0, upto - back)
+                self.assertEqual(
+                    reader.page(page, position).data, log.page_at(page, position), (page, position)
+                )
+
     def test_another_chain_is_never_served(self) -> None:
         log, other = Log(50, 2), Log(50, 3)
         pages = self.start()
