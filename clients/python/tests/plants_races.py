@@ -30,4 +30,5 @@ PLANTS = {
                                      "if True:  # else it may be the only copy: the next look shows that", "beginnings", "has_lost_since_the_look"),
     "standbys, another history": Plant("referee", "return not found or not (", "return not found and not (",
                                        "referee", "what_a_look_has_shown"),
+    "set back, below a run that rests": Plant("database", "            self.work.suspect()\n", "            pass\n", "lives", "nobody_writes_to"),
 }  # fmt: skip

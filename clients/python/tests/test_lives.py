@@ -73,6 +73,26 @@ class Starts(Kept):
         )
 
 
+class SetBack(Kept):
+    """PostgreSQL, below what a run has archived that goes on."""
+
+    keepers = "a"
+
+    def test_a_run_that_nobody_writes_to_is_archived_again(self) -> None:
+        with self.keeping.primary() as primary:
+            for number in range(6):
+                last = self.commit(primary, str(number), durable=True)
+        archive, row = self.keeping.archive(), self.keeping.row()
+        with psycopg.connect(self.keeping.url) as session:
+            session.execute("DELETE FROM pagelog_block WHERE log = %s AND lsn > 2", (row.id,))
+            session.execute(
+                "UPDATE pagelog_log SET archived = 2, chain = %s WHERE id = %s",
+                (digest(b"", archive[:2]), row.id),
+            )
+        eventually(lambda: self.keeping.row().archived == last, "all of it again")
+        self.assertEqual((self.keeping.archive(), self.keeping.row().run), (archive, row.run))
+
+
 class Ends(Kept):
     keepers = "a"
 

@@ -76,6 +76,8 @@ class Archiver:
         self._was_full = served.is_full
         self.recorder: Recorder | None = None
         """Who keeps the lines of its audit list, if they are kept."""
+        self._is_suspect = False
+        """Whether PostgreSQL may have gone back, which is looked up next."""
         self.is_over = False
         self.is_stuck = False
         """Whether it has ended for good: the archive has something else than the service."""
@@ -159,8 +161,15 @@ class Archiver:
             if self.recorder is not None:
                 await self.recorder.first_try()
             async with self.turn:
-                if not self.turn.is_wanted and not await self._archived():
+                if not self.turn.is_wanted and not await self._gone_on():
                     return
+
+    async def _gone_on(self) -> bool:
+        """Finds out what is suspected, or archives by the fast path until that ends. False where nothing more can be. The turn is the caller's."""
+        if not self._is_suspect:
+            return await self._archived()
+        self._is_suspect = False
+        return await self._looked_up("")
 
     async def _archived(self) -> bool:
         """Archives by the fast path until that ends. False where nothing more can be. The turn is the caller's."""
@@ -339,6 +348,12 @@ class Archiver:
         """Whether somebody waits for what is archived, whatever that is."""
         if self._way is not None:
             self._way.watch(is_watched)
+
+    def suspect(self) -> None:
+        """A look has shown less of the run than one before: what PostgreSQL has is looked up, though nobody writes."""
+        self._is_suspect = True
+        self._doorbell.set()
+        self._end_way()
 
     def leave_way(self) -> None:
         """It ends, and begins again with what is known by then."""

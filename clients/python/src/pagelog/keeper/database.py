@@ -4,7 +4,7 @@ from __future__ import annotations
 
 import asyncio
 from contextlib import suppress
-from dataclasses import replace
+from dataclasses import dataclass, replace
 from typing import Any, Mapping
 
 from pagelog.keeper.beginning import Beginning
@@ -48,6 +48,15 @@ _MOST_ENDS = 64
 """How many runs that were ended are known."""
 
 
+@dataclass(frozen=True)
+class Had:
+    """How far a run was archived, as its keeper knew then: what began later finds no less of it, unless PostgreSQL went back."""
+
+    run: str | None = None
+    reached: int = 0
+    at: float = 0.0
+
+
 class Database:
     """The facts of one database, and the work on it: one action at a time, and beside it the archiving."""
 
@@ -79,6 +88,7 @@ class Database:
         """For how many seconds the row and the beat have not changed."""
         self._others: tuple[StandbyRow, ...] = ()
         self._failed_at, self._switched_at, self._confirmed = float("-inf"), 0.0, 0
+        self._had = Had()
         self._seen_back_at = float("-inf")
         """When a look showed less than one before."""
         self._reports: Mapping[str, Mapping[str, Any]] = {}
@@ -137,7 +147,10 @@ class Database:
             (row.generation, row.run, row.archived, row.wanted, beat), seconds()
         )
         self.beginning.see(seconds())
+        if row.run == self._had.run and row.archived < self._had.reached and began > self._had.at:
+            self.work.suspect()
         served, archiver = self._seen_service(), self.work.archiver
+        self._had = Had() if served is None else Had(served.run, served.reached, seconds())
         self._see_whether_it_went_back()
         if (
             self.served is not None

@@ -112,6 +112,11 @@ class Work:
         if self.archiver is not None:
             self.archiver.leave_way()
 
+    def suspect(self) -> None:
+        """PostgreSQL may have gone back."""
+        if self.archiver is not None:
+            self.archiver.suspect()
+
     def ring(self) -> None:
         """There is something to archive, or somebody who waits."""
         if self.archiver is not None:
