@@ -1,4 +1,4 @@
-"""Times reads by key, at random, by an SQLite reader that has read nothing yet, beside plain SQLite's that has not either.
+"""Times reads by key, at random, by an SQLite reader that has read nothing yet, beside stock SQLite's that has not either.
 
 Usage: python3 bench/cold.py [--rounds N] [--reads N] [--idle-polls N] [ROWS ..]    (20; 2,000; 0, as keepers start theirs; 48,000 240,000 600,000)
 
@@ -7,7 +7,7 @@ that of bench/sqlite.py: a text of a hundred bytes, and an index on a random num
 drawn, open a connection, and read so many rows by keys that are drawn, the same for all, within one transaction. Plain SQLite's file
 is in WAL, in the system's cache and not in SQLite's; ours is in the service's memory, and the reader (mode=ro, check=50) has nothing of it
 (keep=0), or, "again", the pages that its process kept when it closed such a reader. Then come the rates of a scan. Beside them are shares
-of plain SQLite's, round by round: the median, and the half of the rounds around it; how many pages were fetched, by how many round trips,
+of stock SQLite's, round by round: the median, and the half of the rounds around it; how many pages were fetched, by how many round trips,
 and what that took of the processor of the service (in its ticks of 10 ms, so it is coarse)."""
 
 import argparse

@@ -1,4 +1,4 @@
-"""Times SQLite over the service beside plain SQLite in WAL, with synchronous=full and off, on a file.
+"""Times SQLite over the service beside stock SQLite in WAL, with synchronous=full and off, on a file.
 
 Usage: python3 bench/sqlite.py [SHARE | --short | --keepers | --pairs] [--idle-polls N] [--note BUILD]     (1; a tenth of the work with
 0.1; --short is 0.3, a minute or two; --keepers is what bench/sqlite_keepers.py says, --pairs what bench/sqlite_pairs.py does, and nothing
@@ -8,7 +8,7 @@ The service is crates/pagelog/out/pagelog, or the program that PAGELOG names; wh
 option. The client is built by `make -C clients/c`.
 Everything is measured in this one run, by the same statements, in this one process, round after round in turns: a table with
 a text of a hundred bytes and an index on a random number. Plain SQLite has its file in bench/work. Beside each rate is its
-share of that of plain SQLite in WAL with synchronous=off. Both are medians of all rounds; who comes first in a round is drawn.
+share of that of stock SQLite in WAL with synchronous=off. Both are medians of all rounds; who comes first in a round is drawn.
 
     inserts     transactions of one row a second
     updates     transactions that change one number
@@ -20,7 +20,7 @@ share of that of plain SQLite in WAL with synchronous=off. Both are medians of a
 
 `check 0` asks the service at the beginning of each transaction whether the epoch goes on, `check 50` where the last answer
 is older than 50 ms. Their commits wait for the service. `unwaited` is as `check 50`, with synchronous=off and async_commits=64, so that
-its commits wait for nothing, as those of plain SQLite with synchronous=off do. A follower is a reader; its lag is from the
+its commits wait for nothing, as those of stock SQLite with synchronous=off do. A follower is a reader; its lag is from the
 moment that a commit was acknowledged to the end of the transaction in which the follower saw it, asked again and again. The
 service keeps its log in memory, and synchronous=full waits for a disk: the two promises are not equal.
 
@@ -246,7 +246,7 @@ def shares(system, other, column):
 
 
 def show(systems):
-    """The rates, and beside them what they are of those of plain SQLite with synchronous=off: the medians of all rounds."""
+    """The rates, and beside them what they are of those of stock SQLite with synchronous=off: the medians of all rounds."""
     print(f"{'a second':20}" + "".join(f"{column:>17}" for column in COLUMNS))
     for system in systems:
         cells = []
@@ -396,7 +396,7 @@ def speedtest(program, opened):
 
 
 def systems_of(first, second, third):
-    """The systems that are compared, with three services: plain SQLite with synchronous=off is the last one."""
+    """The systems that are compared, with three services: stock SQLite with synchronous=off is the last one."""
     from database import connect, reader
 
     def opened_unwaited():

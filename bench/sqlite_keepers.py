@@ -1,4 +1,4 @@
-"""Times SQLite over databases of keepers, for bench/sqlite.py --keepers: what a COMMIT takes with synchronous=full beside plain SQLite
+"""Times SQLite over databases of keepers, for bench/sqlite.py --keepers: what a COMMIT takes with synchronous=full beside stock SQLite
 in WAL with synchronous=full on the same disk and beside a commit of PostgreSQL's own; what it takes with normal beside a database of the
 same keepers that is reached by its address, and beside a service that nobody archives; and the longest that a statement took at a
 succession, a switchover and a takeover.
@@ -83,7 +83,7 @@ def events_of(keeping, name):
         return holder
 
     return {
-        "a succession": lambda: keeping.word("succeed", name),
+        "a succession": lambda: keeping.word("rollover", name),
         "a switchover": lambda: keeping.word("switchover", name),
         "a death of the service": lambda: os.kill(keeping.pid(name), signal.SIGKILL),
         "a takeover": take_over,
@@ -119,7 +119,7 @@ def measure_events(keeping, name, level, opened):
 
 
 def measure(work, service):
-    """`work` is a folder on the disk of plain SQLite's file."""
+    """`work` is a folder on the disk of stock SQLite's file."""
     import psycopg
     from database import TOKENS, connect, sqlite_of
     from keepers import Keeping
@@ -161,12 +161,12 @@ def measure(work, service):
             in_turns(
                 {
                     "keepers, synchronous=full": full.execute,
-                    "plain SQLite, WAL, full": plain.execute,
+                    "stock SQLite, WAL, full": plain.execute,
                     "PostgreSQL": postgresql.execute,
                 },
                 COMMITS,
             ),
-            "plain SQLite, WAL, full",
+            "stock SQLite, WAL, full",
         )
         show(
             in_turns(

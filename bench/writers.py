@@ -1,11 +1,11 @@
 """Times several processes that write one table, each a transaction after the other (begin immediate, an insert of a hundred bytes, commit):
 SQLite over a database of keepers (check=50), with synchronous=full and normal, beside PostgreSQL by psycopg, MariaDB by mysqlclient where both
-are installed (python3-mysqldb, mariadb-server), and plain SQLite in WAL, in one run and in turns. Of each it prints the commits a second, what a commit takes, the least and most commits of a process, and the load.
+are installed (python3-mysqldb, mariadb-server), and stock SQLite in WAL, in one run and in turns. Of each it prints the commits a second, what a commit takes, the least and most commits of a process, and the load.
 
 Usage: python3 -B bench/writers.py [--seconds S] [--rounds N] [PROCESSES ..]     (1.5 seconds, 3 rounds; 1, 2 and 8 processes)
 
 The service is crates/pagelog/out/pagelog, or the program that PAGELOG names. PostgreSQL is the one of the keepers, with fsync, on the disk of
-TMPDIR, where plain SQLite's file is too; what an fdatasync of 8 KiB takes there is printed first."""
+TMPDIR, where stock SQLite's file is too; what an fdatasync of 8 KiB takes there is printed first."""
 
 import argparse
 import contextlib
@@ -223,7 +223,7 @@ def systems(folder):
         for level in ("full", "normal"):
             made.append(
                 System(
-                    f"plain SQLite, WAL, {level}",
+                    f"stock SQLite, WAL, {level}",
                     lambda level=level: plain(folder / f"{level}.db", level),
                 )
             )

@@ -12,7 +12,7 @@ import sys
 import click
 
 import pagelog
-from pagelog.desk.words import WORDS, pagelogctl
+from pagelog.cli.words import WORDS, pagelogctl
 
 TOOL = "pagelogctl"
 

@@ -43,7 +43,7 @@ pages: units
 
 override_dh_auto_install:
 	dh_auto_install --destdir=debian/pagelog-tools
-	test -f debian/pagelog-tools/usr/lib/python3*/dist-packages/pagelog/keeper/_quick_way.abi3.so
+	test -f debian/pagelog-tools/usr/lib/python3*/dist-packages/pagelog/keeper/_fast_path.abi3.so
 	install -D -m 644 $(MADE)/completion.bash debian/pagelog-tools/usr/share/bash-completion/completions/pagelogctl
 	install -D -m 644 $(MADE)/completion.zsh debian/pagelog-tools/usr/share/zsh/vendor-completions/_pagelogctl
 	install -D -m 644 $(MADE)/completion.fish debian/pagelog-tools/usr/share/fish/vendor_completions.d/pagelogctl.fish

@@ -1,4 +1,4 @@
-"""The plain model of scripts/model.py as a service over TCP, for tests of clients: it starts at once and needs no prover.
+"""The reference model of scripts/model.py as a service over TCP, for tests of clients: it starts at once and needs no prover.
 
 Usage: scripts/model serve --listen ADDRESS --table FILE --primary N [--dbs N] [--audit N] [--workers N] [--connections N]
                            [--idle-polls N]
@@ -87,7 +87,7 @@ def number_up_to(least, most):
 
 def arguments():
     parser = argparse.ArgumentParser(
-        prog="model", description="The plain model of pagelog as a service over TCP."
+        prog="model", description="The reference model of pagelog as a service over TCP."
     )
     serve = parser.add_subparsers(required=True).add_parser(
         "serve", help="answers the request frames of connections"
@@ -157,7 +157,7 @@ def main():
         fail("address")
     print("listening {}:{}".format(*server.server_address), flush=True)
     print(
-        "model: this is the plain model in Python, and not pagelog: nothing is proved of it",
+        "model: this is the reference model in Python, and not pagelog: nothing is proved of it",
         file=sys.stderr,
         flush=True,
     )

@@ -7,7 +7,7 @@ WITHOUT_ARGUMENTS for the others, so that one which is new is asked for by all o
 import pathlib
 import sys
 
-# The numbers are those of the plain model, which is installed with pagelogctl and needs nothing else of its package.
+# The numbers are those of the reference model, which is installed with pagelogctl and needs nothing else of its package.
 sys.path.insert(
     0, str(pathlib.Path(__file__).resolve().parent.parent / "clients" / "python" / "src")
 )

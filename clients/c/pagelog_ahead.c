@@ -94,7 +94,7 @@ static uint32_t pages_to_fill(struct pagelog_file *file, uint64_t now) {
     return has_room(file) ? UINT32_C(1) << file->misses / MISSES_EACH : 1;
 }
 
-/* The page at `next_run`, which begins anew behind the last one if it `wraps`; 0: there is none. */
+/* The page at `next_run`, which begins again behind the last one if it `wraps`; 0: there is none. */
 static uint32_t page_at_next(struct pagelog_file *file, bool wraps) {
     const struct expected *expected = &file->expected;
     uint32_t first = file->is_by_place ? 0 : 1;

@@ -11,7 +11,7 @@
 
 #include <string.h>
 
-/* Blocks: who is so far behind fetches its pages anew. */
+/* Blocks: who is so far behind fetches its pages again. */
 enum { FAR_BEHIND = 512 };
 
 enum { MARK_PAGE = 0, MARK_BYTES = 40, NAME_PLACE = MARK_BYTES, GROUP = 64 };

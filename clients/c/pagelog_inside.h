@@ -193,7 +193,7 @@ struct pagelog_patience {
 };
 struct pagelog_patience pagelog_patience_of(struct pagelog *log);
 
-/* Something was done: the patience begins anew. */
+/* Something was done: the patience begins again. */
 void pagelog_progress(struct pagelog_patience *patience);
 
 /* Whether there is patience for another try; it waits a little before, and longer each time. */

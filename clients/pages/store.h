@@ -25,7 +25,7 @@ enum store_end {
     STORE_NOT_NEXT,    /* the block is not the one behind the last; nothing has changed */
     STORE_NO_BLOCK,    /* it is no block; nothing has changed */
     STORE_OTHER_CHAIN, /* what was written since the confirmed position is not what the archive has: begin
-                          anew */
+                          again */
     STORE_NO_MEMORY,   /* nothing has changed */
     STORE_FAILED,      /* the disk; `store_why` says more */
 };

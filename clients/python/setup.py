@@ -1,4 +1,4 @@
-"""What pyproject.toml cannot say: the library of a keeper's quick way, which it loads by ctypes. A machine without a compiler, libpq,
+"""What pyproject.toml cannot say: the library of a keeper's fast path, which it loads by ctypes. A machine without a compiler, libpq,
 libb2, libcrypto or zlib gets the package without it."""
 
 from __future__ import annotations
@@ -22,10 +22,10 @@ def folder_of_libpq() -> list[str]:
 
 
 # It is of no Python's own interface, so one serves each version.
-quick_way = Extension(
-    "pagelog.keeper._quick_way",
-    sorted(glob.glob("src/pagelog/keeper/quick_way*.c")),
-    depends=glob.glob("src/pagelog/keeper/quick_way*.h"),
+fast_path = Extension(
+    "pagelog.keeper._fast_path",
+    sorted(glob.glob("src/pagelog/keeper/fast_path*.c")),
+    depends=glob.glob("src/pagelog/keeper/fast_path*.h"),
     include_dirs=folder_of_libpq(),
     libraries=["pq", "b2", "z", "crypto"],
     extra_link_args=["-pthread"],
@@ -41,4 +41,4 @@ quick_way = Extension(
     py_limited_api=True,
     optional=True,
 )
-setup(ext_modules=[quick_way], options={"build": {"build_base": "out"}})
+setup(ext_modules=[fast_path], options={"build": {"build_base": "out"}})

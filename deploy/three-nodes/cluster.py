@@ -113,8 +113,8 @@ class Cluster:
             self._referee.close()
             return None
 
-    def has_quick_way(self) -> bool:
-        """Whether a session asks now, or has asked last, for what the quick way alone asks: to keep one block."""
+    def has_fast_path(self) -> bool:
+        """Whether a session asks now, or has asked last, for what the fast path alone asks: to keep one block."""
         try:
             with psycopg.connect(
                 plain_url(self._url), target_session_attrs="read-write"

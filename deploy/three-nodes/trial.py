@@ -20,7 +20,7 @@ TOP = HERE.parent.parent
 sys.path.insert(0, str(TOP / "clients" / "python" / "src"))
 
 from pagelog import Block  # noqa: E402
-from pagelog.keeper import quick_calls  # noqa: E402
+from pagelog.keeper import fast_calls  # noqa: E402
 
 from clients import NAME, text_of  # noqa: E402
 from cluster import KEEPERS, PATIENCE, Cluster, eventually  # noqa: E402
@@ -132,7 +132,7 @@ class Trial:
     def start(self) -> None:
         for node in self.nodes.values():
             node.start()
-        eventually(lambda: self.word("kept"), "PostgreSQL with a synchronous standby, and a keeper")
+        eventually(lambda: self.word("list"), "PostgreSQL with a synchronous standby, and a keeper")
         if not self.word("create", NAME, "--table", TABLE):
             raise SystemExit(f"trial: the database was not made: {self.why}")
         eventually(self.cluster.is_well, "three machines that are well")
@@ -149,7 +149,7 @@ class Trial:
             self.clients[what] = subprocess.Popen(words)
         for what, told in CLIENTS.items():
             eventually(lambda: len(self.books.times(what, told)) > GO_ON, f"a client for {what}")
-        eventually(self.cluster.has_quick_way, "the quick way")
+        eventually(self.cluster.has_fast_path, "the fast path")
         self.say(f"three machines are up; {self.holder_and_leader()}")
 
     def holder_and_leader(self) -> str:
@@ -190,7 +190,7 @@ class Trial:
         eventually(lambda: len(self.books.times("write", "durable")) > before + GO_ON, "commits")
         undo(node)
         eventually(self.cluster.is_well, "three machines that are well")
-        eventually(self.cluster.has_quick_way, "the quick way")
+        eventually(self.cluster.has_fast_path, "the fast path")
         self.say(f"  {self.pauses(began)}; others had taken over after {went_on - began:.1f} s")
 
     def pauses(self, since: float) -> str:
@@ -297,8 +297,8 @@ def main() -> int:
     parser.add_argument("steps", nargs="*", type=step)
     parser.add_argument("--logs", type=Path)
     told = parser.parse_intermixed_args()
-    if quick_calls.library() is None:
-        sys.exit("trial: the quick way is not built")
+    if fast_calls.library() is None:
+        sys.exit("trial: the fast path is not built")
     signal.signal(
         signal.SIGTERM, lambda *_: sys.exit("trial: it was ended")
     )  # with this first process all others end

@@ -305,7 +305,7 @@ def test_no_page_of_a_liar_is_taken():
                 same(f"{what}, {wanted}", MALFORMED, log.get_ahead(PAGES, wanted)[0])
                 gate.spoil = lambda frame: frame
                 same("nothing is on its way", (0, []), (log.ahead, log.taken))
-                same("asked anew", (DONE, page_of(4)), log.get_ahead(PAGES, [4]))
+                same("asked again", (DONE, page_of(4)), log.get_ahead(PAGES, [4]))
 
 
 def test_an_append_beside_pages_that_are_on_their_way():

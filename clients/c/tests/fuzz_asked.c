@@ -1,9 +1,9 @@
-/* What a client may ask of the quick way of a keeper, under libFuzzer (clients/c/fuzz): its lines, in pieces
+/* What a client may ask of the fast path of a keeper, under libFuzzer (clients/c/fuzz): its lines, in pieces
  * that the first byte of the input says.
  *
  * Whatever comes, all that is waited for is a position of this run; and the same is taken or given back
  * however it comes. */
-#include "quick_way_parts.h"
+#include "fast_path_parts.h"
 
 #include <stdio.h>
 #include <string.h>
@@ -15,7 +15,7 @@ static ssize_t go(int socket, const void *bytes, size_t length, int flags);
 #define recv                      come
 #define send                      go
 #define shutdown(descriptor, how) ((void)(descriptor))
-#include "quick_way_lines.c"
+#include "fast_path_lines.c"
 #undef recv
 #undef send
 

@@ -1,10 +1,10 @@
-/* What a service may reply to the quick way of a keeper, under libFuzzer (clients/c/fuzz): blocks, and lines
+/* What a service may reply to the fast path of a keeper, under libFuzzer (clients/c/fuzz): blocks, and lines
  * of the audit list, in pieces that the first byte of the input says; the second says whether lines are asked
  * for.
  *
  * Whatever comes, a batch has the blocks behind what is archived, without a gap, and their digest; and where
  * nothing is left over it is the same however it comes. */
-#include "quick_way_parts.h"
+#include "fast_path_parts.h"
 
 #include <stdio.h>
 #include <string.h>
@@ -15,10 +15,10 @@ static ssize_t go(int socket, const void *bytes, size_t length, int flags);
 
 #define recv come
 #define send go
-#include "quick_way_service.c"
+#include "fast_path_service.c"
 #undef recv
 #undef send
-#include "quick_way_trail.c"
+#include "fast_path_trail.c"
 
 enum { SHIFT = 3, ARCHIVED = 9, LISTED = 4, REQUEST = 20 };
 

@@ -221,7 +221,7 @@ class Torture:
         self.keeping.word("switchover", database.name)
 
     def succeed(self, database):
-        self.keeping.word("succeed", database.name)
+        self.keeping.word("rollover", database.name)
 
     def restart_postgresql(self, _):
         postgres().crash()

@@ -95,7 +95,7 @@ class Faults:
         os.kill(self.keeping.pid(NAME), signal.SIGKILL)
 
     def succeed(self):
-        self.keeping.word("succeed", NAME)
+        self.keeping.word("rollover", NAME)
 
     def switch_over(self):
         self.keeping.word("switchover", NAME)

@@ -32,7 +32,7 @@ class Started:
         )
 
     def lines(self):
-        """The whole lines that it has written so far. The file is opened anew, since a place in it would be the writer's too."""
+        """The whole lines that it has written so far. The file is opened again, since a place in it would be the writer's too."""
         with open(f"/proc/self/fd/{self.said.fileno()}") as said:
             return [line.rstrip("\n") for line in said.readlines() if line.endswith("\n")]
 

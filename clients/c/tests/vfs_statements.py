@@ -1676,7 +1676,7 @@ def test_a_linked_program_gives_its_memory_back():
 
 
 def test_speedtest1():
-    """Of SQLite's sources, where SPEEDTEST1 names the program: what it reads is what it reads of plain SQLite."""
+    """Of SQLite's sources, where SPEEDTEST1 names the program: what it reads is what it reads of stock SQLite."""
     program = os.environ.get("SPEEDTEST1")
     if not program:
         return "speedtest1 not run: SPEEDTEST1 names no program"

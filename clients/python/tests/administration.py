@@ -177,13 +177,13 @@ class Segment:
 
     def kept(self) -> dict[str, dict[str, Any]] | None:
         """What the product says of its databases, if it says anything; only what is done next is drawn from it."""
-        called = self.call("kept", "--json")
+        called = self.call("list", "--json")
         if called.wait() != 0:
             return None
         lines = map(json.loads, called.text.splitlines())
         return {
             line["name"]: line for line in lines if "generation" in line
-        }  # others were dropped, and have a run set aside
+        }  # others were dropped, and have a run quarantined
 
     def words_of(self, subcommand: str, name: str, facts: dict[str, Any]) -> list[object]:
         at = max(1, int(facts.get("archived") or 1) - self.chance.randrange(5))

@@ -26,14 +26,14 @@ from click.testing import CliRunner
 from prometheus_client.parser import text_string_to_metric_families
 
 from pagelog import Block, NamedPrimary, NamedReader, Primary, Put, Reader
-from pagelog.desk.words import pagelogctl
+from pagelog.cli.words import pagelogctl
 from pagelog.keeper.referee import KeeperError, Referee, digest
 from pagelog.keeper.rows import Batch, Row
 from pagelog.keeper.run import orphans_of
 from pagelog.place import Keepers, Place, UnknownName
 from pagelog.store.settings import StoreSettings
 from postgres import postgres
-from quick_library import build
+from fast_library import build
 from service import PATIENCE, PROGRAM, SOURCE, TABLE, WIDE_TABLE, Port, put, stand_still, token
 
 _numbers = itertools.count(1)
@@ -161,6 +161,8 @@ class Keeping:
     ) -> None:
         self.url = url or shared_url()
         self.environment = {**os.environ, "PYTHONPATH": str(SOURCE)}
+        self.listens = "--listen", "--service-host"
+        """What `keep` of this environment calls where it listens, and where its services do."""
         self.referee = Referee(self.url)
         self.folder = Path(tempfile.mkdtemp(prefix="pagelog-keeping-"))
         self.ttl = ttl
@@ -208,7 +210,7 @@ class Keeping:
             port.close()
         for name in self.processes:
             end_left(self.folder / name)
-        end_services(self.folder)  # also those that are set aside, which no keeper ends
+        end_services(self.folder)  # also those that are quarantined, which no keeper ends
         self.referee.close()
         self.referee.prepare()  # older keepers may have left older tables
         for row in self.referee.everything().rows:
@@ -272,9 +274,9 @@ class Keeping:
                 "keep",
                 "--name",
                 self.names.get(name, name),
-                "--lines",
+                self.listens[0],
                 f"127.0.0.1:{self.ports[name]}",
-                "--serve",
+                self.listens[1],
                 self.host,
                 "--folder",
                 self.folder / name,

@@ -96,7 +96,7 @@ class Pauses(LongRun):
         clients = [self.client("write", way, 0), self.client("probe", keeping.url, 0)]
         for _ in range(self.successions):
             before = keeping.place()
-            keeping.word("succeed", "shop")
+            keeping.word("rollover", "shop")
             keeping.place(least=before.generation + 1)
             time.sleep(0.3)
         (folder / STOP).touch()

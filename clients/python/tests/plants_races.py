@@ -20,7 +20,7 @@ PLANTS = {
     "orders, what a failover kept": Plant("../named", "            if isinstance(error, OlderEpoch):\n", "            if False:\n", "orders", "told_holds"),
     "orders, the images": Plant("../named", "            if self._lost_below(place) is not None:\n                return\n", "", "orders", "told_holds"),
     "orders, a run that continues": Plant("../named", "        elif fate.continues is None:\n", "        elif True:\n", "orders", "told_holds"),
-    "quick way, a vast reply": Plant("quick_way_service.c", "        if (len > REPLY_MOST) {\n            return WAY_SERVICE;\n        }\n", "", "quick_way", "behind_others_takes_no_memory"),
+    "fast path, a vast reply": Plant("fast_path_service.c", "        if (len > REPLY_MOST) {\n            return WAY_SERVICE;\n        }\n", "", "fast_path", "behind_others_takes_no_memory"),
     "upon, not held": Plant("c/pagelog_durable.c", "    if (outcome == PAGELOG_DONE) outcome = hold_before(file);\n", "", "upon", "writer_that_has_leapt"),
     "sessions of another database": Plant("referee", "\"SELECT pg_terminate_backend(pid) FROM pg_stat_activity WHERE application_name = %s AND usename = current_user \"\n                \"AND datname = current_database()\",",
                                           "\"SELECT pg_terminate_backend(pid) FROM pg_stat_activity WHERE application_name = %s AND usename = current_user\",", "referee", "of_another_database_there_keeps"),

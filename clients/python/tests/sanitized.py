@@ -1,4 +1,4 @@
-"""Runs a part of the tests, or the torture, with the quick way's library under sanitizers, on a copy. What they report of it is printed,
+"""Runs a part of the tests, or the torture, with the fast path's library under sanitizers, on a copy. What they report of it is printed,
 and fails the run; what they report of Python's own, as of psycopg, is counted.
 
 Usage: python3 -B clients/python/tests/sanitized.py address|thread PART [TEST]
@@ -19,8 +19,8 @@ from pathlib import Path
 
 PYTHON = Path(__file__).resolve().parent.parent
 TOP = PYTHON.parent.parent
-LIBRARY = Path("src/pagelog/keeper/_quick_way.abi3.so")
-OURS = re.compile(r"quick_way|libpq(?!.*libffi)", re.DOTALL)
+LIBRARY = Path("src/pagelog/keeper/_fast_path.abi3.so")
+OURS = re.compile(r"fast_path|libpq(?!.*libffi)", re.DOTALL)
 """What is in each report of the library. Of what libpq has made for it the stack may end in libpq; psycopg calls that by libffi."""
 _UNDEFINED = "-fno-wrapv -fsanitize=undefined -fno-sanitize-recover=undefined -static-libubsan"
 KINDS = {
@@ -76,7 +76,7 @@ def make(folder: Path, kind: str) -> Path:
         check=True,
     )
     if not (copy / LIBRARY).exists():
-        raise SystemExit("the quick way was not built")
+        raise SystemExit("the fast path was not built")
     bin.mkdir()
     (folder / "said").mkdir()
     (folder / "strip.c").write_text(f"#include <stdlib.h>\n{STRIP}")
@@ -128,7 +128,7 @@ def main(words: list[str]) -> int:
         ours = [report for report in found if OURS.search(report)]
     for report in ours:
         print(report)
-    print(f"sanitized: {len(ours)} reports of the quick way, {len(found) - len(ours)} of others")
+    print(f"sanitized: {len(ours)} reports of the fast path, {len(found) - len(ours)} of others")
     return 1 if ours or done else 0
 
 

@@ -213,7 +213,7 @@ class Soak(LongRun):
             keeper.report[name].get("entries_left", self.audit)
             for keeper in self.keeping.referee.everything().keepers
             for name in NAMES
-            if name in keeper.report  # what is set aside has a list there
+            if name in keeper.report  # what is quarantined has a list there
         ]
         points = (
             services / 2**20,
@@ -247,7 +247,7 @@ class Soak(LongRun):
                 self.measure(probe)
                 if (
                     self.successions() > before or time.monotonic() >= due
-                ):  # a death begins a list anew
+                ):  # a death begins a list again
                     fault = self.chance.choice(self.deeds)
                     self.kills[fault.__name__] += 1
                     fault()

@@ -137,7 +137,7 @@ class Faults(threading.Thread):
             self.done[what if process.wait() == 0 else f"{what} that were refused"] += 1
 
     def succession(self) -> None:
-        self._ask("succeed", "successions")
+        self._ask("rollover", "successions")
 
     def switchover(self) -> None:
         self._ask("switchover", "switchovers")

@@ -15,9 +15,9 @@ from pathlib import Path
 
 import pagelog
 from pagelog.archive import Archive
-from pagelog.desk import watch
-from pagelog.desk.side_by_side import NotInTime, Task, look_at_all
-from pagelog.desk.watch import Watch
+from pagelog.cli import watch
+from pagelog.cli.side_by_side import NotInTime, Task, look_at_all
+from pagelog.cli.watch import Watch
 from pagelog.request import Pull
 from service import PATIENCE, TOP, Service, fill, put, stand_still
 from test_archive import words

@@ -22,9 +22,9 @@ from pagelog import Block, Put
 from pagelog.archive import Archive
 from pagelog.archive.care import drop
 from pagelog.archive.archiving import Archiver
-from pagelog.desk.options import status_of
-from pagelog.desk.trail_words import _times
-from pagelog.desk.words import pagelogctl
+from pagelog.cli.options import status_of
+from pagelog.cli.trail_words import _times
+from pagelog.cli.words import pagelogctl
 from pagelog.keeper.recorder import Recorder
 from pagelog.keeper.referee import Away, Doubt, KeeperError
 from pagelog.reply import LINE_SIZE, Entry, encode_entry
@@ -396,7 +396,7 @@ class Ends(Stored):
         self.keep([5])
         module = SimpleNamespace(draw=lambda *_: (self.folder / "none" / "shop.svg").write_text(""))
         with patch.dict(
-            "sys.modules", {"pygal": SimpleNamespace(), "pagelog.desk.trail_plot": module}
+            "sys.modules", {"pygal": SimpleNamespace(), "pagelog.cli.trail_plot": module}
         ):
             said = self.ends(
                 1, "trail", "shop", "--url", self.url, "--plot", self.folder / "none" / "shop.svg"

@@ -35,7 +35,7 @@ from keepers import (
     new_url,
 )
 from pagelog import Connection, ConnectionLost, OlderEpoch, OtherPrimary, Primary, Reader
-from pagelog.desk.words import pagelogctl
+from pagelog.cli.words import pagelogctl
 from pagelog.keeper import referee as referee_module
 from pagelog.keeper.bases import Base, Bases
 from pagelog.keeper.doubts import Doubts, Fenced
@@ -81,7 +81,7 @@ class Statements(Kept):
             self.keeping.kill("a", signal.SIGSTOP)
             self.commit(primary, "2")
             self.commit(primary, "3")
-            # A batch that an earlier life had sent arrives once the position has been read: the next batch does not fit.
+            # A batch that a previous instance had sent arrives once the position has been read: the next batch does not fit.
             row = self.keeping.row()
             with Reader(
                 Connection(place.address), keeper_of(b"s" * 16, "shop", place.run)
@@ -410,15 +410,15 @@ class Away(unittest.TestCase):
             return made
 
         for word in (
-            ("kept",),
+            ("list",),
             ("where", "shop"),
             ("pause", "shop"),
             ("switchover", "shop"),
-            ("succeed", "shop"),
+            ("rollover", "shop"),
         ):
             line.count_from_now()
             with patch.object(Referee, "_connected", stands_still), patch(
-                "pagelog.desk.keeper_words.LONGEST", 1.0
+                "pagelog.cli.keeper_words.LONGEST", 1.0
             ):
                 done = CliRunner().invoke(pagelogctl, [*word, "--credentials", str(file)])
             self.assertEqual(
@@ -456,9 +456,9 @@ class Away(unittest.TestCase):
                 "keep",
                 "--name",
                 "a",
-                "--lines",
+                "--listen",
                 "127.0.0.1:0",
-                "--serve",
+                "--service-host",
                 "127.0.0.1",
                 "--folder",
                 folder + "/a",

@@ -18,7 +18,7 @@ import psycopg
 from keepers import Kept as KeptService
 from keepers import blocks, eventually, new_database, new_url
 from pagelog import Block, Put, Zero
-from pagelog.desk.drop_words import _drop_named
+from pagelog.cli.drop_words import _drop_named
 from pagelog.keeper.bases import NOTHING, Base, Bases, make_base
 from pagelog.errors import ConnectionLost
 from pagelog.keeper.history import begin_again
@@ -663,7 +663,7 @@ class Histories(KeptService):
                     self.keeping.word("restore", "shop", "--at", at)
             with self.assertRaisesRegex(AssertionError, "there is a database eight"):
                 self.keeping.word("restore", "shop", "--at", 9, "--as", "eight")
-            kept = [json.loads(line) for line in self.keeping.word("kept", "--json").splitlines()]
+            kept = [json.loads(line) for line in self.keeping.word("list", "--json").splitlines()]
             facts = {
                 each["name"]: (each["oldest"], each["base"], each["archived"], each["read_only"])
                 for each in kept

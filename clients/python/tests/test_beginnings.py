@@ -196,7 +196,7 @@ class ReadsAhead(unittest.TestCase):
 
 
 class Adopts(Meanwhile):
-    """A process that an earlier life of the keeper has started."""
+    """A process that a previous instance of the keeper has started."""
 
     def setUp(self) -> None:
         super().setUp()

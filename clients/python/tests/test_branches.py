@@ -11,7 +11,7 @@ from click.testing import CliRunner
 from keepers import Kept as KeptService
 from keepers import eventually
 from pagelog import Block, Put
-from pagelog.desk.words import pagelogctl
+from pagelog.cli.words import pagelogctl
 from pagelog.keeper.bases import Bases, make_base
 from pagelog.keeper.branching import branch, chain_at
 from pagelog.keeper.history import begin_again

@@ -19,7 +19,7 @@ from click.testing import CliRunner
 from keepers import Keeping, eventually, new_url
 from pagelog import Lost
 from pagelog.credentials import load
-from pagelog.desk.words import pagelogctl
+from pagelog.cli.words import pagelogctl
 from pagelog.errors import CredentialsError
 from pagelog.keeper.bases import Bases, make_base
 from pagelog.keeper.branching import branch
@@ -422,7 +422,7 @@ class Kept(unittest.TestCase):
     def stored(self) -> int:
         [facts] = [
             json.loads(line)
-            for line in self.keeping.word("kept", "--json").splitlines()
+            for line in self.keeping.word("list", "--json").splitlines()
             if '"shop"' in line
         ]
         return facts["stored"] or 0
@@ -455,7 +455,7 @@ class Kept(unittest.TestCase):
             end = primary.commit(durable=True)
             self.keeping.start("b")  # makes a standby
             eventually(lambda: self.keeping.standbys().get("b", 0) >= end, "a standby")
-            self.keeping.word("succeed", "shop")
+            self.keeping.word("rollover", "shop")
             eventually(lambda: self.keeping.row().images > 0, "a succession")
             primary.append(put(51, b"<51>"))
             end = primary.commit(durable=True)
@@ -465,7 +465,7 @@ class Kept(unittest.TestCase):
             )  # the standby takes over, or another is filled with images of the store
             primary.append(put(51, b"<51>"))
             end = primary.commit(durable=True)
-            self.keeping.word("succeed", "shop")  # which begins with them
+            self.keeping.word("rollover", "shop")  # which begins with them
             generation = self.keeping.row().generation
             eventually(lambda: self.keeping.row().generation > generation, "another succession")
             primary.append(put(52, b"<52>"))

@@ -16,7 +16,7 @@ from pagelog.archive.care import damaged, drop, logs_of, mend
 from pagelog.archive.url import ArchiveError, without_password
 from pagelog.archive.archiving import Archiver
 from pagelog.comparing import OtherLog, all_blocks
-from pagelog.desk import explain
+from pagelog.cli import explain
 from pagelog.restoring import restore
 from postgres import postgres
 from service import PATIENCE, Service, fill
@@ -239,7 +239,7 @@ class Words(unittest.TestCase):
         self.assertEqual((status, "NoArchive" in error), (1, True))
 
     def test_a_word_of_keepers_may_be_tried_again_while_postgresql_is_away(self) -> None:
-        for word in (("kept",), ("drop", "shop", "--yes")):
+        for word in (("list",), ("drop", "shop", "--yes")):
             status, out, error = said(
                 *word,
                 "--credentials",
@@ -253,7 +253,7 @@ class Words(unittest.TestCase):
         )
 
     def test_a_quorum_that_is_too_small_names_the_option(self) -> None:
-        from pagelog.desk.options import hint_of
+        from pagelog.cli.options import hint_of
 
         self.assertIn("--quorum 4", hint_of(pagelog.BelowQuorum(pagelog.Section.C, 6, 0)))
 

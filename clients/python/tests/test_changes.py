@@ -24,8 +24,8 @@ from click.testing import CliRunner
 
 from keepers import Gate, Kept, eventually
 from pagelog import Connection, Credentials, NamedPrimary, Primary, Reader
-from pagelog.desk.table_changes import Change
-from pagelog.desk.words import pagelogctl
+from pagelog.cli.table_changes import Change
+from pagelog.cli.words import pagelogctl
 from pagelog.errors import PagelogError
 from pagelog.keeper.keeping import Keeper
 from pagelog.keeper.machine import State
@@ -685,7 +685,7 @@ class Deaths(Changing):
             )
         status, out, _ = self.renewed()
         self.assertEqual(status, 3)
-        self.assertIn("run r0 of keeper z, a service that is set aside", out)
+        self.assertIn("run r0 of keeper z, a service that is quarantined", out)
         self.assertIn("`pagelogctl rescue shop` saves and ends it", out)
 
     def test_nothing_is_durable_by_the_old_token_once_it_has_returned(self) -> None:

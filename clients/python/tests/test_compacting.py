@@ -1,4 +1,4 @@
-"""Packs of which little is needed still are made anew, whatever dies, stands still or goes back meanwhile."""
+"""Packs of which little is needed still are made again, whatever dies, stands still or goes back meanwhile."""
 
 from __future__ import annotations
 

@@ -19,7 +19,7 @@ from consoles import HOSTILE, Console, Follower, Rows, page_of
 from keepers import Kept, new_url
 from pagelog.console.source import Source
 from pagelog.console.watcher import PACE
-from pagelog.desk.words import pagelogctl
+from pagelog.cli.words import pagelogctl
 from pagelog.keeper.referee import Referee
 from pagelog.trail import Trail, TrailKeeper
 from postgres import SilentProxy, postgres
@@ -189,10 +189,10 @@ class Lively(Kept):
         self.keeping.kill(holder)
         self.until(state="silent")
         self.assertIn(
-            f"The beat of {holder} stands still; nobody takes it over while it is paused.",
+            f"The heartbeat of {holder} stalled; nobody takes it over while it is paused.",
             str(self.shop["next"]),
         )
-        self.assertIn(f": the beat of keeper {holder} stands still", self.follower.said())
+        self.assertIn(f": the heartbeat of keeper {holder} stalled", self.follower.said())
         lives = {
             each: each != holder for each in "ab"
         }  # a look may come between two late beats of the other
@@ -209,11 +209,11 @@ class Lively(Kept):
                 self.commit(primary, f"{number}", durable=True)
             self.until(position=3, lag=0)
             before, holder = int(self.shop["generation"]), self.shop["holder"]  # type: ignore[call-overload]
-            self.keeping.word("succeed", "shop")
+            self.keeping.word("rollover", "shop")
             self.follower.until(lambda: self.shop["generation"] > before and self.shop["state"] == "serving")  # type: ignore[operator]
             self.assertEqual(self.commit(primary, "4", durable=True), 4)
         self.until(position=4, lag=0, holder=holder)
-        told = f"shop: {holder} goes on with generation {self.shop['generation']} from position 3"
+        told = f"shop: {holder} continues with generation {self.shop['generation']} from position 3"
         self.assertIn(told, self.follower.said())
         self.assertEqual(self.console.detail("shop")["generations"][-1]["base"], 3)
         self.follower.until(lambda: [each["reached"] for each in self.shop["standbys"]] == [4])  # type: ignore[attr-defined]
@@ -254,7 +254,7 @@ class OfAKeeper(Kept):
                 (shop["entries"], shop["due"], shop["memory_limit"]),
                 (1_000_000, 750_000, 500_000_000 >> 20),
             )
-            self.keeping.word("succeed", "shop")
+            self.keeping.word("rollover", "shop")
             follower.until(lambda: follower.databases["shop"]["generation"] > shop["generation"])
             self.keeping.kill("a", signal.SIGTERM)  # a browser that follows holds up no end
         self.assertEqual(self.keeping.processes["a"].returncode, 0)
@@ -275,7 +275,7 @@ class ByRows(OfAPage):
             self.assertTrue(referee.create("shop", "", b"s" * 16))
             follower.until(lambda: follower.databases)
             self.assertEqual(
-                follower.databases["shop"]["next"], "It waits for a keeper: none lives."
+                follower.databases["shop"]["next"], "It waits for a keeper: none is up."
             )
             self.assertIn("shop: was created", follower.said())
 
@@ -571,9 +571,9 @@ class Doors(unittest.TestCase):
             "keep",
             "--name",
             "a",
-            "--lines",
+            "--listen",
             "127.0.0.1:0",
-            "--serve",
+            "--service-host",
             "127.0.0.1",
             "--folder",
             folder / "a",

@@ -163,21 +163,21 @@ class Sentences(unittest.TestCase):
                 "a",
                 "A keeper takes it, and fills a fresh service.",
             ),
-            (FREE, (), "", "It waits for a keeper: none lives."),
+            (FREE, (), "", "It waits for a keeper: none is up."),
             (Row(1, "shop", wanted="b"), (), "ab", "b takes it, as was asked."),
             (Row(1, "shop", paused=True), spare, "ab", "Nobody takes it until it is resumed."),
         ):
             self.assertEqual(self.said(row, State.NOBODY, spares, living), words)
         self.assertEqual(
-            self.said(ROW, State.SILENT, spare, "b"), "The beat of a stands still: b takes it over."
+            self.said(ROW, State.SILENT, spare, "b"), "The heartbeat of a stalled: b takes it over."
         )
         self.assertEqual(
             self.said(ROW, State.SILENT, (), "c"),
-            "The beat of a stands still: another keeper takes it over.",
+            "The heartbeat of a stalled: another keeper takes it over.",
         )
         self.assertEqual(
             self.said(ROW, State.SILENT, spare, ""),
-            "The beat of a stands still, and no other keeper lives.",
+            "The heartbeat of a stalled, and no other keeper is up.",
         )
         self.assertEqual(
             self.said(ROW, State.TAKING),
@@ -237,7 +237,7 @@ class Events(unittest.TestCase):
             (
                 ROW,
                 replace(ROW, generation=4, base=1000, images=990),
-                "a goes on with generation 4 from position 1,000 (plain)",
+                "a continues with generation 4 from position 1,000 (plain)",
             ),
             (ROW, replace(ROW, wanted="*"), "a switchover to another keeper was asked for (plain)"),
             (replace(ROW, wanted="b"), ROW, None),
@@ -295,7 +295,7 @@ class Asides(unittest.TestCase):
         self.assertEqual(
             look(*shown),
             [
-                f"{name}: run run of {name} of keeper a is set aside: `pagelogctl rescue {name}` says what it has (bad)"
+                f"{name}: run run of {name} of keeper a is quarantined: `pagelogctl rescue {name}` says what it has (bad)"
                 for name in ("shop", "lost")
             ],
         )

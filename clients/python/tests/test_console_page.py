@@ -186,7 +186,7 @@ class OnePage(Browsed):
                 [
                     "all 300",
                     "nobody has it 2",
-                    "no beat 0",
+                    "no heartbeat 0",
                     "taking 0",
                     "closing 0",
                     "serving 298",
@@ -267,7 +267,7 @@ class OnePage(Browsed):
                 [
                     "all 30",
                     "nobody has it 0",
-                    "no beat 0",
+                    "no heartbeat 0",
                     "taking 0",
                     "closing 0",
                     "serving 30",
@@ -380,9 +380,9 @@ class OfAKeeper(Browsed, Kept):
         with self.keeping.primary() as primary:
             self.open(page_of(self.keeping), "#/shop")
             self.commit(primary, "1", durable=True)
-            self.keeping.word("succeed", "shop")
+            self.keeping.word("rollover", "shop")
             eventually(
-                lambda: "a goes on with generation" in self.text(".part-events"), "the succession"
+                lambda: "a continues with generation" in self.text(".part-events"), "the succession"
             )
             eventually(
                 lambda: int(self.js("return document.querySelectorAll('.strip rect').length")) >= 2,

@@ -391,14 +391,14 @@ class OneDiskIsEnough(Durable):
             self.assertEqual(self.commit(primary, "2", durable=True), 2)
             eventually(lambda: self.standbys() == 0, "no standby in the metric")
             self.assertEqual(
-                json.loads(self.keeping.word("kept", "--json"))["synchronous_standbys"], 0
+                json.loads(self.keeping.word("list", "--json"))["synchronous_standbys"], 0
             )
-            self.assertIn("durable means one disk", self.keeping.word("kept"))
+            self.assertIn("durable means one disk", self.keeping.word("list"))
             self.two_looks()
             start_standby()
             eventually(lambda: self.standbys() == 1, "the standby in the metric")
             self.assertIn(
-                "another disk too: PostgreSQL has 1 synchronous standby", self.keeping.word("kept")
+                "another disk too: PostgreSQL has 1 synchronous standby", self.keeping.word("list")
             )
         self.assertEqual(self.keeping.said().count("durable means one disk"), 1)
 
@@ -589,7 +589,7 @@ class StandbyRequired(Durable):
                 self.assertEqual(text.readline().split()[:6:5], ["at", "1"])
                 self.assertEqual(primary.durable_end, 1)
                 self.assertEqual(
-                    json.loads(self.keeping.word("kept", "--json"))["synchronous_standbys"], 0
+                    json.loads(self.keeping.word("list", "--json"))["synchronous_standbys"], 0
                 )
                 start_standby()
                 self.assertEqual(text.readline().split(), ["durable", "shop", str(generation), "2"])
@@ -606,10 +606,10 @@ class StandbyRequired(Durable):
     def is_quick(self) -> bool:
         return self.keeping.metrics()["pagelog_keeper_quick", "shop"] == 1
 
-    def test_the_quick_way_waits_for_it_too(self) -> None:
+    def test_the_fast_path_waits_for_it_too(self) -> None:
         with self.keeping.primary() as primary, boss() as session:
             eventually(
-                lambda: self.commit(primary, "x", durable=True) and self.is_quick(), "the quick way"
+                lambda: self.commit(primary, "x", durable=True) and self.is_quick(), "the fast path"
             )
             # What others write meanwhile a standby has not flushed yet where it is asked for.
             session.execute("CREATE TABLE IF NOT EXISTS others (text text)")

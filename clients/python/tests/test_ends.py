@@ -26,8 +26,8 @@ from pagelog.archive import Archive
 from pagelog.archive.engine import engine_of
 from pagelog.archive.archiving import Archiver
 from pagelog.audit_list import AuditFollower, AuditRoom
-from pagelog.desk import archive_words
-from pagelog.desk.archive_words import Follower
+from pagelog.cli import archive_words
+from pagelog.cli.archive_words import Follower
 from pagelog.fencing import ListGuard
 from pagelog.request import Pull, Write
 from pagelog.tables import TableText

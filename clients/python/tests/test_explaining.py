@@ -10,8 +10,8 @@ import unittest
 from pathlib import Path
 
 import pagelog
-from pagelog.desk.explain import ExplainError, Question, Table, differences, explain
-from pagelog.desk.explain_all import all_differences
+from pagelog.cli.explain import ExplainError, Question, Table, differences, explain
+from pagelog.cli.explain_all import all_differences
 from service import SOURCE, TABLE, Service, token
 from test_archive import words
 from test_looking import ends
@@ -219,7 +219,7 @@ class Help(unittest.TestCase):
     def test_every_word_has_help_with_an_example(self) -> None:
         from click.testing import CliRunner
 
-        from pagelog.desk.words import WORDS, pagelogctl
+        from pagelog.cli.words import WORDS, pagelogctl
 
         for word in WORDS:
             result = CliRunner().invoke(pagelogctl, [word, "--help"])

@@ -16,7 +16,7 @@ from unittest import mock
 import psycopg
 
 from pagelog.archive import Archive
-from pagelog.desk.archive_words import Follower
+from pagelog.cli.archive_words import Follower
 from pagelog.keeping import Archiver
 from postgres import postgres
 from service import IS_LONG, PATIENCE, CuttingProxy, Service, fill

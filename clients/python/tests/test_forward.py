@@ -16,7 +16,7 @@ from click.testing import CliRunner
 from psycopg.types.json import Jsonb
 
 from keepers import Keeping, eventually, put
-from pagelog.desk.words import pagelogctl
+from pagelog.cli.words import pagelogctl
 from pagelog.keeper.aside import ASIDE
 from pagelog.keeper.bases import Bases, make_base
 from pagelog.keeper.branching import branch

@@ -11,7 +11,7 @@ from click.testing import CliRunner
 
 from keepers import Keeping, eventually
 from pagelog.console.source import Source
-from pagelog.desk.words import pagelogctl
+from pagelog.cli.words import pagelogctl
 from pagelog.keeper.grants import RIGHTS, SEQUENCES, Roles, quoted
 from postgres import postgres
 from service import put, token
@@ -139,7 +139,7 @@ class Lived(Granted):
 
     def succeed(self) -> None:
         before = self.keeping.place().generation
-        self.word(ROLES.keeps, "succeed", "shop")
+        self.word(ROLES.keeps, "rollover", "shop")
         self.keeping.place(least=before + 1)
 
     def test_a_life_of_a_database_by_three_roles(self) -> None:
@@ -167,8 +167,8 @@ class Lived(Granted):
         self.assertIn(
             "no keeper says that it has a run of shop which PostgreSQL lacks", done.output
         )
-        self.assertIn("shop", self.word(looks, "kept", "--wide"))
-        self.assertIn("copy", self.word(looks, "kept", "--json"))
+        self.assertIn("shop", self.word(looks, "list", "--wide"))
+        self.assertIn("copy", self.word(looks, "list", "--json"))
         source = Source(self.by(looks))
         self.addCleanup(source.close)
         eventually(lambda: bool(source.look().trails), "the trail of the database")

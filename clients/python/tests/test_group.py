@@ -158,7 +158,7 @@ class OverSqlite(Threads):
         self.assertEqual(len(self.keeping.archive()), 4)
 
     def succeed(self, generation: int) -> None:
-        self.keeping.word("succeed", "shop")
+        self.keeping.word("rollover", "shop")
         self.keeping.place(least=generation)
 
 

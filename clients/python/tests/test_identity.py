@@ -130,7 +130,7 @@ class Going(Kept):
     def succeed_beyond(self, place: Place) -> None:
         """The number of the new database's generation is above the old one's, if it was not from the beginning."""
         while (now := self.keeping.place()).generation <= place.generation + 1:
-            self.keeping.word("succeed", "shop")
+            self.keeping.word("rollover", "shop")
             self.keeping.place(least=now.generation + 1)
 
     def fill(self, text: str, end: int) -> None:
@@ -387,7 +387,7 @@ class NumbersComeAgain(Movable):
         self.commit(primary, "1", durable=True)
         for _ in range(2):
             place = self.keeping.place()
-            self.keeping.word("succeed", "shop")
+            self.keeping.word("rollover", "shop")
             self.keeping.place(least=place.generation + 1)
         self.keeping.referee.close()
         self.cut_off()
@@ -509,7 +509,7 @@ class NumbersComeAgain(Movable):
         try:
             self.set_back()
             self.keeping.start(before)
-            self.keeping.word("succeed", "shop")
+            self.keeping.word("rollover", "shop")
             eventually(
                 lambda: (now := self.keeping.row()).generation == place.generation
                 and now.address is not None,

@@ -244,7 +244,7 @@ class OneKeeper(Kept):
         with self.keeping.primary() as primary:
             self.commit(primary, "1", durable=True)
         place = self.keeping.place()
-        kept = json.loads(self.keeping.word("kept", "--json"))
+        kept = json.loads(self.keeping.word("list", "--json"))
         self.assertEqual(
             (kept["holder"], kept["place"], kept["archived"], kept["generation"]),
             ("a", place.address, 1, place.generation),
@@ -271,15 +271,15 @@ class OneKeeper(Kept):
             self.keeping.place()
 
     def until_shown(self, state: str, *, has_service: bool = True) -> None:
-        """Waits until `kept` shows the state and the decision, and what is left of the limit of the memory, which is in MiB."""
+        """Waits until `list` shows the state and the decision, and what is left of the limit of the memory, which is in MiB."""
 
         def is_shown() -> bool:
             [line] = [
                 line
-                for line in self.keeping.word("kept", "--wide").splitlines()
+                for line in self.keeping.word("list", "--wide").splitlines()
                 if line.startswith("shop ")
             ]
-            kept = json.loads(self.keeping.word("kept", "--json"))
+            kept = json.loads(self.keeping.word("list", "--json"))
             _, shown, *_, entries, left, why = re.split("  +", line)
             if f"{shown}: {why}" != state or not state.endswith(kept["why"].get("a", "?")):
                 return False
@@ -548,7 +548,7 @@ class SmallList(Kept):
         with self.keeping.primary() as primary:
             self.commit(primary, "1", durable=True)
             number, rolled = 1, re.compile(
-                "its list or its memory is.*generation [0-9]+ begins at position", re.DOTALL
+                "its audit list or its memory is.*generation [0-9]+ begins at position", re.DOTALL
             )
             while not rolled.search(self.keeping.said()):
                 number += 1

@@ -17,7 +17,7 @@ from click.testing import CliRunner
 from keepers import Gate, Trigger, batch_of, eventually, new_database
 from keepers import Kept as KeptService
 from pagelog import Block
-from pagelog.desk.words import pagelogctl
+from pagelog.cli.words import pagelogctl
 from pagelog.keeper.bases import Bases, make_base
 from pagelog.keeper.fate import Of
 from pagelog.keeper.recorder import Recorder, Trails
@@ -519,7 +519,7 @@ class OneKeeper(Trailed):
             for number in range(1, 21):
                 self.commit(primary, f"{number}", durable=number % 10 == 0)
             before = self.keeping.place().generation
-            self.keeping.word("succeed", "shop")
+            self.keeping.word("rollover", "shop")
             after = self.keeping.place(least=before + 1).generation
             self.assertEqual(self.commit(primary, "21", durable=True), 21)
             eventually(
@@ -618,7 +618,7 @@ class OfImages(Trailed):
 
     def succeed(self) -> None:
         before = self.keeping.place().generation
-        self.keeping.word("succeed", "shop")
+        self.keeping.word("rollover", "shop")
         self.keeping.place(least=before + 1)
 
     def blocks_of(self, run: int, count: int) -> str:
@@ -630,7 +630,7 @@ class OfImages(Trailed):
     # What was changed by hand.
 
     def store_image(self, data: bytes, *, crc: bool = False, heads: bool = False) -> None:
-        """Puts other bytes into range 1, with the digests made anew, as one who knows how would."""
+        """Puts other bytes into range 1, with the digests made again, as one who knows how would."""
         id = self.keeping.row().id
         self.run_sql("UPDATE pagelog_image SET data = %s WHERE log = %s AND range = 1", data, id)
         if crc:

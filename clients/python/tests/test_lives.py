@@ -114,7 +114,7 @@ class Ends(Kept):
         self.keeping.launch("a")
         eventually(lambda: "PostgreSQL: " in self.keeping.said(), "a try to reach PostgreSQL")
         self.keeping.processes["a"].send_signal(signal.SIGTERM)
-        eventually(lambda: self.keeping.said().count("told to end") == 1, "the word that it ends")
+        eventually(lambda: self.keeping.said().count("asked to end") == 1, "the word that it ends")
         trigger = Trigger(
             self.keeping.url,
             "pagelog_log",
@@ -366,11 +366,11 @@ class WentBack(Kept):
             place, pid = self.keeping.place(), self.keeping.pid()
             with psycopg.connect(self.keeping.url) as session:
                 session.execute(
-                    "UPDATE pagelog_keeper SET run = 'an earlier life', beat = 0 WHERE name = 'a'"
+                    "UPDATE pagelog_keeper SET run = 'a previous instance', beat = 0 WHERE name = 'a'"
                 )
             self.put_back(1)
             eventually(
-                lambda: "it went back, and is told again" in self.keeping.said(),
+                lambda: "it went back, and this keeper is registered again" in self.keeping.said(),
                 "the word that it went back",
             )
             keeper = self.keeping.referee.everything().keeper("a")
@@ -454,7 +454,7 @@ class WentBack(Kept):
         self.addCleanup(os.kill, pid, signal.SIGKILL)
         self.put_back(1, self.RELEASED, other=True)
         self.keeping.place(least=place.generation + 6)
-        eventually(lambda: f"set aside: run {place.run}" in self.keeping.word("kept"), "its word")
+        eventually(lambda: f"quarantined: run {place.run}" in self.keeping.word("list"), "its word")
         self.keeping.word("rescue", "shop", "--as", "saved")
         eventually(lambda: self.keeping.row("saved").address is not None, "its place")
         with closing(connected(self.keeping.addresses, id=3, name="saved", mode="ro")) as reader:
@@ -470,13 +470,13 @@ class WentBack(Kept):
         self.keeping.place(least=place.generation + 6)
         with self.keeping.primary() as primary:
             self.commit(primary, "another", durable=True)
-        said = f"set aside: run {place.run} of shop at {place.address}, process {pid} of keeper a"
-        eventually(lambda: said in self.keeping.word("kept"), "its word")
+        said = f"quarantined: run {place.run} of shop at {place.address}, process {pid} of keeper a"
+        eventually(lambda: said in self.keeping.word("list"), "its word")
         self.keeping.kill("a")
         self.keeping.start("a")
 
         def asides() -> list[object]:
-            lines = map(json.loads, self.keeping.word("kept", "--json").splitlines())
+            lines = map(json.loads, self.keeping.word("list", "--json").splitlines())
             return [each for line in lines if line["name"] == "shop" for each in line["set_aside"]]
 
         eventually(
@@ -495,7 +495,7 @@ class WentBack(Kept):
                     "database": identity,
                 }
             ],
-            "the word of the next life",
+            "the word of the next instance",
         )
         stand_still(pid)
         with self.assertRaisesRegex(AssertionError, r"\): 3: "):
@@ -588,7 +588,7 @@ class LateNote(Kept):
         self.put_back(1, ", run = NULL, holder = NULL, address = NULL")
         self.keeping.start("a")
         self.assertIn(
-            f"the service of run {run}, which an earlier life left, is set aside: PostgreSQL went back: it had the run up to position 3",
+            f"the service of run {run}, which a previous instance left, is quarantined: PostgreSQL went back: it had the run up to position 3",
             self.keeping.said(),
         )
         os.kill(pid, 0)

@@ -21,8 +21,8 @@ from pathlib import Path
 import pagelog
 
 from pagelog.archive import Archive
-from pagelog.desk.durations import duration
-from pagelog.desk.watch import Watch
+from pagelog.cli.durations import duration
+from pagelog.cli.watch import Watch
 from pagelog.keeping import Archiver
 from pagelog.request import Pull
 from service import PATIENCE, SOURCE, Service, all_that_is_drawn, fill

@@ -100,7 +100,7 @@ class Cases(unittest.TestCase):
         self.check(
             Action.CLOSE, replace(OURS, wanted="*"), HOLDS, others=(replace(OF_C, keeper="d"),)
         )
-        self.check(Action.UNWISH, replace(OURS, wanted="a"), HOLDS)
+        self.check(Action.CANCEL, replace(OURS, wanted="a"), HOLDS)
         self.check(Action.STAND_BY, replace(ROW, wanted="a"))
         self.check(Action.STAND_BY, replace(ROW, wanted="*"))
         self.check(Action.NOTHING, replace(ROW, wanted="c"))
@@ -270,7 +270,7 @@ class Cases(unittest.TestCase):
             self.check(Action.SET_ASIDE, row, lost, ending=True)
         self.check(
             Action.RELEASE, OURS, replace(HOLDS, is_apart=True)
-        )  # and it is set aside, since PostgreSQL went back
+        )  # and it is quarantined, since PostgreSQL went back
 
     def test_a_database_whose_run_was_lost_is_not_said_to_be_served(self) -> None:
         lost = replace(HOLDS, is_known=False)
@@ -417,7 +417,7 @@ class Taken(unittest.TestCase):
 
 
 class Orphans(unittest.TestCase):
-    """What becomes of a service of an earlier life."""
+    """What becomes of a service of a previous instance."""
 
     def test_one_that_had_a_generation_is_not_ended_where_another_database_of_its_name_was_dropped(
         self,

@@ -16,12 +16,12 @@ import psycopg
 from psycopg.waiting import Ready, Wait
 
 from keepers import Gate, Keeping, Kept, Tried, Trigger, batch_of, blocks, eventually
-from pagelog.keeper import hosts, quick_calls
+from pagelog.keeper import hosts, fast_calls
 from pagelog.keeper.doubts import Doubts
 from pagelog.keeper.database import Database
 from pagelog.keeper.quick import QuickReferee
-from pagelog.keeper.quick_plane import QuickPlane
-from pagelog.keeper.quick_way import End, QuickWay
+from pagelog.keeper.fast_plane import FastPlane
+from pagelog.keeper.fast_path import End, FastPath
 from pagelog.keeper.referee import Away, Doubt, Referee, digest
 from pagelog.keeper.rows import Kept as KeptRow, Row
 from pagelog.keeper.run import Program
@@ -29,7 +29,7 @@ from pagelog.keeper.served import Served
 from pagelog.keeper.session import Session
 from postgres import Postgres
 from service import IS_LONG, PATIENCE, PROGRAM, WIDE_TABLE
-from test_quick_way import Client, Hot
+from test_fast_path import Client, Hot
 from test_referee import Referees, new_database
 
 DESCRIPTORS = 1100
@@ -66,12 +66,12 @@ class ManyDescriptors(Kept):
             self.keeping.referee.close()
             self.commit(primary, "2", durable=True)
             generation = self.keeping.place().generation
-            self.keeping.word("succeed", "shop")
+            self.keeping.word("rollover", "shop")
             eventually(
                 lambda: self.keeping.place(least=generation).generation > generation,
                 "the next generation",
             )
-            for text in "3456":  # of which the last ones go the quick way, if there is one
+            for text in "3456":  # of which the last ones take the fast path, if there is one
                 self.commit(primary, text, durable=True)
         self.assertEqual(self.texts(), [b"1", b"2", b"3", b"4", b"5", b"6"])
         for wrong in ("fault of the keeper", "ValueError", "Traceback"):
@@ -138,11 +138,11 @@ class Unexpected(Referees):
             said, ["nothing is archived: PostgreSQL: ValueError: filedescriptor out of range"]
         )
 
-    def test_the_quick_way_is_to_be_had_again(self) -> None:
+    def test_the_fast_path_is_to_be_had_again(self) -> None:
         said: list[str] = []
 
         async def connect() -> bool:
-            plane = QuickPlane(
+            plane = FastPlane(
                 lambda: QuickReferee(self.url, "one", "life of one"),
                 idle=0.0,
                 deadline=PATIENCE,
@@ -190,7 +190,7 @@ class Together(Hot):
             self.addCleanup(other.served.end)
 
     async def all_hot(self) -> tuple[Client, list[Client]]:
-        """A client of each, whose line the quick way has."""
+        """A client of each, whose line the fast path has."""
         clients = [self.client() for _ in self.others]
         for other, client in zip(self.others, clients):
             while not other.is_hot:
@@ -353,7 +353,7 @@ class Other:
         self.loader = hot.enterContext(self.served.loader())
 
     @property
-    def way(self) -> QuickWay | None:
+    def way(self) -> FastPath | None:
         return None if self.database.work.archiver is None else self.database.work.archiver._way
 
     @property

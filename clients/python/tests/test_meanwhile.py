@@ -27,7 +27,7 @@ from pagelog.keeper.fates import Questions, tell_block, tell_fate
 from pagelog.keeper.keeping import Keeper
 from pagelog.keeper.lines import Server
 from pagelog.keeper.machine import Action, Kind, Stage
-from pagelog.keeper.quick_way import End
+from pagelog.keeper.fast_path import End
 from pagelog.keeper.recorder import Recorder, Turn
 from pagelog.keeper.referee import Away, Doubt, Referee, Refused
 from pagelog.keeper.rows import Batch, KeeperRow, Kept, Lines, Look, Row, StandbyRow

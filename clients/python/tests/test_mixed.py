@@ -23,7 +23,7 @@ from click.testing import CliRunner
 
 from keepers import Keeping, eventually
 from pagelog import Block
-from pagelog.desk.words import pagelogctl
+from pagelog.cli.words import pagelogctl
 from pagelog.place import OlderKeepers
 from pagelog.trail import Trail
 from postgres import postgres
@@ -92,7 +92,8 @@ class MixedKeeping(Keeping):
 
     @contextmanager
     def older(self) -> Iterator[None]:
-        before = dict(self.environment)
+        before, listens = dict(self.environment), self.listens
+        self.listens = "--lines", "--serve"
         self.environment.update(
             PYTHONPATH=str(old() / "python" / "src"), PYTHONPYCACHEPREFIX=str(old() / "bytecode")
         )
@@ -100,6 +101,7 @@ class MixedKeeping(Keeping):
             yield
         finally:
             self.environment.update(before)
+            self.listens = listens
 
     def old_word(self, *words: object) -> None:
         with self.older():
@@ -210,7 +212,7 @@ class Mixed(Beside):
         self.assertEqual(self.texts(), texts)
 
     def test_a_service_is_adopted_in_both_directions(self) -> None:
-        """By the next life of its keeper, of another version: nobody takes over, and what is not archived is there."""
+        """By the next instance of its keeper, of another version: nobody takes over, and what is not archived is there."""
         keeping = self.keeping
         keeping.kill("b")
         with closing(OldWriter(keeping.addresses)) as writer:

@@ -12,7 +12,7 @@ import pagelog
 from pagelog import Block, Put
 from pagelog.archive import Archive
 from pagelog.comparing import no_progress
-from pagelog.desk.move_words import _run
+from pagelog.cli.move_words import _run
 from pagelog.keeping import Archiver, Move, NoRoom, NotFenced, OtherLog, SameDatabase, all_blocks
 from pagelog.moving import is_same_database
 from pagelog.tables import TableText

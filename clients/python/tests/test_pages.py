@@ -30,7 +30,7 @@ from pagelog.archive import Archive
 from pagelog.console.board import Board
 from pagelog.console.source import Source
 from pagelog.credentials import load
-from pagelog.desk.words import pagelogctl
+from pagelog.cli.words import pagelogctl
 from pagelog.errors import ConnectionLost, Unreachable
 from pagelog.keeper.bases import make_base
 from pagelog.keeper.images import Replay
@@ -474,7 +474,7 @@ class Kept(Served):
             self.servers()
             run, address = self.follows_to(positions[-1])
             generation = self.keeping.place().generation
-            self.keeping.word("succeed", "shop")
+            self.keeping.word("rollover", "shop")
             self.keeping.place(least=generation + 1)
             positions += [self.commit(primary, n) for n in range(10, 20)]
             os.kill(self.keeping.pid(), signal.SIGKILL)
@@ -573,7 +573,7 @@ class Kept(Served):
                 (base.position, chain, row.id),
             )
         eventually(
-            lambda: any("it begins anew" in each for each in self.said), "that it begins anew"
+            lambda: any("it begins again" in each for each in self.said), "that it begins again"
         )
         eventually(lambda: follower.address not in (None, address), "another one")
         self.assertNotEqual(self.follows_to(base.position)[0], run)
@@ -694,7 +694,7 @@ class Told(Served):
             eventually(lambda: self.follower()._bell.hears, "the keeper")
             took = [self.comes(self.commit(primary, n)) for n in range(1, 200)]
             generation = self.keeping.place().generation
-            self.keeping.word("succeed", "shop")
+            self.keeping.word("rollover", "shop")
             self.keeping.place(least=generation + 1)
             self.comes(self.commit(primary, 200))
             os.kill(self.keeping.pid(), signal.SIGKILL)
@@ -989,7 +989,7 @@ class Gone(Apart):
             eventually(
                 lambda: self.known() == [1, 0, 0, 0], "one of them, as the other has ended in order"
             )
-            self.assertIn("there ended", self.keeping.word("kept", "--wide"))
+            self.assertIn("there ended", self.keeping.word("list", "--wide"))
             other = self.apart()
             eventually(lambda: self.known() == [2, 0, 0, 0], "both")
             other.kill()
@@ -1016,11 +1016,11 @@ class Gone(Apart):
             self.assertEqual(
                 sorted(each["gone"] for each in board._rows["shop"].fields["pages"]), [False, True]
             )
-            kept = self.keeping.word("kept", "--wide")
+            kept = self.keeping.word("list", "--wide")
             self.assertIn(f"gone: page server {gone} of shop at there, not heard for ", kept)
             self.assertIn(f"here at {position}", kept)
             self.assertIn("there gone", kept)
-            facts = json.loads(self.keeping.word("kept", "--json"))["page_servers"]
+            facts = json.loads(self.keeping.word("list", "--json"))["page_servers"]
             self.assertEqual(
                 {each["run"]: each["gone"] for each in facts}, {left: False, gone: True}
             )
@@ -1107,7 +1107,7 @@ class WentBack(Served):
             self.archived(first, chain)
             eventually(
                 lambda: [each.last for each in self.asides()] == [positions[-1]],
-                f"what is set aside: {self.said}",
+                f"what is quarantined: {self.said}",
             )
 
     def persisted(self) -> int:
@@ -1134,7 +1134,7 @@ class WentBack(Served):
         wanted = [store.stem], [Store("shop", identity, "1" * 16).stem]
         eventually(
             lambda: (self.folders(folder / "aside"), self.folders(folder)) == wanted,
-            f"that it alone is set aside: {self.said}",
+            f"that it alone is quarantined: {self.said}",
         )
         self.assertEqual([(each.run, each.last) for each in self.asides()], [(run, positions[-1])])
 
@@ -1169,7 +1169,7 @@ class WentBack(Served):
 
             eventually(goes_on, f"more and more attempts: {self.said}")
             self.assertEqual(([each.run for each in self.asides()], tables), ([run], []))
-            self.assertEqual(sum("begins anew" in each for each in self.said), 1)
+            self.assertEqual(sum("begins again" in each for each in self.said), 1)
         self.archived(positions[-1], chains[-1])
         self.follows_to(positions[-1])
 
@@ -1203,7 +1203,7 @@ class Lost(Served):
             ).fetchall()
         self.keeping.referee.close()
         self.server.set_back(transaction, is_behind=False)
-        eventually(lambda: len(self.asides()) == 1, f"what is set aside: {self.said}")
+        eventually(lambda: len(self.asides()) == 1, f"what is quarantined: {self.said}")
         with self.assertRaises((ConnectionLost, Unreachable)):
             reader.status()
         run, _ = self.follows_to(positions[5])
@@ -1211,7 +1211,7 @@ class Lost(Served):
         [aside] = self.asides()
         self.assertEqual((aside.run, aside.oldest, aside.last), (old, 0, positions[-1]))
         said = f"store {old} of shop at here, {aside.path(self.folder)}: positions 0 to {positions[-1]}"
-        eventually(lambda: f"set aside: {said}" in self.keeping.word("kept"), "that it is named")
+        eventually(lambda: f"quarantined: {said}" in self.keeping.word("list"), "that it is named")
         self.assertIn(said, self.keeping.word("rescue", "shop"))
         self.assertIn(
             said, self.keeping.word("pages", "--folder", self.folder, "--machine", "here", "--list")

@@ -212,7 +212,7 @@ class Compared(Apart):
             next(words)()
             return found
 
-        with unittest.mock.patch("pagelog.desk.comparing_words.position_of_all", forgets):
+        with unittest.mock.patch("pagelog.cli.comparing_words.position_of_all", forgets):
             status, said = self.verified("--last", self.position - 1)
         self.assertEqual(
             (

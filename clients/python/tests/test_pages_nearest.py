@@ -311,7 +311,7 @@ class Succeeded(Reads):
         reader = self.reading()
         self.read(reader)
         generation = self.keeping.place().generation
-        self.keeping.word("succeed", "shop")
+        self.keeping.word("rollover", "shop")
         self.keeping.place(least=generation + 1)
         self.commit(self.primary, 8)
         made.feed(self.keeping.archive())

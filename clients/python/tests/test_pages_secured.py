@@ -25,7 +25,7 @@ from keepers import eventually
 from prometheus_client.parser import text_string_to_metric_families
 from pagelog import Connection, Credentials, Put, Reader
 from pagelog.credentials import load
-from pagelog.desk.words import pagelogctl
+from pagelog.cli.words import pagelogctl
 from pagelog.errors import ConnectionLost, TimedOut, Unreachable
 from pagelog.keeper.certificate import Pair
 from pagelog.keeper.referee import Referee

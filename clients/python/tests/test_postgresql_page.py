@@ -143,7 +143,7 @@ class Paged(unittest.TestCase):
             }
 
     def asides(self) -> list[dict[str, Any]]:
-        lines = map(json.loads, self.keeping.word("kept", "--json").splitlines())
+        lines = map(json.loads, self.keeping.word("list", "--json").splitlines())
         return [each for line in lines if line["name"] == "shop" for each in line["set_aside"]]
 
 
@@ -233,7 +233,7 @@ class Backups(Paged):
             writer.execute("CREATE TABLE t (n INTEGER PRIMARY KEY)")
             self.insert(writer, 1, 2, 3)
             generation = self.keeping.place().generation
-            self.keeping.word("succeed", "shop")
+            self.keeping.word("rollover", "shop")
             self.keeping.place(least=generation + 1)
             self.insert(writer, 4)
             self.run_printed(dump)
@@ -267,7 +267,7 @@ class Backups(Paged):
 
     def set_aside(self, write: Callable[[], None]) -> str:
         """The holder is killed, and its service is not; PostgreSQL is restored, and another keeper takes over, to which is written. Returns
-        the keeper that has a service set aside, once it is back."""
+        the keeper that has a service quarantined, once it is back."""
         holder, place = str(self.keeping.row().holder), self.keeping.place()
         other = {"a": "b", "b": "a"}[holder]
         for name in "ab":
@@ -280,7 +280,7 @@ class Backups(Paged):
         write()
         self.keeping.start(holder)
         eventually(
-            lambda: [each["run"] for each in self.asides()] == [place.run], "what is set aside"
+            lambda: [each["run"] for each in self.asides()] == [place.run], "what is quarantined"
         )
         return holder
 

@@ -173,7 +173,7 @@ class Proofs(Kept):
     def test_clients_prove_and_are_never_counted(self) -> None:
         with self.keeping.primary() as primary, self.keeping.reader() as reader:
             self.commit(primary, "2", durable=True)
-            self.keeping.word("succeed", "shop")
+            self.keeping.word("rollover", "shop")
             self.keeping.place(least=self.place.generation + 1)
             self.commit(primary, "3", durable=True)
             reader.page(0)

@@ -268,7 +268,7 @@ class Fates(Referees):
         )
 
     def test_a_twin_of_a_name_ends_the_first(self) -> None:
-        twin = Referee(self.url, "one", "a later life")
+        twin = Referee(self.url, "one", "a later instance")
         self.addCleanup(twin.close)
         twin.register("one:2")
         with self.assertRaises(Superseded):
@@ -289,10 +289,12 @@ class Fates(Referees):
     def test_a_keeper_that_postgresql_does_not_know_any_more_takes_its_name_again(self) -> None:
         for _ in range(5):
             self.referee.look()
-        earlier = "UPDATE pagelog_keeper SET run = 'an earlier life', beat = 3 WHERE name = 'one'"
+        earlier = (
+            "UPDATE pagelog_keeper SET run = 'a previous instance', beat = 3 WHERE name = 'one'"
+        )
         for statement, beat in ((earlier, 4), ("DELETE FROM pagelog_keeper WHERE name = 'one'", 0)):
             self.put_back(statement)
-            with self.assertRaisesRegex(Doubt, "it went back, and is told again"):
+            with self.assertRaisesRegex(Doubt, "it went back, and this keeper is registered again"):
                 self.referee.look()
             self.assertEqual(self.life(), (self.referee.run, beat))
             found = self.referee.look().keeper("one")
@@ -314,14 +316,14 @@ class Fates(Referees):
             self.url, autocommit=True
         ) as other:
             session.execute(
-                "UPDATE pagelog_keeper SET run = 'a later life', beat = beat + 1 WHERE name = 'one'"
+                "UPDATE pagelog_keeper SET run = 'a later instance', beat = beat + 1 WHERE name = 'one'"
             )
             looks.start()
             waits = "SELECT 1 FROM pg_stat_activity WHERE wait_event_type = 'Lock' AND application_name = 'pagelog keeper one'"
             eventually(lambda: other.execute(waits).fetchone() is not None, "a look that waits")
         looks.join(PATIENCE)
         self.assertEqual(
-            ([type(error) for error in raised], self.life()), ([Doubt], ("a later life", 1))
+            ([type(error) for error in raised], self.life()), ([Doubt], ("a later instance", 1))
         )
         self.assertRaises(Superseded, self.referee.look)
 

@@ -85,13 +85,13 @@ class Decisions(unittest.TestCase):
             (said, str(database.decision)),
             (["follows b at position 0"], "follows b at position 99"),
         )
-        database._say(Decision(Action.TAKE, "the beat of b has stood still for {} s", "5.0"))
+        database._say(Decision(Action.TAKE, "the heartbeat of b has stalled for {} s", "5.0"))
         database._say(Decision(Action.TAKE, "nobody has it"))
         database._say(Decision(Action.NOTHING, "follows b at position {}", "99"))
         self.assertEqual(
             said[1:],
             [
-                "take: the beat of b has stood still for 5.0 s",
+                "take: the heartbeat of b has stalled for 5.0 s",
                 "take: nobody has it",
                 "follows b at position 99",
             ],
@@ -128,7 +128,7 @@ class Standbys(Kept):
         self.assertLessEqual(
             len(lines), 3, self.keeping.said()
         )  # one more each minute, on a slow machine
-        self.assertIn("follows", self.keeping.word("kept", "--json"))
+        self.assertIn("follows", self.keeping.word("list", "--json"))
 
 
 class NoProgram(Kept):

@@ -97,7 +97,7 @@ class Replays(unittest.TestCase):
         )
 
     def rewrite(self, edit: Callable[[list[bytes]], list[bytes]]) -> None:
-        """Writes the last list again with its lines edited, and all digests made anew, as one who knows how would."""
+        """Writes the last list again with its lines edited, and all digests made again, as one who knows how would."""
         one = self.trail.lists()[-1]
         data = self.trail.lines(one, 1)
         lines = edit([data[at : at + LINE_SIZE] for at in range(0, len(data), LINE_SIZE)])
@@ -375,7 +375,7 @@ class Edits(Written):
 
         store(outside.data, zlib.crc32(kept.data))
         self.assertRaises(BrokenArchive, self.replay)
-        # One who knows how makes the checksum anew, and the seal tells.
+        # One who knows how makes the checksum again, and the seal tells.
         like = Block.of(30, (*kept.records, Zero(3)))
         store(like.data, zlib.crc32(like.data))
         with self.assertRaises(BrokenArchive) as raised:

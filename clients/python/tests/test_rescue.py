@@ -68,8 +68,8 @@ class Lost(Kept):
         )
 
     def asides(self) -> dict[str, dict[str, Any]]:
-        """What is said to be set aside, or still with its keeper, by run."""
-        lines = map(json.loads, self.keeping.word("kept", "--json").splitlines())
+        """What is said to be quarantined, or still with its keeper, by run."""
+        lines = map(json.loads, self.keeping.word("list", "--json").splitlines())
         return {
             each["run"]: each
             for line in lines
@@ -106,12 +106,12 @@ class Lost(Kept):
         for facts in self.processes.values():
             os.kill(facts["pid"], 0)
             self.assertIn(
-                f"the service of run {facts['run']}, which an earlier life left, is set aside: PostgreSQL has no such database",
+                f"the service of run {facts['run']}, which a previous instance left, is quarantined: PostgreSQL has no such database",
                 self.keeping.said(),
             )
         eventually(
             lambda: [each["kept"] for each in self.asides().values()] == [True, True],
-            "both set aside",
+            "both quarantined",
         )
         with self.client() as operator, self.assertRaises(TableRow):
             operator.failover(2)  # with which a writer begins: nobody writes to it any more
@@ -122,7 +122,7 @@ class Lost(Kept):
         shown = self.keeping.word("rescue", "shop", "--folder", folder)
         self.assertRegex(
             shown,
-            rf"run {run} of keeper {self.holder}, .*, set aside, ends at position (\d+), which is LSN \1: "
+            rf"run {run} of keeper {self.holder}, .*, quarantined, ends at position (\d+), which is LSN \1: "
             r"PostgreSQL has lost its database, with \1 blocks",
         )
         saved = ("rescue", "shop", "--run", run, "--folder", folder, "--as", "saved")

@@ -8,7 +8,7 @@ from typing import Any
 from click.testing import CliRunner
 
 from keepers import new_url
-from pagelog.desk.words import pagelogctl
+from pagelog.cli.words import pagelogctl
 from pagelog.keeper.bases import Bases, make_base
 from pagelog.keeper.branching import branch
 from pagelog.keeper.fate import Loss, Of
@@ -267,7 +267,7 @@ class Rescues(Old):
         done = CliRunner().invoke(pagelogctl, words)
         self.assertRegex(
             done.output,
-            r"shop: positions 1 to 600 in \d+ objects and 0 bases, up to 20\d\d-.*go on above 1001\nlost: what was archived after",
+            r"shop: positions 1 to 600 in \d+ objects and 0 bases, up to 20\d\d-.*continue above 1001\nlost: what was archived after",
         )
         self.assertIn(
             "PostgreSQL has a database shop", CliRunner().invoke(pagelogctl, words).output

@@ -20,7 +20,7 @@ from unittest import mock
 import pagelog
 from pagelog import Block, Operation, Put
 from pagelog.archive import Archive, BrokenArchive
-from pagelog.desk import options
+from pagelog.cli import options
 from pagelog.keeping import Archiver, OtherLog, OtherService, all_blocks, restore, verify
 from postgres import postgres
 from service import PATIENCE, SOURCE, TABLE, Service, all_that_is_drawn, fill, put, token

@@ -356,7 +356,7 @@ class Services(Kept):
             (self.keeping.pid(), status_of(pid)["Uid"].split()[0]), (pid, str(SERVICES))
         )
         self.assertEqual(self.row_generation(), 1)
-        self.keeping.word("succeed", "shop")
+        self.keeping.word("rollover", "shop")
         eventually(
             lambda: self.row_generation() > 1
             and services(self.keeping.folder / "a") == [self.keeping.pid()],

@@ -477,7 +477,7 @@ class Runs(unittest.TestCase):
         run.leave()
 
     def test_one_that_does_not_end_is_waited_for_no_longer_than_a_while(self) -> None:
-        """As one that waits for a disk. Its keeper goes on, and its next life ends it."""
+        """As one that waits for a disk. Its keeper goes on, and its next instance ends it."""
         run, open_before = self.start(), len(os.listdir("/proc/self/fd"))
         with patch("signal.pidfd_send_signal"), patch("pagelog.keeper.run._END", 0.01):
             self.assertFalse(run.end())

@@ -15,7 +15,7 @@ from click.testing import CliRunner
 
 from keepers import Keeping, eventually, new_url
 from pagelog import NamedPrimary
-from pagelog.desk.words import pagelogctl
+from pagelog.cli.words import pagelogctl
 from pagelog.errors import CredentialsError
 from pagelog.keeper.referee import Referee, Sealed
 from pagelog.keeper.sealed import INSTEAD, Keys, NoKey, Stored, id_of
@@ -204,7 +204,7 @@ class Kept(unittest.TestCase):
         self.assertIn("copy is sealed by key", keeping.word("seal"))
         self.assertEqual(keeping.word("seal"), "")
         self.write(self.second)
-        keeping.word("succeed", "shop")
+        keeping.word("rollover", "shop")
         self.commit(new, "4")
         self.assertEqual(
             (self.looks_for(*tokens), self.looks_for(id_of(bytes.fromhex(self.first)))), ([], [])

@@ -27,7 +27,7 @@ from pagelog import Primary, Reader
 from pagelog.console.board import Limits
 from pagelog.console.door import Door
 from pagelog.console.running import begin
-from pagelog.desk.metrics import serve
+from pagelog.cli.metrics import serve
 from pagelog.errors import CredentialsError
 from pagelog.keeper.certificate import Pair, ShownFile
 from pagelog.keeper.fate import Of
@@ -222,13 +222,13 @@ class Both(Side):
             )
             self.assertNotEqual(self.front(holder), pid)
             pid = self.front(holder)
-            self.keeping.word("pause", "shop")  # however long the next life takes to begin
+            self.keeping.word("pause", "shop")  # however long the next instance takes to begin
             self.keeping.kill(holder)
             self.keeping.start(holder)
             self.commit(writer, "its keeper was killed", durable=True)
             self.keeping.word("resume", "shop")
             self.assertEqual((self.front(holder), self.holder()), (pid, holder))
-            self.keeping.word("succeed", "shop")
+            self.keeping.word("rollover", "shop")
             eventually(
                 lambda: self.asked(holder, "where shop")[2:3] != before[2:3], "the next generation"
             )

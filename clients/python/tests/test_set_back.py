@@ -287,7 +287,7 @@ class Played:
             )
             return
         if self.case.action == "succession":
-            keeping.word("succeed", "shop")
+            keeping.word("rollover", "shop")
         elif self.case.action == "switchover":
             keeping.word("switchover", "shop", "--to", OTHER[str(row.holder)])
         elif self.case.action == "takeover":
@@ -349,7 +349,7 @@ class Played:
         """The service of a database that PostgreSQL does not have is not ended, its keeper says of it, and `rescue` saves all of it."""
         eventually(
             lambda: self.run in [each["run"] for each in self.asides()],
-            "a word of what was set aside",
+            "a word of what was quarantined",
         )
         os.kill(self.pid, 0)
         [keeper] = {each["keeper"] for each in self.asides() if each["run"] == self.run}
@@ -367,12 +367,12 @@ class Played:
         assert self.acknowledged - {AFTER} <= self.pages("last"), "acknowledged, and not saved"
 
     def asides(self) -> list[dict[str, str]]:
-        lines = map(json.loads, self.keeping.word("kept", "--json").splitlines())
+        lines = map(json.loads, self.keeping.word("list", "--json").splitlines())
         return [each for line in lines if line["name"] == "shop" for each in line["set_aside"]]
 
     def rescued(self) -> set[int]:
         """What `rescue` saves of it, and shows before."""
-        eventually(lambda: bool(self.asides()), "a word of what was set aside")
+        eventually(lambda: bool(self.asides()), "a word of what was quarantined")
         found: set[int] = set()
         for number, each in enumerate(self.asides()):
             saved = f"saved{number}"

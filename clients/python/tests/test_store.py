@@ -23,8 +23,8 @@ import psycopg
 from click.testing import CliRunner
 
 from pagelog import Block, Put
-from pagelog.desk.drop_words import _drop_named
-from pagelog.desk.words import pagelogctl
+from pagelog.cli.drop_words import _drop_named
+from pagelog.cli.words import pagelogctl
 from pagelog.keeper.bases import NOTHING, Base, Bases, make_base
 from pagelog.keeper.basing import Wish as BaseWish
 from pagelog.keeper.history import begin_again, extent_of, position_at
@@ -1127,7 +1127,7 @@ class Held(WithImages):
         self.assertRegex(
             said("hold", "shop"), "^shop is held since 20.*: positions 0 to 900, from 20"
         )
-        self.assertRegex(said("kept", "--json"), '"held": true')
+        self.assertRegex(said("list", "--json"), '"held": true')
         for words in (("prune", "shop", "--keep", "1", "--yes"), ("drop", "shop", "--yes")):
             self.assertRegex(
                 said(*words),

@@ -19,7 +19,7 @@ from unittest.mock import Mock, patch
 import psycopg
 
 from keepers import Gate, Kept, eventually, new_url
-from pagelog.desk import metrics
+from pagelog.cli import metrics
 from pagelog.keeper.fates import EACH_BLOCK, EACH_FATE, Questions, tell_block, tell_fate
 from pagelog.keeper.keeping import EACH_WHERE
 from pagelog.keeper.metrics import KeeperCollector
@@ -167,7 +167,7 @@ class Asked(Kept):
             gate = Gate(self.keeping.url, "NEW.generation > OLD.generation")
             self.addCleanup(gate.open)
             place = self.keeping.place()
-            self.keeping.word("succeed", "shop")
+            self.keeping.word("rollover", "shop")
             gate.somebody_waits()
             found = self.answers_before(
                 "end", *[f"where shop {place.generation + 1}"] * (EACH_WHERE + 5)
@@ -309,7 +309,7 @@ class Scraped(unittest.TestCase):
             asked.close()
 
     def test_a_request_that_comes_byte_by_byte_is_ended(self) -> None:
-        with patch("pagelog.desk.metrics._IDLE_SECONDS", 0.3):
+        with patch("pagelog.cli.metrics._IDLE_SECONDS", 0.3):
             line = self.connect(self.serve())
             line.settimeout(0.02)
             while True:

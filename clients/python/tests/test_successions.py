@@ -40,7 +40,7 @@ CUTTING = Path(__file__).resolve().parent / "cutting.py"
 SHORT = """import pathlib, pagelog.reader
 from pagelog.errors import OutOfMemory
 from pagelog.keeper.archiver import Archiver
-from pagelog.keeper.quick_plane import QuickPlane
+from pagelog.keeper.fast_plane import FastPlane
 
 def ring(self):
     if not self._is_careful and lacks(self._served.process.address):
@@ -59,8 +59,8 @@ def few(self, starts, *rest, most=16, **how):
         raise OutOfMemory("the service had no memory for it")
     return span(self, starts, *rest, most=most, **how)
 
-mark, span, way = pathlib.Path({!r}), pagelog.reader.Reader._span_of, QuickPlane.way_of
-pagelog.reader.Reader._span_of, QuickPlane.way_of = few, way_of
+mark, span, way = pathlib.Path({!r}), pagelog.reader.Reader._span_of, FastPlane.way_of
+pagelog.reader.Reader._span_of, FastPlane.way_of = few, way_of
 rang, Archiver.ring = Archiver.ring, ring
 import pagelog.__main__
 """
@@ -88,7 +88,7 @@ class Succeeding(Kept):
     def succeed(self, *, waits: bool = True) -> Place:
         """A succession by hand. With `waits` it is over: the service before is ended, too."""
         before = self.keeping.place()
-        self.keeping.word("succeed", "shop")
+        self.keeping.word("rollover", "shop")
         if not waits:
             return before
         after = self.keeping.place(least=before.generation + 1)
@@ -337,7 +337,7 @@ class OneKeeper(Succeeding):
                     "DELETE FROM pagelog_block WHERE log = %s AND lsn = 5 RETURNING log, lsn, crc, data",
                     (row.id,),
                 ).fetchone()
-            self.keeping.word("succeed", "shop")
+            self.keeping.word("rollover", "shop")
             eventually(
                 lambda: self.keeping.place().generation > before.generation
                 or "was given up" in self.keeping.said(),
@@ -425,7 +425,7 @@ class Thresholds(Succeeding):
                 lambda: "% full" in self.keeping.said() or writer.fault is not None,
                 "half of the list",
             )
-        made = "(?s)its list or its memory is .* begins at position .*, from images at"
+        made = "(?s)its audit list or its memory is .* begins at position .*, from images at"
         eventually(lambda: re.search(made, self.keeping.said()) is not None, made)
         with Writer(self.keeping, len(writer.texts)) as second:
             second.has(5)

@@ -1,4 +1,4 @@
-"""`top` of named databases: what it shows of real keepers, alone and beside a plain service."""
+"""`top` of named databases: what it shows of real keepers, alone and beside a standalone service."""
 
 from __future__ import annotations
 
@@ -11,9 +11,9 @@ from typing import Any, Callable
 from click.testing import CliRunner
 
 from keepers import Gate, Kept, eventually
-from pagelog.desk.keeper_words import facts_of
-from pagelog.desk.top_named import SILENT, NamedWatch
-from pagelog.desk.words import pagelogctl
+from pagelog.cli.keeper_words import facts_of
+from pagelog.cli.top_named import SILENT, NamedWatch
+from pagelog.cli.words import pagelogctl
 from service import PATIENCE, Service
 from test_archive import words
 

@@ -14,7 +14,7 @@ from unittest.mock import patch
 
 import pagelog
 from pagelog import Address, Operator
-from pagelog.desk.trail_words import _lines
+from pagelog.cli.trail_words import _lines
 from pagelog.errors import AuditListFull
 from pagelog.reply import LINE_SIZE, Entry, encode_entry
 from pagelog.request import AUDIT_MAX
@@ -355,8 +355,8 @@ class Words(Folder):
             seen[0], now[0] = MORNING + len(looks) * 1_000_000, MORNING / 1e6 + len(looks) * 2
             keeper.step()
 
-        with patch("pagelog.desk.trail_words.time.sleep", waits), patch(
-            "pagelog.desk.trail_words.time.time", lambda: now[0]
+        with patch("pagelog.cli.trail_words.time.sleep", waits), patch(
+            "pagelog.cli.trail_words.time.time", lambda: now[0]
         ):
             found = {line.seen for line in shown if isinstance(line, Seen)}
         self.assertEqual((found, len(looks)), ({MORNING, MORNING + 1_000_000}, 4))

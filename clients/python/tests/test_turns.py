@@ -505,7 +505,7 @@ class Generations(Kept):
         return said
 
     def test_the_first_one_of_a_generation_who_is_alone_has_the_turn(self) -> None:
-        """Who asks for it at once, as SQLite without a busy timeout, and in each generation anew."""
+        """Who asks for it at once, as SQLite without a busy timeout, and in each generation again."""
         for generation in range(2, 5):
-            self.keeping.word("succeed", "shop")
+            self.keeping.word("rollover", "shop")
             self.assertEqual(self.told(generation), "turn shop other")

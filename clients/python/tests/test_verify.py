@@ -238,7 +238,7 @@ class Changed(Verifies, Written):
         self.table, self.file = self.out / "list-1.toml", self.out / "list-1.trail"
 
     def replayed(self, file: File) -> int | None:
-        """The line at which the plain model finds a changed trail to differ, if it does."""
+        """The line at which the reference model finds a changed trail to differ, if it does."""
         texts = [item[1:] for item in file.kept if item[0] == TEXT]
         blocks = ArchivedLog(self.trail, self.archive).blocks()
         given = {at for at, (brings, _) in enumerate(file.lines, 1) if brings > 80}
@@ -277,7 +277,7 @@ class Changed(Verifies, Written):
                 self.assertEqual(first, f"differs: line {number}")
                 [line] = read_lines(file.lines[number - 1][1])
                 self.assertTrue(second.startswith(f"{line.number} pass {line.under} "), second)
-                # The plain model has no block before it is hardened: it finds the same line, or a later one.
+                # The reference model has no block before it is hardened: it finds the same line, or a later one.
                 if file.kept == before.kept and [line for _, line in file.lines] != lines:
                     self.assertGreaterEqual(self.replayed(file) or number, number)
                     found += self.replayed(file) == number
@@ -428,7 +428,7 @@ class Changed(Verifies, Written):
     def test_what_was_changed_in_the_database_is_named_too(self) -> None:
         self.rewrite(lambda lines: lines[:4] + [lines[5], lines[4]] + lines[6:])
         said = ends(words("trail", "shop", "--url", self.url, "--export", self.folder / "b"), 0)
-        self.assertIn("the plain model decides line 5 otherwise", said)
+        self.assertIn("the reference model decides line 5 otherwise", said)
         [answer] = self.verified(said, agrees=1)
         self.assertTrue(answer.startswith("differs: line 5\n"))
 
@@ -478,7 +478,7 @@ class Generations(Verifies, Trailed):
             for number in range(1, 41):
                 self.commit(primary, f"{number}", durable=number % 10 == 0)
             one = self.keeping.place().generation
-            self.keeping.word("succeed", "shop")
+            self.keeping.word("rollover", "shop")
             two = goes_on(one)
             eventually(lambda: len(self.keeping.standbys()) == 1, "a standby")
             self.keeping.word("switchover", "shop", "--to", *self.keeping.standbys())

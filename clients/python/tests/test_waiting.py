@@ -19,8 +19,8 @@ from pagelog.archive import Archive
 from pagelog.archive.archiving import Archiver
 from pagelog.audit_list import AuditRoom
 from pagelog.comparing import all_blocks
-from pagelog.desk.archive_words import Follower
-from pagelog.desk.options import NOT_YET
+from pagelog.cli.archive_words import Follower
+from pagelog.cli.options import NOT_YET
 from pagelog.fencing import ListGuard
 from pagelog.restoring import set_real_table
 from pagelog.tables import TableError, TableText

@@ -1,4 +1,4 @@
-"""Subcommands that delete say first what goes, and ask; and what restore, kept and switchover say of what is not there."""
+"""Subcommands that delete say first what goes, and ask; and what restore, list and switchover say of what is not there."""
 
 from __future__ import annotations
 
@@ -19,10 +19,10 @@ import psycopg
 from click.testing import CliRunner
 
 from keepers import Kept, Trigger, eventually, new_database, new_url
-from pagelog.desk.words import pagelogctl
+from pagelog.cli.words import WORDS, pagelogctl
 from pagelog.keeper.bases import make_base
 from pagelog.keeper.referee import Referee, digest
-from service import PATIENCE
+from service import PATIENCE, SOURCE
 
 INDIA = "Asia/Kolkata"
 """A zone of +05:30, at all times."""
@@ -72,6 +72,51 @@ class Words(Kept):
         return process.wait(PATIENCE), re.sub(r"\x1b\[[0-9;]*m", "", said.decode()).replace(
             "\r\n", "\n"
         )
+
+
+class OlderNames(unittest.TestCase):
+    """What had another name in 0.1.0 is read by that for one version, and shown by the new one alone."""
+
+    def test_subcommands_are_read_by_their_older_names_too(self) -> None:
+        for older, name in (("kept", "list"), ("succeed", "rollover")):
+            by_older, by_name = (
+                CliRunner().invoke(pagelogctl, [word, "--help"]) for word in (older, name)
+            )
+            self.assertEqual((by_older.exit_code, by_name.exit_code), (0, 0))
+            self.assertEqual(
+                by_older.output, by_name.output.replace(f"ctl {name} [", f"ctl {older} [")
+            )
+            self.assertNotIn(older, WORDS)
+            self.assertNotRegex(
+                CliRunner().invoke(pagelogctl, ["--help"]).output, rf"(?m)^  {older} "
+            )
+
+    def test_options_of_keep_are_read_by_their_older_names_too(self) -> None:
+        words = ["keep", "--name", "a", "--folder", "f", "--credentials", os.devnull]
+        no_url = "named databases need PostgreSQL"
+        for more, status, said in (
+            (("--listen", "h:1", "--service-host", "h"), 1, no_url),
+            (("--lines", "h:1", "--serve", "h"), 1, no_url),
+            (("--lines=h:1", "--service-host=h"), 1, no_url),
+            (("--lines", "h:1"), 2, "Missing option '--service-host'"),
+            (("--serve", "h"), 2, "Missing option '--listen'"),
+        ):
+            with self.subTest(more):
+                done = subprocess.run(
+                    [sys.executable, "-B", "-m", "pagelog", *words, *more],
+                    env={
+                        **os.environ,
+                        "PYTHONPATH": str(SOURCE),
+                        "PAGELOG_ARCHIVE_URL": "sqlite:///none",
+                    },
+                    capture_output=True,
+                    text=True,
+                )
+                self.assertEqual(done.returncode, status)
+                self.assertIn(said, done.stderr)
+        help = CliRunner().invoke(pagelogctl, ["keep", "--help"]).output
+        self.assertRegex(help, "--listen HOST:PORT")
+        self.assertNotRegex(help, "--(lines|serve)\b")
 
 
 class Archived(Words):
@@ -237,7 +282,7 @@ class Archived(Words):
 
 
 class Listed(Words):
-    def test_kept_is_readable_in_80_columns_and_in_a_pipe(self) -> None:
+    def test_list_is_readable_in_80_columns_and_in_a_pipe(self) -> None:
         name = "n" * 63
         self.keeping.word("create", name, "--table", self.keeping.table)
         eventually(lambda: self.keeping.row(name).address is not None, "its service")
@@ -245,7 +290,7 @@ class Listed(Words):
         words = ["name", "state", "generation", "holder", "position", "lag", "why"]
 
         def lines() -> list[str]:
-            return self.ran("kept")[1].splitlines()
+            return self.ran("list")[1].splitlines()
 
         eventually(
             lambda: any(
@@ -261,15 +306,15 @@ class Listed(Words):
             cells["shop"], ["shop", "serving, paused", generation, "a", "0", "0", "serves; paused"]
         )
         self.assertEqual(cells[name][:1] + cells[name][3:6], [name, "a", "0", "0"])
-        _, said = self.at_terminal("kept")
+        _, said = self.at_terminal("list")
         self.assertLessEqual(max(map(len, said.splitlines()[1:])), 80)
         self.assertNotIn("…", said)
         for word in (*words, "serving,", "serves; paused", name[:5]):
             self.assertIn(word, said)
 
-    def test_kept_has_more_where_it_is_asked_for(self) -> None:
+    def test_list_has_more_where_it_is_asked_for(self) -> None:
         place = self.keeping.place()
-        head, row, *_ = self.ran("kept", "--wide")[1].splitlines()
+        head, row, *_ = self.ran("list", "--wide")[1].splitlines()
         self.assertEqual(
             re.split("  +", head)[6:-1],
             [
@@ -323,7 +368,7 @@ class Switched(Words):
                 f"asked for shop to go to {whom}, which waits until it is resumed: it is paused\n"
             )
             self.assertEqual(self.ran("switchover", "shop", *to), (0, said, ""))
-            self.assertIn(f"paused, switchover to {whom}  ", self.ran("kept")[1])
+            self.assertIn(f"paused, switchover to {whom}  ", self.ran("list")[1])
             self.assertEqual(
                 self.ran("switchover", "shop", "--cancel"),
                 (0, f"cancelled the switchover of shop to {whom}\n", ""),
@@ -332,7 +377,7 @@ class Switched(Words):
                 self.ran("switchover", "shop", "--cancel"),
                 (0, "no switchover of shop is asked for: nothing was cancelled\n", ""),
             )
-            self.assertNotIn("switchover", self.ran("kept")[1])
+            self.assertNotIn("switchover", self.ran("list")[1])
         self.assertEqual(self.ran("switchover", "shop", "--cancel", "--to", "b")[0], 2)
         self.assertEqual(self.ran("switchover", "none", "--cancel")[0], 1)
         self.keeping.word("resume", "shop")

@@ -10,7 +10,7 @@ from pathlib import Path
 import pagelog
 from pagelog import Primary, Put, rules
 from pagelog.archive import Archive
-from pagelog.desk.explain import ExplainError, Question, Table, explain
+from pagelog.cli.explain import ExplainError, Question, Table, explain
 from pagelog.keeping import Archiver, all_blocks
 from pagelog.request import Get, Write
 from service import PATIENCE, PROGRAM, TABLE, WIDE_TABLE, Service, fill, put, token

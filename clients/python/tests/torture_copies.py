@@ -176,7 +176,7 @@ class Copies(Servers):
         self.done: Counter[str] = Counter()
 
     def violations(self) -> list[str]:
-        """What was shown is the archive replayed, by both in the end too, and nothing was set aside: nothing was lost."""
+        """What was shown is the archive replayed, by both in the end too, and nothing was quarantined: nothing was lost."""
         heads = list(self._heads())
         notes = [
             json.loads(line)
@@ -194,7 +194,7 @@ class Copies(Servers):
             f"the end of page servers fell: {note}" for note in notes if note["what"] == "back"
         ]
         found += [
-            f"{name} has set aside {each}"
+            f"{name} has quarantined {each}"
             for name in MACHINES
             for each in asides_in(self._keeping.folder / "copies" / name)
         ]

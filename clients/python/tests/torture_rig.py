@@ -20,10 +20,10 @@ import click
 import psycopg
 from click.testing import CliRunner
 
-from pagelog.desk.words import pagelogctl
+from pagelog.cli.words import pagelogctl
 from by_tls import VARIABLE
 from pagelog.keeper.front import end_fronts
-from quick_library import build
+from fast_library import build
 from replicated import Pair, Server
 from service import PATIENCE, PROGRAM, SOURCE, Port, token
 from torture_notes import now
@@ -213,9 +213,9 @@ class Keepers:
             "keep",
             "--name",
             called or name,
-            "--lines",
+            "--listen",
             self.ports[name].address,
-            "--serve",
+            "--service-host",
             "127.0.0.1",
             "--folder",
             self.disk / name,
@@ -295,7 +295,7 @@ def send(pid: int, number: int) -> None:
 def load_subcommands() -> None:
     """So that each process of one has what it needs."""
     context = click.Context(pagelogctl)
-    for name in {*SUBCOMMANDS, "kept"} - {"cancel"}:
+    for name in {*SUBCOMMANDS, "list"} - {"cancel"}:
         assert pagelogctl.get_command(context, name) is not None
 
 
@@ -374,7 +374,7 @@ SUBCOMMANDS = (
     "keep",
     "rescue",
     "restore",
-    "succeed",
+    "rollover",
     "switchover",
     "cancel",
     "pause",

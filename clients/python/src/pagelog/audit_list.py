@@ -72,7 +72,7 @@ class AuditFollower:
             self.operator.audit(self._mark, 1)
 
     def _is_another_list(self) -> bool:
-        """Whether a service that was connected to anew lacks what was read, or has another entry there."""
+        """Whether a service that was connected to again lacks what was read, or has another entry there."""
         known = self._marked or self._last
         if known is None or self._connects == self.operator.connection.connects:
             return False

@@ -13,7 +13,7 @@ def main() -> None:
     """Runs a word. `pagelogctl --help` has the exit statuses."""
     _open_closed()
     try:
-        from pagelog.desk.words import pagelogctl
+        from pagelog.cli.words import pagelogctl
 
         pagelogctl(prog_name="pagelogctl")
     except ModuleNotFoundError as error:

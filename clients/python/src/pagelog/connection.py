@@ -76,7 +76,7 @@ class Connection:
 
     `timeout` is in seconds: the longest wait for a connection, and the longest without a byte in either direction.
     `attempts` is how often in a row, 1 or more, a connection is tried before `Unreachable` or `ConnectionLost`; a
-    reply that came begins the count anew. `pause` is the wait in seconds before the second attempt, doubled for each
+    reply that came begins the count again. `pause` is the wait in seconds before the second attempt, doubled for each
     further one up to a second. `reply_timeout` is the longest wait for one whole reply, however many bytes come meanwhile;
     by default it is six times `timeout`, and at least a minute. With `trust` it is by TLS: the service has to show that it is the host of
     the address.

@@ -53,7 +53,7 @@ class Unreachable(PagelogError):
 
 
 class ConnectionLost(PagelogError):
-    """The connection ended before all replies came. The next request connects anew."""
+    """The connection ended before all replies came. The next request connects again."""
 
 
 class TimedOut(ConnectionLost):

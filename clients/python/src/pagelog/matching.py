@@ -34,7 +34,7 @@ def _of_page(act: Get, page: Page) -> str | None:
 
 def _of_blocks(act: Pull, pulled: Blocks) -> str | None:
     if pulled.next <= act.lsn:
-        return f"a pull from LSN {act.lsn} goes on at LSN {pulled.next}"
+        return f"a pull from LSN {act.lsn} continues at LSN {pulled.next}"
     if len(pulled.blocks) > act.max:
         return f"{len(pulled.blocks)} blocks to a pull of at most {act.max}"
     least = act.lsn

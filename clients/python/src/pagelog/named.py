@@ -281,7 +281,7 @@ class NamedPrimary(Following):
             if not is_next and isinstance(error, _DENIED) and self._is_anothers(place):
                 self._leave()
                 return self._end_for(error)
-            # Where its keeper has closed it, the next generation comes; if it does not, the keeper was killed, and its next life opens it.
+            # Where its keeper has closed it, the next generation comes; if it does not, the keeper was killed, and its next instance opens it.
             if (
                 (is_next or (may_stay and before != self._over))
                 and not self._is_of_another_run(place)

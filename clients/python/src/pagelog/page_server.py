@@ -23,7 +23,7 @@ class PageServer(Client):
     """Keeps partitions applied up to the hardened end, so that gets that are not exact find their pages there.
 
     It begins without knowing how far a partition is applied, and takes it to be 0: advances that are too many do no
-    harm, since none goes above the hardened end. So it does where the connection was made anew, since the service may
+    harm, since none goes above the hardened end. So it does where the connection was made again, since the service may
     have been too, and restored.
     """
 

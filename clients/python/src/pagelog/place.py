@@ -74,7 +74,7 @@ class Lost(PagelogError):
 
 class Dropped(Lost):
     """The database that was opened is no more: it was dropped, or the keepers have another of its name. All of it is lost to this
-    client, which reads and writes nothing any more. One that is opened anew finds what has the name now.
+    client, which reads and writes nothing any more. One that is opened again finds what has the name now.
     """
 
     def __init__(self, name: str, why: str) -> None:
@@ -289,7 +289,7 @@ class Keepers:
     def _ask(
         self, address: str, words: Sequence[object], timeout: float = _ANSWER, of: str = ""
     ) -> list[str]:
-        """The answer of one keeper; of no words where it does not answer. Its connection is made anew then.
+        """The answer of one keeper; of no words where it does not answer. Its connection is made again then.
 
         `of` says which database and run is meant. An older keeper is asked without, once that is known.
         """

@@ -540,7 +540,7 @@ class Primary(PageClient):
             if self.witness is None:
                 lsn = self._unhardened[0].block.lsn
                 return InDoubt(
-                    f"epoch {self.epoch} ended, and whether LSN {lsn} is in the log was not told"
+                    f"epoch {self.epoch} ended, and whether LSN {lsn} is in the log was not reported"
                 )
             try:
                 while self._unhardened and self._is_seen(self.witness, self._unhardened[0]):

@@ -41,7 +41,7 @@ class Span:
 class Reader(PageClient):
     """Reads the hardened log of a database, as a secondary. A failover does not disturb it.
 
-    Whenever the connection was made anew, a block that it has pulled is pulled again and compared, before any other reply is
+    Whenever the connection was made again, a block that it has pulled is pulled again and compared, before any other reply is
     believed: `LogWentBack` where the service has another log, as after a restore that lacks what was seen. A reader that has
     pulled no block compares none.
     """

@@ -35,7 +35,7 @@ class TableFault(IntEnum):
 
 
 class Denial(Refusal):
-    """A row of the written order stands against the request. Nothing was changed but the audit list.
+    """A row of the written order forbids the request. Nothing was changed but the audit list.
 
     `section`, `row` and `value` are those of the reply; `rule` is the rule's name and `sentence` says when it stands.
     """

@@ -1,5 +1,5 @@
 """Edits of a table's text, of one principal each, which keep its comments where they can: the text that is made says what was wanted, or
-the table is written anew."""
+the table is written again."""
 
 from __future__ import annotations
 

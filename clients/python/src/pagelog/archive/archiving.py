@@ -22,7 +22,7 @@ class Archiver:
     """Pulls what is hardened and keeps it.
 
     The service has to have the log that the archive has. That is looked at before the first batch is kept, and again
-    whenever the connection was made anew, since the service may have been too. A batch is of one connection, and so of one
+    whenever the connection was made again, since the service may have been too. A batch is of one connection, and so of one
     service: where that is lost amid it, what came whole is kept. And over the same connection came the last archived
     block, so that where services come and go, the batches are of one log.
     """

@@ -138,7 +138,7 @@ class Board:
         self._away = None
 
     def _see_beats(self, look: Look, at: float) -> frozenset[str]:
-        """The keepers whose beat has not stood still for a ttl."""
+        """The keepers whose heartbeat has not stalled for a ttl."""
         for keeper in look.keepers:
             beat = (keeper.run, keeper.beat)
             if self._beats.get(keeper.name, (None, 0.0))[0] != beat:

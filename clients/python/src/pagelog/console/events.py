@@ -36,7 +36,7 @@ class Known:
     pages: frozenset[tuple[str, str]] = frozenset()
     """The machines and runs of its page servers that are heard."""
     stores: frozenset[str] = frozenset()
-    """Those that they have set aside."""
+    """Those that they have quarantined."""
 
 
 @dataclass(frozen=True)
@@ -121,15 +121,15 @@ def _of_pages(before: Known, now: Known) -> Iterator[Change]:
             "warning",
         )
     for run in sorted(now.stores - before.stores):
-        text = f"a page server has set aside store {run}: `pagelogctl rescue` says what it has"
-        yield Change(text, "page servers have set aside stores of # databases", "bad")
+        text = f"a page server has quarantined store {run}: `pagelogctl rescue` says what it has"
+        yield Change(text, "page servers have quarantined stores of # databases", "bad")
 
 
 def _taken(old: Row, row: Row) -> Change:
     holder = row.holder or "a keeper"
     if holder == old.holder and row.images != old.images:  # a succession, and no loss
-        text = f"{holder} goes on with generation {row.generation} from position {row.base:,}"
-        return Change(text, f"{holder} goes on with new generations of # databases")
+        text = f"{holder} continues with generation {row.generation} from position {row.base:,}"
+        return Change(text, f"{holder} continues with new generations of # databases")
     whose = f" from {old.holder}" if old.holder not in (None, row.holder) else ""
     serves = ", and serves it" if row.address is not None else ""
     text = taken(holder, row.generation, row.base, f"{whose}{serves}")
@@ -150,7 +150,7 @@ def of_asides(
     for run, aside in now.items():
         if run in before and before[run]["kept"] == aside["kept"]:
             continue
-        how = "is set aside" if aside["kept"] else "has what PostgreSQL lacks, which went back"
+        how = "is quarantined" if aside["kept"] else "has what PostgreSQL lacks, which went back"
         text = f"run {run} of keeper {aside['keeper']} {how}: `pagelogctl rescue {aside['name']}` says what it has"
         yield Event(at, text, aside["name"], "bad")
     for run in before.keys() - now.keys():
@@ -170,6 +170,6 @@ def of_keepers(before: Mapping[str, Any], now: Mapping[str, Any], at: float) -> 
             yield Event(at, f"keeper {name} was restarted")
         if lives is not lived:
             text = (
-                f"keeper {name} lives again" if lives else f"the beat of keeper {name} stands still"
+                f"keeper {name} is up again" if lives else f"the heartbeat of keeper {name} stalled"
             )
             yield Event(at, text, None, "good" if lives else "bad")

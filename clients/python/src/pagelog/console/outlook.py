@@ -6,7 +6,7 @@ from dataclasses import dataclass
 from enum import Enum
 from typing import Any, Mapping
 
-from pagelog.desk.durations import duration
+from pagelog.cli.durations import duration
 from pagelog.keeper.machine import NEAR
 from pagelog.keeper.rows import Row
 
@@ -126,7 +126,7 @@ def _of_nobody(scene: Scene) -> str:
     if scene.row.paused:
         return "Nobody takes it until it is resumed."
     if not scene.living:
-        return "It waits for a keeper: none lives."
+        return "It waits for a keeper: none is up."
     if scene.row.wanted in scene.living:
         return f"{scene.row.wanted} takes it, as was asked."
     spare = next((spare for spare in scene.spares if spare.lives), None)
@@ -142,11 +142,11 @@ def _of_a_silent_holder(scene: Scene) -> str:
         keeper for keeper in scene.living if keeper != scene.row.holder
     ]
     if scene.row.paused:
-        return f"The beat of {holder} stands still; nobody takes it over while it is paused."
+        return f"The heartbeat of {holder} stalled; nobody takes it over while it is paused."
     if not others:
-        return f"The beat of {holder} stands still, and no other keeper lives."
+        return f"The heartbeat of {holder} stalled, and no other keeper is up."
     spare = next((spare for spare in scene.spares if spare.lives), None)
-    return f"The beat of {holder} stands still: {spare.keeper if spare else 'another keeper'} takes it over."
+    return f"The heartbeat of {holder} stalled: {spare.keeper if spare else 'another keeper'} takes it over."
 
 
 def _of_a_server(scene: Scene) -> str:

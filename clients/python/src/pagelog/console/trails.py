@@ -5,7 +5,7 @@ from __future__ import annotations
 from collections import Counter, deque
 from dataclasses import dataclass
 
-from pagelog.desk.watch import READS
+from pagelog.cli.watch import READS
 from pagelog.console.source import PAST, Recorded
 from pagelog.keeper.table import KEEPER
 from pagelog.reply import Entry

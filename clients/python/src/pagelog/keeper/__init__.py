@@ -15,8 +15,8 @@ named database is and how far it is durable, and takes over what another keeper 
     machine     what a keeper decides, without any IO
     looker      looks at a service in the event loop
     served      a service that this keeper has, and what is asked of it
-    quick_way   archives what is hardened, in a thread of C: quick_plane is that thread and its sessions (`quick`), quick_way_plane.c
-                its loop, quick_way_service.c pulls, quick_way_statement.c keeps, quick_way_lines.c answers
+    fast_path   archives what is hardened, in a thread of C: fast_plane is that thread and its sessions (`quick`), fast_path_plane.c
+                its loop, fast_path_service.c pulls, fast_path_statement.c keeps, fast_path_lines.c answers
     archiver    begins that for a database, and sees to what it leaves; doubts looks up what became of a batch
     recorder    keeps the audit lists beside the blocks
     lines       the line protocol; waits has who waits, turns whose turn it is to write, proving who a line's principal is

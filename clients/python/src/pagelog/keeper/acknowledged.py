@@ -1,5 +1,5 @@
 """Up to which position a run was acknowledged as archived: a number in memory that the process of its service has open, without
-knowing of it. So it lives as long as what it is about, and needs no disk; a later life of the keeper finds it at the process, also where
+knowing of it. So it lives as long as what it is about, and needs no disk; a later instance of the keeper finds it at the process, also where
 PostgreSQL went back meanwhile, and knows whether the service has what was acknowledged and PostgreSQL lacks."""
 
 from __future__ import annotations

@@ -11,8 +11,8 @@ from typing import TYPE_CHECKING, AsyncIterator, Callable, Literal, Sequence
 from pagelog.errors import AuditListFull, PagelogError, TurnsSpent
 from pagelog.keeper.doubts import Doubts, Fenced
 from pagelog.keeper.lines import Line
-from pagelog.keeper.quick_plane import QuickPlane
-from pagelog.keeper.quick_way import End, QuickWay
+from pagelog.keeper.fast_plane import FastPlane
+from pagelog.keeper.fast_path import End, FastPath
 from pagelog.keeper.referee import digest
 from pagelog.keeper.rows import Batch, Kept, Lines, Row
 from pagelog.keeper.served import Served
@@ -49,7 +49,7 @@ class Archiver:
         doubts: Doubts,
         say: Callable[[str, str], None],
         changed: Callable[[], None],
-        ways: QuickPlane,
+        ways: FastPlane,
     ) -> None:
         self._row, self._served, self._waits, self._doubts = row, served, waits, doubts
         waits.confirmations.watch = self._watch
@@ -62,14 +62,14 @@ class Archiver:
         self.turn = Turn(self._end_way)
         """Held from the first pull of the fast path until it is known what became of its last batch."""
         self._ways = ways
-        self._way: QuickWay | None = None
+        self._way: FastPath | None = None
         self._rings = self._done = 0
         """How often it was rung, and the last of these rings since which a pull was archived, or has found nothing."""
         self._waited: list[_Waited] = []
         """Those whose lines the fast path has not, since the rings that are not done."""
         self._is_careful = False
         """Whether the last try has failed: the next one is of one block."""
-        self._before: QuickWay | None = None
+        self._before: FastPath | None = None
         """One whose last batch was not kept: it is tried again, and the service is asked for nothing."""
         self._pauses, self._not_before = Backoff(0.05, _LONGEST), 0.0
         """How long it waits after a try that failed, and until when."""
@@ -104,7 +104,7 @@ class Archiver:
         if self._way is not None:
             self._ask(self._way)
 
-    def _ask(self, way: QuickWay) -> None:
+    def _ask(self, way: FastPath) -> None:
         """Has it look for new blocks, and lends it the lines of those who wait."""
         way.take(self._waits)
         if len(self._waits):
@@ -207,7 +207,7 @@ class Archiver:
         if self._way is not None and self._way.lines is None and may:
             self._end_way()
 
-    async def _went(self, lines: TrailList | None) -> tuple[QuickWay | None, End]:
+    async def _went(self, lines: TrailList | None) -> tuple[FastPath | None, End]:
         """Begins the fast path, and returns once it has ended."""
         way = await self._ways.way_of(
             self._row,
@@ -248,7 +248,7 @@ class Archiver:
             self._before.drop()
         self._before = None
 
-    async def _ended(self, way: QuickWay | None, end: End) -> bool:
+    async def _ended(self, way: FastPath | None, end: End) -> bool:
         """Sees to what the fast path has left. False where the run holds the database no more, or the service is of no use."""
         is_asked = self._done < self._rings or len(self._waits) > 0
         if is_asked or self._served.hard > self._served.reached or end is End.STOPPED:
@@ -312,7 +312,7 @@ class Archiver:
         served = self._served
         try:
             is_known = (kept.archived, kept.chain) == (served.reached, served.chain)
-            # Else it is the batch, or one that an earlier life of this keeper had sent has come late, or PostgreSQL went back.
+            # Else it is the batch, or one that a previous instance of this keeper had sent has come late, or PostgreSQL went back.
             has = is_known or await asyncio.to_thread(served.has, kept.archived, kept.chain)
         except PagelogError:
             self.ring()
@@ -320,7 +320,7 @@ class Archiver:
         if not has:
             self._say(
                 self._row.name,
-                f"the archive went back, to position {kept.archived}, and has other blocks there: the service is set aside",
+                f"the archive went back, to position {kept.archived}, and has other blocks there: the service is quarantined",
             )
             self.is_stuck = served.went_back = served.is_apart = True
             return False
@@ -384,7 +384,7 @@ class Archiver:
         if self._way is not None:
             self._take(self._way)
 
-    def _take(self, way: QuickWay) -> None:
+    def _take(self, way: FastPath) -> None:
         served = self._served
         reached, chain = way.reached
         if reached > served.reached:

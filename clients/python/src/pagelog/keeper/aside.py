@@ -1,4 +1,4 @@
-"""Services of which PostgreSQL has lost something. What was set aside goes on, also without a keeper; each may be the only copy."""
+"""Services of which PostgreSQL has lost something. What was quarantined goes on, also without a keeper; each may be the only copy."""
 
 from __future__ import annotations
 
@@ -16,7 +16,7 @@ ASIDE = "set aside"
 
 @dataclass(frozen=True)
 class Aside:
-    """One of them. `seen` is what PostgreSQL has had of its run, `is_kept` whether it was set aside: else its keeper has it still, and
+    """One of them. `seen` is what PostgreSQL has had of its run, `is_kept` whether it was quarantined: else its keeper has it still, and
     `database` the identity of what it is of."""
 
     facts: Facts
@@ -50,7 +50,7 @@ class Asides:
         """Of which database each run is."""
 
     def begin(self) -> None:
-        """Those of its earlier lives."""
+        """Those of its previous instances."""
         self._facts = kept_in(self._folder)
 
     def add(self, facts: Facts) -> None:
@@ -61,7 +61,7 @@ class Asides:
         return len(self._facts)
 
     def report(self, others: Iterable[Aside] = ()) -> dict[str, list[dict[str, Any]]]:
-        """What the keeper says of those that still run, and of `others`, which it has not set aside."""
+        """What the keeper says of those that still run, and of `others`, which it has not quarantined."""
         self._facts = [facts for facts in self._facts if is_running(facts)]
         found = [
             *(

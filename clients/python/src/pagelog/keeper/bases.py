@@ -279,7 +279,7 @@ class Bases:
 
     def keep_images(self, position: int, images: Iterable[Image]) -> None:
         """Keeps these images, which are not used before there is their base. Where there is it, as one that could not be read, its manifest is
-        made anew."""
+        made again."""
         self._referee._ask_bounded(_UNNAME, {"log": self._log, "position": position})
         some: list[Image] = []
         for image in images:

@@ -1,4 +1,4 @@
-"""How a database comes to this keeper: it is taken, and its service filled; or a service of an earlier life is adopted."""
+"""How a database comes to this keeper: it is taken, and its service filled; or a service of a previous instance is adopted."""
 
 from __future__ import annotations
 
@@ -245,7 +245,7 @@ class Beginning:
         return self._stuck_for >= self._shared.settings.ttl
 
     async def adopt(self) -> bool:
-        """Takes the service of an earlier life of this keeper for its own, or releases the generation where that has ended."""
+        """Takes the service of a previous instance of this keeper for its own, or releases the generation where that has ended."""
         database = self._database
         row, settings = database.row, self._shared.settings
         assert row.run is not None
@@ -279,7 +279,7 @@ class Beginning:
             )
         await asyncio.to_thread(served.remember)  # where an older keeper has started it
         try:
-            await asyncio.to_thread(served.open)  # it may have been closed in its earlier life
+            await asyncio.to_thread(served.open)  # it may have been closed in its previous instance
         except PagelogError as error:
             self._shared.say(row.name, f"it could not be adopted: {error}")
             served.is_broken = True
@@ -300,7 +300,7 @@ class Beginning:
             return False
 
     async def _put_away(self, served: Served, process: Run) -> None:
-        """Ends a service that was filled in an earlier life, and that no client has written to."""
+        """Ends a service that was filled in a previous instance, and that no client has written to."""
         self._database.watch(served)
         await self._database.ending.end_process(served)
 

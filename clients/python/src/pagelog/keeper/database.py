@@ -158,10 +158,10 @@ class Database:
             and self.served.is_told_by_number
         ):
             self.served.is_told_by_number = False
-            self.work.leave_quick_way()
+            self.work.leave_fast_path()
             self.shared.say(
                 row.name,
-                f"number {row.doubted} of its generations was given twice: clients of version 1 are told nothing of it",
+                f"number {row.doubted} of its generations was given twice: clients of version 1 get no answer about it",
             )
         is_idle = (
             self.doing is Action.NOTHING
@@ -206,7 +206,7 @@ class Database:
                 )
 
     def note_seen(self) -> None:
-        """Notes what PostgreSQL has of the run that is held here, at most once in a ttl: a later life knows by that whether it went back."""
+        """Notes what PostgreSQL has of the run that is held here, at most once in a ttl: a later instance knows by that whether it went back."""
         served = self.served
         if served is None or served.process is None or not self.holds:
             return
@@ -218,7 +218,7 @@ class Database:
             self._noted, self._noted_at = seen, seconds()
             with suppress(
                 OSError
-            ):  # what a full disk takes away is that a later life may not see that PostgreSQL went back
+            ):  # what a full disk takes away is that a later instance may not see that PostgreSQL went back
                 served.process.note_seen(seen)
 
     def _seen_service(self) -> Served | None:
@@ -327,7 +327,7 @@ class Database:
             return (
                 Rival.LIVES if is_there(settings.program.folder, row.name, row.run) else Rival.GONE
             )
-        # What a PostgreSQL that went back has of a report is of before: who lives says so anew.
+        # What a PostgreSQL that went back has of a report is of before: who lives says so again.
         if (
             self.served is None
             or self.served.back_since is None
@@ -444,7 +444,7 @@ class Database:
 
     @property
     def is_at_rest(self) -> bool:
-        """Whether this keeper has no service of it, none of an earlier life either, and does nothing about it."""
+        """Whether this keeper has no service of it, none of a previous instance either, and does nothing about it."""
         is_mine = (
             self.is_known
             and self.row.run is not None
@@ -521,7 +521,7 @@ class Database:
                 return await self._look_up()
             case Action.CONTINUE:
                 return await self.beginning.continue_run()
-            case Action.UNWISH:
+            case Action.CANCEL:
                 me = self.shared.settings.name
                 await self.shared.ask(
                     lambda: self.shared.referee.wish(self.row.name, None, instead_of=me)

@@ -113,7 +113,7 @@ class Ending:
         await self.end_process(served)
 
     async def end_process(self, served: Served) -> None:
-        """Kills its process, once, unless it may be the only copy of something: that is set aside."""
+        """Kills its process, once, unless it may be the only copy of something: that is quarantined."""
         process, served.process = served.process, None
         served.is_broken = True
         self._database.leaving.add(served.run)
@@ -133,7 +133,7 @@ class Ending:
             return
         self._say(
             f"the service of run {served.run}, process {process.facts.pid} at {process.address}, may be the only copy of its log: "
-            "it is set aside"
+            "it is quarantined"
         )
         await self._close(served)
         while not await self._is_set_aside(process, served):
@@ -141,16 +141,16 @@ class Ending:
         self._shared.asides.add(process.facts)
 
     async def _close(self, served: Served) -> None:
-        """Nobody writes any more to what is set aside: who writes is to find the run that holds the database."""
+        """Nobody writes any more to what is quarantined: who writes is to find the run that holds the database."""
         try:
             await asyncio.to_thread(served.close)
         except PagelogError as error:
             self._say(
-                f"the service that is set aside could not be closed, so that clients may still write to it: {error}"
+                f"the service that is quarantined could not be closed, so that clients may still write to it: {error}"
             )
 
     async def _is_set_aside(self, process: Run, served: Served) -> bool:
-        """Whether that is noted: what is not noted is ended by the next life of this keeper."""
+        """Whether that is noted: what is not noted is ended by the next instance of this keeper."""
         try:
             await asyncio.to_thread(
                 process.note_seen,
@@ -159,7 +159,7 @@ class Ending:
             await asyncio.to_thread(process.set_aside, served.shift, served.images)
         except OSError as error:
             self._shared.repeats.say(
-                self._database.row.name, f"it could not be noted that it is set aside: {error}"
+                self._database.row.name, f"it could not be noted that it is quarantined: {error}"
             )
             return False
         return True

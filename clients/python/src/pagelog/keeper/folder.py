@@ -66,7 +66,7 @@ class Folder:
 
     def _write(self, lives: tuple[str, ...]) -> None:
         fresh = self._lives.with_name("lives~")
-        with suppress(OSError):  # as on a full disk: then the next life waits for a ttl
+        with suppress(OSError):  # as on a full disk: then the next instance waits for a ttl
             fresh.write_text(" ".join((self._here, *lives)))
             fresh.replace(self._lives)
 

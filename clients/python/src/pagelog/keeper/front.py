@@ -1,7 +1,7 @@
 """The front of a keeper: one haproxy, which speaks TLS to clients, before the services of all its runs and before its lines.
 
 Each run has a port of the front's, which leads to where its service listens. The ports are bound once, so that a front which has died
-is started again with the same ones, and a later life of the keeper finds them. No call of this waits for clients.
+is started again with the same ones, and a later instance of the keeper finds them. No call of this waits for clients.
 """
 
 from __future__ import annotations
@@ -152,7 +152,7 @@ class Front:
     # Its life.
 
     def begin(self) -> None:
-        """Adopts the front that an earlier life of the keeper has left, or starts one. Raises `FrontError`, and `tend` tries again."""
+        """Adopts the front that a previous instance of the keeper has left, or starts one. Raises `FrontError`, and `tend` tries again."""
         with self._lock:
             self._read_files()
             for left in fronts_of(self._folder):
@@ -184,7 +184,7 @@ class Front:
             _remove(self._folder)
 
     def leave(self) -> None:
-        """Leaves it to the keeper's next life."""
+        """Leaves it to the keeper's next instance."""
         with self._lock:
             if self._process is not None:
                 self._process.process.leave()
@@ -346,7 +346,7 @@ class Front:
             fresh.replace(self._state)
         except OSError as error:
             self._say(
-                f"the front could not be noted, so that a later life of the keeper starts another: {error}"
+                f"the front could not be noted, so that a later instance of the keeper starts another: {error}"
             )
 
     # Its ports.
@@ -433,7 +433,7 @@ class Front:
 
 
 def end_fronts(folder: Path) -> None:
-    """Ends what an earlier life of a keeper has left that had one."""
+    """Ends what a previous instance of a keeper has left that had one."""
     for left in fronts_of(folder):
         left.end()
     _remove(folder)

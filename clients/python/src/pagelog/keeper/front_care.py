@@ -53,7 +53,7 @@ class FrontCare:
             self._tending = self._spawn(self._done(self.front.tend), "the front")
 
     async def stop(self) -> None:
-        """Ends it where no service is left that it leads to; else the keeper's next life adopts it. One that has not begun has found the
+        """Ends it where no service is left that it leads to; else the keeper's next instance adopts it. One that has not begun has found the
         folder to be another's."""
         if not self._has_begun:
             return

@@ -50,7 +50,7 @@ SEQUENCES = {"pagelog_log_id_seq": "", "pagelog_trail_list_id_seq": "USAGE"}
 @dataclass(frozen=True)
 class Roles:
     """Their names. `creates` owns the tables, and makes, drops and restores databases; by `keeps` keepers run, and the words that change
-    what they do; `looks` is the console's, and of `kept`."""
+    what they do; `looks` is the console's, and of `list`."""
 
     creates: str = "pagelog_creates"
     keeps: str = "pagelog_keeps"

@@ -32,7 +32,7 @@ from pagelog.keeper.orphans import Fate, close_left, seen_to
 from pagelog.keeper.page_servers import LivingPages
 from pagelog.keeper.places import Places
 from pagelog.keeper.quick import QuickReferee
-from pagelog.keeper.quick_plane import QuickPlane
+from pagelog.keeper.fast_plane import FastPlane
 from pagelog.keeper.quota import Quota
 from pagelog.keeper.referee import NAME, KeeperError, NameInUse, Referee, Superseded, options_of
 from pagelog.keeper.rows import KeeperRow, Look, Named, Row, StandbyRow, Synchronous
@@ -146,7 +146,7 @@ class Keeper:
         self._said = ""
         self._stops = False
         self._may_have = False
-        """Whether there are services of an earlier life, and no look has shown yet what they have."""
+        """Whether there are services of a previous instance, and no look has shown yet what they have."""
         self._left: list[Run] = []
         """Those whose runs nobody holds, and of which it is not known yet what is to become."""
         self._orphans: dict[str, Served] = {}
@@ -167,9 +167,9 @@ class Keeper:
         check_libraries(self.settings.store)
         return Storing(self.settings, self._repeats.say)
 
-    def _ways(self, doubts: Doubts) -> QuickPlane:
+    def _ways(self, doubts: Doubts) -> FastPlane:
         settings = self.settings
-        return QuickPlane(
+        return FastPlane(
             lambda: QuickReferee(settings.url, settings.name, self.life),
             idle=settings.ttl,
             deadline=2 * settings.ttl,
@@ -245,9 +245,9 @@ class Keeper:
             await asyncio.sleep(self.settings.ttl / LOOKS)
 
     def end(self) -> None:
-        """Hands over what it holds, and ends; told again, it ends at once, and leaves the services to its next life."""
+        """Hands over what it holds, and ends; told again, it ends at once, and leaves the services to its next instance."""
         self._stops, self._shared.ending = self._shared.ending, True
-        self._say("the keeper", "told to end at once" if self._stops else "told to end")
+        self._say("the keeper", "asked to end at once" if self._stops else "asked to end")
         self._session.woken.set()
 
     async def _say_what_is_left(self) -> None:
@@ -265,7 +265,7 @@ class Keeper:
         return self._stops or (self._shared.ending and has_handed_over)
 
     async def _begin(self) -> None:
-        """Takes its name, and ends the services of an earlier life that hold nothing. Raises `NameInUse`."""
+        """Takes its name, and ends the services of a previous instance that hold nothing. Raises `NameInUse`."""
         waits = Backoff(self.settings.ttl / LOOKS, self.settings.ttl)
         while not self._is_over():
             try:
@@ -304,8 +304,8 @@ class Keeper:
             await self._care.begin(self._server)
 
     async def _see_to_orphans(self, look: Look, *, has_name: bool = True) -> None:
-        """What an earlier life has left and nobody holds is ended where it holds nothing. Else it continues as soon as its database is
-        known here, or is set aside. A keeper without its name continues nothing."""
+        """What a previous instance has left and nobody holds is ended where it holds nothing. Else it continues as soon as its database is
+        known here, or is quarantined. A keeper without its name continues nothing."""
         rest = Backoff(self.settings.ttl / LOOKS, self.settings.ttl)
         while self._left and not self._stops:
             process = self._left[-1]
@@ -316,7 +316,7 @@ class Keeper:
             except (KeeperError, RunnerError) as error:
                 self._say_of_referee(str(error))
                 if not has_name:
-                    return  # the next life in this folder sees to it
+                    return  # the next instance in this folder sees to it
                 await asyncio.sleep(rest.next())
                 continue
             self._left.pop()
@@ -326,7 +326,7 @@ class Keeper:
             fate = orphan.fate if goes_on or orphan.fate is Fate.END else Fate.SET_ASIDE
             self._say(
                 process.facts.name,
-                f"the service of run {process.name}, which an earlier life left, is {fate.value}: {orphan.why}",
+                f"the service of run {process.name}, which a previous instance left, is {fate.value}: {orphan.why}",
             )
             if self._shared.front is not None and fate is not Fate.CONTINUE:
                 await asyncio.to_thread(self._shared.front.drop, process.name)
@@ -349,7 +349,7 @@ class Keeper:
         except PagelogError as error:
             self._say(
                 process.facts.name,
-                f"the service that is set aside could not be closed, so that clients may still write to it: {error}",
+                f"the service that is quarantined could not be closed, so that clients may still write to it: {error}",
             )
         while True:
             try:
@@ -358,14 +358,14 @@ class Keeper:
                 )
             except OSError as error:
                 self._say(
-                    process.facts.name, f"it could not be noted that it is set aside: {error}"
+                    process.facts.name, f"it could not be noted that it is quarantined: {error}"
                 )
                 await asyncio.sleep(self.settings.ttl)
             else:
                 return self._shared.asides.add(process.facts)
 
     async def _has_name(self) -> bool:
-        """Takes the name: from an earlier life of this folder at once, from another once its heartbeat has stood still for a ttl. Raises
+        """Takes the name: from a previous instance of this folder at once, from another once its heartbeat has stalled for a ttl. Raises
         `NameInUse` where that moves."""
         over = self._folder.lives if self._folder.take() else ()
         self._folder.note(self.life)
@@ -408,11 +408,11 @@ class Keeper:
                 self.settings.name
             )
         except KeeperError:
-            return False  # the next life in this folder ends them
+            return False  # the next instance in this folder ends them
         return found is not None and found.run not in (self.life, *self._folder.lives)
 
     async def _end_services(self) -> None:
-        """Ends the services of this folder, but what may be the only copy of something is set aside."""
+        """Ends the services of this folder, but what may be the only copy of something is quarantined."""
         ended = set()
         for database in self.databases.values():
             if (served := database.served) is None or served.process is None:
@@ -541,7 +541,7 @@ class Keeper:
         return self._care.secure_lines(self.life)
 
     def _note_numbers(self) -> None:
-        """Those of the look, for a later life too. A look waits for no file."""
+        """Those of the look, for a later instance too. A look waits for no file."""
         forgotten = self._shared.numbers.see(self.look.rows)
         if forgotten or self._shared.numbers.is_changed:
             self._shared.spawn(self._raise_numbers(forgotten), "the numbers")
@@ -606,7 +606,7 @@ class Keeper:
         return found
 
     def _report(self) -> str:
-        """What `kept` shows of the services of this keeper, measured for it and for what is decided until the next look; and what is
+        """What `list` shows of the services of this keeper, measured for it and for what is decided until the next look; and what is
         decided of them, and of what nobody has."""
         audit, limit, report = (
             self.settings.program.audit,

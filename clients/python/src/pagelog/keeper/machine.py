@@ -16,14 +16,14 @@ SUCCEED_AT = 0.5
 ROLL_AT = 0.8
 """The share at which it closes the present one without waiting for the next: its service may be full soon."""
 ANEW_AT = 0.5
-"""The share of the audit list at which a standby is made anew: what it fills while it follows is missing after a take-over."""
+"""The share of the audit list at which a standby is made again: what it fills while it follows is missing after a take-over."""
 NEAR = 1024
 """How many blocks a standby may lack when a switchover closes the table."""
 PATIENCE = 1.5
 """For how many ttl a run of which PostgreSQL went back waits to see whether the run that PostgreSQL names is alive, whose keeper is."""
 _SILENT = 4
 """So many times as long where that keeper is not heard: it is known to stand still after a ttl of looks that are never late."""
-_FULL = "its list or its memory is {} full"
+_FULL = "its audit list or its memory is {} full"
 _CHANGED = "the table was changed"
 
 
@@ -44,10 +44,10 @@ class Action(Enum):
     CLOSE = "close"
     RELEASE = "release"
     END = "end"
-    SET_ASIDE = "set aside"
+    SET_ASIDE = "quarantine"
     STAND_BY = "stand by"
     STAND_DOWN = "stand down"
-    UNWISH = "unwish"
+    CANCEL = "cancel"
     PREPARE = "prepare"
     SUCCEED = "succeed"
     LOOK_UP = "look up"
@@ -247,7 +247,7 @@ def _decide(facts: Facts) -> Decision:
     if (
         row.run is not None and row.holder == facts.me
     ):  # also where the keeper ends: what it has is to be archived
-        why = f"generation {row.generation} is of an earlier life of this keeper"
+        why = f"generation {row.generation} is of a previous instance of this keeper"
         return Decision(
             Action.END if own else Action.ADOPT, why
         )  # a standby from before PostgreSQL went back is in its way
@@ -280,7 +280,7 @@ def _of_the_holder(facts: Facts, row: Row, own: Own) -> Decision:
     if row.paused and not has_old_table:
         return Decision(Action.NOTHING, "serves; paused")
     if row.wanted == facts.me and not row.paused:
-        return Decision(Action.UNWISH, "it is here already")
+        return Decision(Action.CANCEL, "it is here already")
     if facts.successor is Stage.READY:
         return Decision(Action.SUCCEED, "the service of the next generation is ready")
     if own.share >= ROLL_AT and not row.paused:  # a wish may wait for ever
@@ -344,7 +344,7 @@ def _of_a_run_that_is_over(facts: Facts, row: Row, own: Own) -> Decision:
 
 def _of_what_went_back(facts: Facts, row: Row, own: Own) -> Decision:
     """PostgreSQL does not know this run, or lacks what it once had of it. Where no other run of the database is alive it continues, in a
-    new generation, and is archived again; else it is set aside. So nothing is ended, and nothing stands still.
+    new generation, and is archived again; else it is quarantined. So nothing is ended, and nothing stands still.
     """
     back = "PostgreSQL went back"
     if facts.ending:
@@ -388,7 +388,7 @@ def _of_a_rival(facts: Facts, row: Row, own: Own, back: str) -> Decision:
 
 def _of_a_released(facts: Facts, row: Row) -> Decision:
     if facts.own is not None and facts.own.has_old_table(row):
-        return Decision(Action.END, f"{_CHANGED}: the standby is made anew")
+        return Decision(Action.END, f"{_CHANGED}: the standby is made again")
     if row.paused:
         return Decision(Action.NOTHING, "nobody has it; paused")
     if facts.further is not None and facts.still < facts.ttl:
@@ -425,18 +425,18 @@ def _of_another_holder(facts: Facts, row: Row) -> Decision:
         and facts.own.has_old_table(row)
         and (row.run_table >= row.table_number or facts.still >= wait)
     ):
-        return Decision(Action.END, f"{_CHANGED}: the standby is made anew")
+        return Decision(Action.END, f"{_CHANGED}: the standby is made again")
     if facts.still >= wait and not row.paused:
         return Decision(
             Action.TAKE,
-            f"the beat of {row.holder} has stood still for {{}} s",
+            f"the heartbeat of {row.holder} has stalled for {{}} s",
             f"{facts.still:.1f}",
         )
     if facts.own is not None:
         if facts.own.share >= ANEW_AT:
             return Decision(
                 Action.END,
-                "the standby's list or memory is {} full: it is made anew",
+                "the standby's audit list or memory is {} full: it is made again",
                 f"{facts.own.share:.0%}",
             )
         return Decision(
@@ -475,7 +475,7 @@ class Stillness:
         self._since = self._last = float("-inf")
 
     def see(self, what: object, now: float) -> float:
-        """Seconds since it was first seen as it is now. A series that was broken, as by a stop of this process, begins anew."""
+        """Seconds since it was first seen as it is now. A series that was broken, as by a stop of this process, begins again."""
         if what != self._what or now - self._last > self.ttl / 2:
             self._what, self._since = what, now
         self._last = now

@@ -12,7 +12,7 @@ _GAUGES = {
     "pagelog_keeper_archived": "Its archived position.",
     "pagelog_keeper_behind": "Blocks that its service has hardened and that are not archived.",
     "pagelog_keeper_waits": "Connections that wait for something to be durable.",
-    "pagelog_keeper_quick": "1 while its durable commits go the quick way.",
+    "pagelog_keeper_quick": "1 while its durable commits take the fast path.",
     "pagelog_keeper_standby": "1 while a standby is here that may take over, 0 while one should be. None where none should be.",
     "pagelog_keeper_list_share": "The share of its service's audit list that is full. At 0.5 the next generation is made, by default.",
     "pagelog_keeper_stored": "All blocks up to this position are in the store. None where there is none.",
@@ -21,8 +21,8 @@ _GAUGES = {
     "pagelog_keeper_store_foreign": "Objects of the database in the store that PostgreSQL does not know: it went back.",
     "pagelog_keeper_pages": "Its page servers whose heartbeat moves.",
     "pagelog_keeper_pages_gone": "Its page servers whose heartbeat stalled. `forget` takes one out that is gone for good.",
-    "pagelog_keeper_pages_behind": "Blocks that the one of them lacks which is most behind. None where none lives.",
-    "pagelog_keeper_pages_aside": "Stores that they have set aside, as PostgreSQL went back.",
+    "pagelog_keeper_pages_behind": "Blocks that the one of them lacks which is most behind. None where none is up.",
+    "pagelog_keeper_pages_aside": "Stores that they have quarantined, as PostgreSQL went back.",
     "pagelog_keeper_memory_share": "The share of `memory` that its service holds. None without that limit.",
 }
 
@@ -62,17 +62,17 @@ class KeeperCollector(Collector):
         itself = self._itself()
         standbys = GaugeMetricFamily(
             "pagelog_keeper_synchronous_standbys",
-            "Synchronous standbys of PostgreSQL, by the last look. With 0 durable means one disk, or PostgreSQL did not answer.",
+            "Synchronous standbys of PostgreSQL, by the last poll. With 0 durable means one disk, or PostgreSQL did not answer.",
             value=itself["synchronous_standbys"],
         )
         aside = GaugeMetricFamily(
             "pagelog_keeper_set_aside",
-            "Services here that were set aside, since PostgreSQL lacks what they have. Only a person ends one.",
+            "Services here that were quarantined, since PostgreSQL lacks what they have. Only a person ends one.",
             value=itself["set_aside"],
         )
         looks = CounterMetricFamily(
             "pagelog_keeper_looks",
-            "Looks that PostgreSQL has confirmed: four in a ttl.",
+            "Polls that PostgreSQL has confirmed: four in a ttl.",
             value=itself["looks"],
         )
         yield from (state, unproved, standbys, aside, looks, *_of_tls(itself), *gauges.values())

@@ -30,7 +30,7 @@ class Numbers:
         self._first: set[tuple[str, int]] = set()
         """Databases and generations whose runs the last look was the first to show."""
         self._of_dropped: dict[str, int] = {}
-        """Of the databases that a name had before, dropped or lost by PostgreSQL: one that is created anew goes on above them."""
+        """Of the databases that a name had before, dropped or lost by PostgreSQL: one that is created again goes on above them."""
         self._named: dict[str, str] = {}
         """The identity of the last database of each name."""
         self.is_changed = False
@@ -110,7 +110,7 @@ class Numbers:
         return self.highest(row) + _GAP if row.next_generation <= self.highest(row) else 0
 
     def save(self) -> None:
-        """Notes them for a later life. Raises `OSError`."""
+        """Notes them for a later instance. Raises `OSError`."""
         self.is_changed = False
         fresh = self._folder / f"{_FILE}.fresh"
         fresh.write_text(json.dumps(dict(self._highest)))

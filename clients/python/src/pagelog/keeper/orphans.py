@@ -1,5 +1,5 @@
-"""Services that an earlier life of this keeper left, and whose runs are no holder's of today. One that holds nothing which PostgreSQL
-lacks is ended. Another goes on, as the holder's of a PostgreSQL that went back, or is set aside: no keeper ends it."""
+"""Services that a previous instance of this keeper left, and whose runs are no holder's of today. One that holds nothing which PostgreSQL
+lacks is ended. Another goes on, as the holder's of a PostgreSQL that went back, or is quarantined: no keeper ends it."""
 
 from __future__ import annotations
 
@@ -25,13 +25,13 @@ class Fate(Enum):
 
     END = "ended"
     CONTINUE = "continued"
-    SET_ASIDE = "set aside"
+    SET_ASIDE = "quarantined"
 
 
 @dataclass(frozen=True)
 class Found:
     """What is known of a service. `origin` is what PostgreSQL knows of its run, `row` the database of its name that it has today, and
-    `seen` what an earlier life has noted. `is_behind` is whether the archive has all of its log, `was_written` whether a client has.
+    `seen` what a previous instance has noted. `is_behind` is whether the archive has all of its log, `was_written` whether a client has.
     """
 
     seen: Seen = Seen()
@@ -121,7 +121,7 @@ def seen_to(
 
 
 def close_left(process: Run, timeout: float) -> None:
-    """Lets nobody write any more to a service that is set aside: who writes is to find the run that holds the database. One that does not
+    """Lets nobody write any more to a service that is quarantined: who writes is to find the run that holds the database. One that does not
     remember the secret of its keepers stays as it is."""
     definition = process.definition
     if definition is not None:

@@ -25,7 +25,7 @@ class LivingPages:
         self._living: Mapping[int, list[PagesRow]] = {}
         self._all: Counter[int] = Counter()
         self._asides: Counter[int] = Counter()
-        """How many there are of each database, those that are gone among them, and how many stores they have set aside."""
+        """How many there are of each database, those that are gone among them, and how many stores they have quarantined."""
 
     def see(self, rows: Iterable[PagesRow], now: float) -> None:
         """Another look. Those whose heartbeat stands still are not told, and those that are gone forgotten."""
@@ -49,7 +49,7 @@ class LivingPages:
 
     def states(self, row: Row) -> dict[str, int | None]:
         """What the metrics have of a database: how many live and how many are gone, how many blocks the one that is most behind lacks, and
-        how many stores are set aside."""
+        how many stores are quarantined."""
         living = self._living.get(row.id, ())
         behind = max((max(0, row.archived - each.position) for each in living), default=None)
         return {

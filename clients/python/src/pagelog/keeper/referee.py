@@ -357,8 +357,8 @@ class Referee:
     ) -> Look:
         """Raises the own beat, says how far the own standbys are, and `secure` of the own lines, and returns all there is.
 
-        Raises `Superseded` where another keeper has the name by now: a later life's beat is above all of this one. An old primary that
-        goes on knows an earlier life at most, or none, and says so at once, since it has nothing to wait for: another host is asked.
+        Raises `Superseded` where another keeper has the name by now: a later instance's beat is above all of this one. An old primary that
+        goes on knows a previous instance at most, or none, and says so at once, since it has nothing to wait for: another host is asked.
         Where all know no more, PostgreSQL went back, and the name is taken again.
         """
         values = {
@@ -379,7 +379,7 @@ class Referee:
             self.turn_hosts()
         self.register(self._lines, self._beat)
         raise Doubt(
-            f"PostgreSQL does not know this life of keeper {self.me}: it went back, and is told again"
+            f"PostgreSQL does not know this instance of keeper {self.me}: it went back, and this keeper is registered again"
         )
 
     def everything(self) -> Look:
@@ -417,7 +417,7 @@ class Referee:
             raise Sealed(str(error)) from error
 
     def seal(self, row: Row) -> bool:
-        """Writes the newest table of a database anew, by the first key. False where it is sealed by that already, or was changed."""
+        """Writes the newest table of a database again, by the first key. False where it is sealed by that already, or was changed."""
         table = self.table(row.id)
         stored = self.stored(row.identity, table.text, table.secret)
         values = {

@@ -156,7 +156,7 @@ class PagesRow:
     """That of the table that decides there."""
     beat: int
     aside: tuple[Mapping[str, Any], ...] = ()
-    """Stores of the same database that were set aside there: of each its run, the positions `oldest` to `last`, and its folder."""
+    """Stores of the same database that were quarantined there: of each its run, the positions `oldest` to `last`, and its folder."""
     silent: float = 0.0
     """For how many seconds it has not been heard, by PostgreSQL's clock."""
     secure: str | None = None

@@ -268,12 +268,12 @@ class Run:
         return None
 
     def set_aside(self, shift: int, images: int) -> None:
-        """Leaves the process to whoever knows what to do with it: also the next life of the keeper does not end it."""
+        """Leaves the process to whoever knows what to do with it: also the next instance of the keeper does not end it."""
         self._note(kept=True, shift=shift, images=images)
         self.leave()
 
     def note_place(self, shift: int, images: int) -> None:
-        """Notes where positions are there, for a later life of the keeper."""
+        """Notes where positions are there, for a later instance of the keeper."""
         if (self.facts.shift, self.facts.images) != (shift, images):
             self._note(shift=shift, images=images)
 
@@ -319,7 +319,7 @@ class Run:
         """Kills the process, waits for its end, and removes its files. It keeps nothing that would have to be saved.
 
         False where it has not ended after a while, as one that waits for a disk or was frozen, or whose runner is away: its file stays
-        for the keeper's next life.
+        for the keeper's next instance.
         """
         with suppress(ProcessLookupError, RunnerError):
             kill(self.descriptor, self._runner)
@@ -424,7 +424,7 @@ def is_running(facts: Facts) -> bool:
 
 
 def services_of(folder: Path) -> list[Facts]:
-    """What is noted of the services of this folder that run and listen, also of those that were set aside."""
+    """What is noted of the services of this folder that run and listen, also of those that were quarantined."""
     found = list(_noted(folder))
     for _, descriptor in found:
         os.close(descriptor)
@@ -443,7 +443,7 @@ def said_in(folder: Path, name: str, run: str) -> Path:
 
 
 def orphans_of(folder: Path, wanted: set[str]) -> list[Run]:
-    """The services of this folder that run, whose runs are not among those, or that did not come to listen, but none that was set aside.
+    """The services of this folder that run, whose runs are not among those, or that did not come to listen, but none that was quarantined.
     What a keeper that was killed has left besides is removed."""
     found = []
     for facts, descriptor in _noted(folder):

@@ -154,7 +154,7 @@ _SECURE = (
 )
 
 _ASIDE = (
-    # aside: the stores of the page server's database that were set aside there, each with its run, positions and folder. seen: when it was
+    # aside: the stores of the page server's database that were quarantined there, each with its run, positions and folder. seen: when it was
     # heard of last, by PostgreSQL's clock.
     """ALTER TABLE pagelog_pages
         ADD COLUMN IF NOT EXISTS aside jsonb NOT NULL DEFAULT '[]',

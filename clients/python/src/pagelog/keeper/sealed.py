@@ -1,7 +1,7 @@
 """Tables of principals as PostgreSQL has them: sealed by a key of the keepers' own file, so that a dump of it gives nobody a token.
 
 The file has a key a line, 64 hexadecimal digits: by the first one is written, and any of them reads. So one key follows another: each
-keeper gets the next one as a first line, `pagelogctl seal` seals all anew, and the old line goes. What is sealed is of one database, whose
+keeper gets the next one as a first line, `pagelogctl seal` seals all again, and the old line goes. What is sealed is of one database, whose
 identity is its associated data: in the row of another one it is nothing.
 """
 

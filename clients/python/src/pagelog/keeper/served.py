@@ -328,14 +328,14 @@ class Served:
             )
 
     def adopt(self, process: Run, reached: int, chain: bytes, *, shift: int, images: int) -> None:
-        """Takes a process that an earlier life of the keeper has started; so much is archived of it."""
+        """Takes a process that a previous instance of the keeper has started; so much is archived of it."""
         self.serve(process)
         self.shift, self.images = shift, images
         self.reached, self.chain = reached, chain
         self._began = (reached, chain) if images else (0, b"")
 
     def note_place(self) -> None:
-        """Notes where positions are in it, for a later life of the keeper. A full disk is no reason to end it."""
+        """Notes where positions are in it, for a later instance of the keeper. A full disk is no reason to end it."""
         if self.process is not None:
             with suppress(OSError):
                 self.process.note_place(self.shift, self.images)

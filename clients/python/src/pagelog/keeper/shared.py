@@ -15,7 +15,7 @@ from pagelog.keeper.front import Front
 from pagelog.keeper.lines import Line, of_word
 from pagelog.keeper.numbers import Numbers
 from pagelog.keeper.proving import Proving
-from pagelog.keeper.quick_plane import QuickPlane
+from pagelog.keeper.fast_plane import FastPlane
 from pagelog.keeper.referee import PIECE, Referee
 from pagelog.keeper.served import Served
 from pagelog.keeper.session import Session
@@ -39,7 +39,7 @@ class Shared:
     life: str
     session: Session
     doubts: Doubts
-    ways: QuickPlane
+    ways: FastPlane
     say: Callable[[str, str], None]
     changed: Callable[[str], None]
     trails: Trails | None = None

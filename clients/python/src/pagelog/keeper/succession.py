@@ -276,7 +276,7 @@ class Succession:
             await self._open_again(served)
             return True
         if not is_done:
-            await self._fail(Refused("the database is another's, or its archive went on"))
+            await self._fail(Refused("the database is another's, or its archive continued"))
             await self._open_again(served)
             return True
         self._say(

@@ -104,10 +104,10 @@ class Work:
 
     @property
     def is_quick(self) -> bool:
-        """Whether its durable commits go the quick way."""
+        """Whether its durable commits take the fast path."""
         return self.archiver is not None and self.archiver.is_quick
 
-    def leave_quick_way(self) -> None:
+    def leave_fast_path(self) -> None:
         """Its present way ends; the next one knows what is known by then."""
         if self.archiver is not None:
             self.archiver.leave_way()

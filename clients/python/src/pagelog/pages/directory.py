@@ -55,7 +55,7 @@ class Entry:
     oldest: int
     table_number: int
     aside: str
-    """Stores that were set aside, as JSON."""
+    """Stores that were quarantined, as JSON."""
 
 
 @dataclass(frozen=True)

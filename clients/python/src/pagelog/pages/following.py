@@ -1,4 +1,4 @@
-"""One database of a page server: it begins with the oldest base above which all is kept, follows what is archived, and begins anew where that
+"""One database of a page server: it begins with the oldest base above which all is kept, follows what is archived, and begins again where that
 is another history than the one that it has, or blocks between the two are gone."""
 
 from __future__ import annotations
@@ -117,7 +117,7 @@ class Follower:
         self._was_confirmed = False
         """Whether what the store has was PostgreSQL's at some time."""
         self._asides: list[dict[str, Any]] = []
-        """Those of the database that were set aside, as its row has them."""
+        """Those of the database that were quarantined, as its row has them."""
         self._looked = self._flushed = self._pruned = float("-inf")
         self.address: str | None = None
 
@@ -192,7 +192,7 @@ class Follower:
         if found is None:
             self._store.save(self._settings.folder)
         for left in self._store.left(self._settings.folder):
-            self._set_aside(left, "it was cut off while it was set aside, or its entry was lost")
+            self._set_aside(left, "it was cut off while it was quarantined, or its entry was lost")
         self._asides = reported(self._settings.folder, self.identity)
         self._table_number, self._chain = 0, None
         self._process = self._settings.start(
@@ -230,9 +230,9 @@ class Follower:
             raise
 
     def _begin_anew(self, why: str) -> None:
-        """Nobody is answered from the store any more, and it is set aside. Another one is made, of another run, so that who was led to this
+        """Nobody is answered from the store any more, and it is quarantined. Another one is made, of another run, so that who was led to this
         one is denied there."""
-        self._say(f"it begins anew: {why}")
+        self._say(f"it begins again: {why}")
         process, store = self._process, self._store
         self._process = None
         if process is not None:
@@ -254,12 +254,12 @@ class Follower:
             folder, store, None if where is None else (where.oldest, where.confirmed), why
         )
         self._repeats.say_now(
-            self.name, f"set aside, as PostgreSQL may have lost what it has: {self._said(made)}"
+            self.name, f"quarantined, as PostgreSQL may have lost what it has: {self._said(made)}"
         )
         for each in beyond_bound(folder, self.identity):
             self._repeats.say_now(
                 self.name,
-                f"deleted, as {MOST_ASIDE} others were set aside since: {self._said(each)}",
+                f"deleted, as {MOST_ASIDE} others were quarantined since: {self._said(each)}",
             )
             delete(each.path(folder))
 

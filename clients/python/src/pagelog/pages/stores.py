@@ -1,9 +1,9 @@
-"""The stores in the folder of a page server: which one of a database is in use, and those that were set aside, as PostgreSQL went back. What
-was set aside may be the only copy of what PostgreSQL has lost.
+"""The stores in the folder of a page server: which one of a database is in use, and those that were quarantined, as PostgreSQL went back. What
+was quarantined may be the only copy of what PostgreSQL has lost.
 
     NAME.IDENTITY.json           the run whose store is in use
     NAME.IDENTITY.RUN, ..oldest  a store, and the position from which on it has all
-    aside/                       those that were set aside, under the same names, each with what it has in ..json
+    aside/                       those that were quarantined, under the same names, each with what it has in ..json
 """
 
 from __future__ import annotations
@@ -63,7 +63,7 @@ class Store:
 
 @dataclass(frozen=True)
 class SetAside:
-    """A store that was set aside, the `number`th of its database. It has the pages at positions `oldest` to `last`, and all blocks between;
+    """A store that was quarantined, the `number`th of its database. It has the pages at positions `oldest` to `last`, and all blocks between;
     None where it could not be opened."""
 
     name: str

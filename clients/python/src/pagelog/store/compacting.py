@@ -1,8 +1,8 @@
-"""Makes packs anew of which little is needed still, as most of their images were pruned: what is left of some goes into one.
+"""Makes packs again of which little is needed still, as most of their images were pruned: what is left of some goes into one.
 
 The bytes of an image are copied as they are compressed, so that the same images make the same object, whoever puts them together. A
 row says first which pack comes instead; it is put and read back as any other, and its images are in the others until then. One
-statement then says that they are in it, if each is the same still, and that the manifests which name the others are to be made anew.
+statement then says that they are in it, if each is the same still, and that the manifests which name the others are to be made again.
 What has no image any more goes last, and its bytes once nothing has named them for a while.
 """
 
@@ -98,7 +98,7 @@ noted AS (
 SELECT number FROM made
 """
 """Its images are in it from now on, those that are the same still; each manifest that has one of
-them is made anew. It has a number of the packs, as a manifest has: of two at once one is refused."""
+them is made again. It has a number of the packs, as a manifest has: of two at once one is refused."""
 GIVE_UP = """
 WITH gone AS (
   DELETE FROM pagelog_pack
@@ -107,7 +107,7 @@ WITH gone AS (
 INSERT INTO pagelog_gone (key) SELECT key FROM gone
 ON CONFLICT (key) DO UPDATE SET since = now() RETURNING key
 """
-"""It cannot be read any more, and nothing is in it: it is made anew."""
+"""It cannot be read any more, and nothing is in it: it is made again."""
 EMPTY = f"""
 WITH gone AS (
   DELETE FROM pagelog_pack p WHERE p.log = %(log)s AND p.state = 2 AND {_FREE}

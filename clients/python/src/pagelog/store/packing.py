@@ -141,7 +141,7 @@ class PackMover:
 
     def _made_again(self, number: int, key: str, instead: bool) -> tuple[Pack, bytes] | None:
         """The same pack, which one has named that died. Where it cannot be made again, as other bytes come of it, or images are gone, its
-        images are to be packed anew."""
+        images are to be packed again."""
         if instead:
             anew = self._compactor.made()
             if anew is not None and anew.pack.key == key:
@@ -208,7 +208,7 @@ class PackMover:
             [[folder, packs]] = place
             found = self._manifest(base, folder)
             if found is None:
-                return False  # pruned or made anew meanwhile
+                return False  # pruned or made again meanwhile
             facts, made = found
             self._passing("manifest made")
             named = self._ask(
@@ -256,7 +256,7 @@ class PackMover:
         if (ready is None or ready[0].key != key) and not is_there(self._store, key, digest):
             self._ask(
                 tables.NO_MANIFEST_OF, base=base, key=key
-            )  # one has named it that died: it is made anew
+            )  # one has named it that died: it is made again
             return
         if ready is not None and ready[0].key == key:
             self._passing("before put of a manifest")

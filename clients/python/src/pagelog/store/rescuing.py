@@ -94,7 +94,7 @@ def _is_whole(store: Store, key: str) -> bool:
 
 
 def _one_each(store: Store, keys: list[str]) -> list[str]:
-    """One manifest of each position: where one was made anew, as packs could not be read, the one whose packs are there."""
+    """One manifest of each position: where one was made again, as packs could not be read, the one whose packs are there."""
     of: dict[int, list[str]] = {}
     for key in keys:
         of.setdefault(int(key.rpartition("/")[2][:16], 16), []).append(key)

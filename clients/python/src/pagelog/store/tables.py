@@ -136,7 +136,7 @@ WITH gone AS (DELETE FROM pagelog_pack WHERE log = %(log)s AND number = %(number
 noted AS (INSERT INTO pagelog_gone (key) SELECT key FROM gone ON CONFLICT (key) DO UPDATE SET since = now())
 UPDATE pagelog_image i SET pack = NULL, at = NULL, length = NULL, digest = NULL FROM gone WHERE i.log = gone.log AND i.pack = gone.number RETURNING i.range
 """
-"""What a pack was to have is not there any more, or another zstd makes other bytes of it: its images are to be packed anew."""
+"""What a pack was to have is not there any more, or another zstd makes other bytes of it: its images are to be packed again."""
 CUT_PACK = """
 WITH kept AS (
   UPDATE pagelog_pack SET state = 2 WHERE log = %(log)s AND number = %(number)s AND key = %(key)s AND state = 1 RETURNING log, number),
@@ -153,7 +153,7 @@ WHERE b.log = %(log)s AND b.manifest IS NULL AND b.broken IS NULL AND s.moved >=
 ORDER BY b.base LIMIT 1
 """
 """The oldest base whose images are all in the store, and all blocks up to it that are kept, and whose manifest is not: who has the store alone
-finds no base that is later than the blocks. One that could not be read is made anew first."""
+finds no base that is later than the blocks. One that could not be read is made again first."""
 OF_BASE = """
 SELECT b.chain, b.digest, b.pages, COALESCE((extract(epoch FROM b.came) * 1000000)::bigint, 0), l.generation,
   i.range, i.base, i.pages, i.crc, i.at, i.length, i.digest, p.key, p.digest, p.size
@@ -163,7 +163,7 @@ FROM pagelog_base b JOIN pagelog_log l ON l.id = b.log LEFT JOIN (
 LEFT JOIN pagelog_pack p ON p.log = i.log AND p.number = i.pack AND p.state = 2
 WHERE b.log = %(log)s AND b.base = %(base)s ORDER BY i.range
 """
-"""A base and its images, all of one moment: it may be made anew, or its packs, at any other."""
+"""A base and its images, all of one moment: it may be made again, or its packs, at any other."""
 MANIFEST = """
 WITH fence AS (
   UPDATE pagelog_store SET packs = packs + 1 WHERE log = %(log)s AND packs = %(packs)s
@@ -171,7 +171,7 @@ WITH fence AS (
 UPDATE pagelog_base b SET manifest = %(key)s, manifest_digest = %(digest)s FROM fence WHERE b.log = fence.log AND b.base = %(base)s
   AND b.manifest IS NULL AND b.broken IS NULL AND b.chain = %(chain)s AND b.digest = %(heads)s RETURNING b.base
 """
-"""It takes a number of the packs: who makes packs anew at the same time is refused, or this is."""
+"""It takes a number of the packs: who makes packs again at the same time is refused, or this is."""
 OPEN_MANIFEST = """
 SELECT base, manifest, manifest_digest FROM pagelog_base WHERE log = %(log)s AND manifest IS NOT NULL AND NOT is_stored ORDER BY base LIMIT 1
 """
@@ -184,7 +184,7 @@ WITH gone AS (
   WHERE b.log = %(log)s AND b.base = %(base)s AND b.manifest = %(key)s AND NOT b.is_stored AND o.log = b.log AND o.base = b.base RETURNING o.manifest)
 INSERT INTO pagelog_gone (key) SELECT manifest FROM gone ON CONFLICT (key) DO UPDATE SET since = now() RETURNING key
 """
-"""It is made anew: another zstd makes other bytes of it."""
+"""It is made again: another zstd makes other bytes of it."""
 
 HELD = """
 SELECT l.id, l.name, l.identity::text, l.generation, COALESCE(s.cut, 0),

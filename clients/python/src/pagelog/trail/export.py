@@ -39,7 +39,7 @@ class _Unarchived(Exception):
 class Exported:
     """What was written of a list: its first table, its first primary, and its lines 1 to `lines` with so many blocks and texts.
 
-    The next line hardens LSN `unarchived`, which is not archived; None if all lines are written. The plain model decides line `differs`
+    The next line hardens LSN `unarchived`, which is not archived; None if all lines are written. The reference model decides line `differs`
     otherwise, if there is one.
     """
 

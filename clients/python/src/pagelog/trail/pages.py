@@ -1,4 +1,4 @@
-"""Pages asked at random: what a service serves, against what the archived blocks make by the plain model."""
+"""Pages asked at random: what a service serves, against what the archived blocks make by the reference model."""
 
 from __future__ import annotations
 

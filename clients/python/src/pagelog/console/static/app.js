@@ -75,7 +75,7 @@ function troubleOf(head) {
   if (page.isLost) return "The console does not answer; this page tries again.";
   if (!head?.postgresql.away_since) return "";
   const shown = head.look > 1 ? ` What is shown is of ${new Date(head.at).toLocaleTimeString()}.` : "";
-  return `PostgreSQL is away.${shown} This goes on by itself. ${head.postgresql.why}`;
+  return `PostgreSQL is away.${shown} This continues by itself. ${head.postgresql.why}`;
 }
 
 function trouble(words) {
@@ -86,7 +86,7 @@ function trouble(words) {
 }
 
 function keeperFact({ name, lines, lives }) {
-  return element("li", { title: `lines at ${lines}` }, marked(lives ? "serving" : "silent", name), lives ? null : quiet(" no beat"));
+  return element("li", { title: `lines at ${lines}` }, marked(lives ? "serving" : "silent", name), lives ? null : quiet(" no heartbeat"));
 }
 
 function postgresqlFact({ away_since: away, durable, is_one_disk: isOneDisk, synchronous_standbys: count }) {

@@ -79,7 +79,7 @@ function facts(database, now) {
     ...(database.pages.length ? [["Page servers", pagesOf(database)]] : []),
     ["Commits", `${rate(database.commits)} a second`],
     ["Reads", database.denials === null ? "not known: no trail is kept" : `${rate(database.reads)} a second`],
-    ["List left", ...(left === null ? ["–"] : [gauge(database), `${number(left)} of ${number(entries)} entries`])],
+    ["Entries left", ...(left === null ? ["–"] : [gauge(database), `${number(left)} of ${number(entries)} entries`])],
     ["Memory", memory === null ? "–" : `${number(memory)} MiB${limit ? ` of ${number(limit)}` : ""}`],
   ];
 }
@@ -91,7 +91,7 @@ function lagOf({ lag, lag_seconds: seconds }) {
 
 function standbysOf({ standbys, position }) {
   const behind = (each) => `${number(Math.max(0, position - each.reached))} blocks behind`;
-  const words = standbys.map((each) => `${each.keeper}, ${each.lives ? behind(each) : "no beat"}`);
+  const words = standbys.map((each) => `${each.keeper}, ${each.lives ? behind(each) : "no heartbeat"}`);
   return words.join("; ") || "none: a takeover fills a fresh service first";
 }
 
@@ -103,7 +103,7 @@ function pagesOf({ pages, position }) {
 // What is asked for.
 
 function plots(found) {
-  const kinds = [["Durable lag", "blocks", 1, number, 0], ["Commits", "a second", 2, rate, 0], ["List left", "entries", 3, compact]];
+  const kinds = [["Durable lag", "blocks", 1, number, 0], ["Commits", "a second", 2, rate, 0], ["Entries left", "entries", 3, compact]];
   return kinds.map(([title, unit, at, words, least]) => {
     const points = found.points.map((point) => [Date.parse(point[0]), point[at]]);
     const values = points.map(([, value]) => value).filter((value) => value !== null);

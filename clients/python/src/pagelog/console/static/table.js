@@ -58,7 +58,7 @@ const COLUMNS = [
   numbers("reads", "Reads/s", rate, "Gets and pulls a second, where there is a trail"),
   numbers("lag", "Lag", number, "Blocks that are hardened and not durable yet"),
   numbers("denials", "Denied", compact, "Requests denied in the last hour, where there is a trail"),
-  { name: "left", title: "List left", cell: leftCell, by: (each) => missing(each.entries_left),
+  { name: "left", title: "Entries left", cell: leftCell, by: (each) => missing(each.entries_left),
     hint: "Entries left of the audit list; at the mark its keeper makes the next service" },
   { name: "next", title: "Succession", cell: nextCell, by: (each) => each.next_in ?? Infinity, isNumber: true,
     hint: "When the next service is due" },

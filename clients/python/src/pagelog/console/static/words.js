@@ -44,7 +44,7 @@ export function element(name, attributes = {}, ...children) {
 export const quiet = (...children) => element("span", { class: "quiet" }, ...children);
 
 /** The states, the most urgent first. */
-export const STATES = { nobody: "nobody has it", silent: "no beat", taking: "taking", closing: "closing", serving: "serving" };
+export const STATES = { nobody: "nobody has it", silent: "no heartbeat", taking: "taking", closing: "closing", serving: "serving" };
 export const PAUSED = "paused";
 
 export function urgency(database) {
