@@ -15,7 +15,7 @@ PLANTS = {
     "orders, behind another's block": Plant("../named", "return bool(self._tail) and self._last < self.end", "return False", "orders", "told_holds"),
     "orders, begun once": Plant("../named", "                self.durable(self._last)", "                return self.durable(self._last)", "orders", "known_to_be_over"),
     "orders, ended as it begins": Plant("../named", "        if self._ended is not None:\n            raise self._ended\n\n    def _is_behind_another", "\n    def _is_behind_another", "orders", "told_holds"),
-    "orders, not durable yet": Plant("../named", "self._tail = [\n                block for block in self._tail if block.lsn < lost\n            ]  # it is not durable yet", "self._tail = []  # it is not durable yet", "orders", "told_holds"),
+    "orders, not durable yet": Plant("../named", "self._tail = [block for block in self._tail if block.lsn < lost]  # it is not durable yet", "self._tail = []  # it is not durable yet", "orders", "told_holds"),
     "orders, the open commit": Plant("../named", "            self._records = []\n            raise\n", "            raise\n", "orders", "told_holds"),
     "orders, what a failover kept": Plant("../named", "            if isinstance(error, OlderEpoch):\n", "            if False:\n", "orders", "told_holds"),
     "orders, the images": Plant("../named", "            if self._lost_below(place) is not None:\n                return\n", "", "orders", "told_holds"),
@@ -31,4 +31,6 @@ PLANTS = {
     "standbys, another history": Plant("referee", "return not found or not (", "return not found and not (",
                                        "referee", "what_a_look_has_shown"),
     "set back, below a run that rests": Plant("database", "            self.work.suspect()\n", "            pass\n", "lives", "nobody_writes_to"),
+    "settled, upon another's that is lost": Plant("../named", "        if self._tail and end < self._tail[0].lsn - 1:  # others' blocks", "        if False:  # others' blocks", "named",
+                                                  "upon_nothing_else"),
 }  # fmt: skip

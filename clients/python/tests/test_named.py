@@ -220,6 +220,51 @@ class Overtaken(Named):
         self.assertRaises(pagelog.OlderEpoch, self.overtaken.commit)
 
 
+class UponOthers(Named):
+    """Its commits stand upon another's, which were never archived, and are lost with their service."""
+
+    def setUp(self) -> None:
+        super().setUp()
+        self.keepers.fate.side_effect = lambda place, position, *_: (
+            Fate(self.places[place.generation].kept, True)
+            if place.generation < len(self.places)
+            else Fate(position, False)
+        )
+        self.begin()
+
+    def of_another(self, *texts: bytes) -> None:
+        self.of_run(pagelog.Operator, 1).failover(2)
+        other = self.of_run(pagelog.Primary, 2)
+        for text in texts:
+            other.append(put(0, text))
+            other.commit()
+
+    def test_they_are_written_upon_nothing_else(self) -> None:
+        for then in (
+            [],
+            [b"other"],
+            [b"other", b"second"],
+            [b"other", b"second", b"third"],
+            [b"other", b"second", b"3"],
+        ):
+            with self.subTest(then=then):
+                self.of_another(b"1", b"2")
+                writer = self.writer()
+                for text in (b"3", b"4"):
+                    writer.append(put(0, text))
+                    writer.commit()
+                self.begin()  # with nothing of it
+                if then:
+                    self.of_another(*then)
+                with self.assertRaises(Lost) as raised:
+                    writer.durable(4)
+                self.assertEqual((raised.exception.position, self.texts()), (1, then))
+                writer.append(put(0, b"next"))
+                writer.commit(durable=True)
+                self.assertEqual(self.texts(), [*then, b"next"])
+                self.begin()
+
+
 class Tokens(Named):
     """A service that knows no such principal may be another's."""
 

@@ -11,7 +11,7 @@ from __future__ import annotations
 
 import hashlib
 import time
-from typing import Sequence
+from typing import NoReturn, Sequence
 
 from pagelog.block import Block, Record, check_record
 from pagelog.client import FIRST_EPOCH
@@ -443,6 +443,8 @@ class NamedPrimary(Following):
             raise Lost(lost, "PostgreSQL went back, and has lost what was durable")
         if self._tail and self._tail[0].lsn <= self.end:
             self._is_durable(end)
+        if self._tail and end < self._tail[0].lsn - 1:  # others' blocks, upon which its own stand
+            self._lose_from(place, end + 1, end)
 
     def _fate(self, place: Place, position: int, lines: str | None = None) -> Fate:
         """What became of a position. Raises `Lost` where PostgreSQL went on without this run, and `Dropped`."""
@@ -532,18 +534,19 @@ class NamedPrimary(Following):
                 place, witness, [block for block in self._tail if known < block.lsn <= hard]
             )
         if lost is None and self._tail and hard < self._tail[0].lsn - 1:
-            lost = hard + 1  # what was durable is missing: the archive went back
+            lost = hard + 1  # what it was made upon is missing
         if lost is not None:
-            self._tail = [
-                block for block in self._tail if block.lsn < lost
-            ]  # it is not durable yet
-            self.end, self.place, self._epoch = hard, place, None
-            self.keepers.is_of(place)
-            self._told, self.durable_end = min(self._told, lost - 1), min(
-                self.durable_end, lost - 1
-            )
-            self._leave()
-            raise Lost(lost)
+            self._lose_from(place, lost, hard)
+
+    def _lose_from(self, place: Place, lost: int, hard: int) -> NoReturn:
+        """What it has committed from a position on is not in the log, which ends at `hard` there. Raises `Lost`."""
+        self._tail = [block for block in self._tail if block.lsn < lost]  # it is not durable yet
+        self.end, self.place, self._epoch = hard, place, None
+        self.keepers.is_of(place)
+        self._told = min(self._told, lost - 1)
+        self.durable_end = min(self.durable_end, lost - 1)
+        self._leave()
+        raise Lost(lost)
 
     def _lost_below(self, place: Place) -> int | None:
         """Drops what of the tail is in the images that the service began with: no block of them can be pulled there, and the archive
