@@ -31,6 +31,6 @@ PLANTS = {
     "standbys, another history": Plant("referee", "return not found or not (", "return not found and not (",
                                        "referee", "what_a_look_has_shown"),
     "set back, below a run that rests": Plant("database", "            self.work.suspect()\n", "            pass\n", "lives", "nobody_writes_to"),
-    "settled, upon another's that is lost": Plant("../named", "        if self._tail and end < self._tail[0].lsn - 1:  # others' blocks", "        if False:  # others' blocks", "named",
-                                                  "upon_nothing_else"),
+    "settled, upon another's that is lost": Plant("../named", "        if self._tail and end < self._tail[0].lsn - 1:  # others' blocks", "        if False:  # others' blocks", "orders",
+                                                  "told_holds"),
 }  # fmt: skip

@@ -91,6 +91,11 @@ class World:
     def at(self, place: Place) -> Service:
         return self.services[place.generation - 1]
 
+    def below(self, writer: NamedPrimary, position: int) -> list[bytes]:
+        """What the log of its generation has before a position."""
+        assert writer.place is not None
+        return [block.data for block in self.at(writer.place).log[: position - 1]]
+
     def happen(self, service: Service) -> None:
         """Perhaps something. Raises `ConnectionLost` where the service has died."""
         if self.left and self.chance.random() < self.often:
@@ -271,6 +276,8 @@ class Told:
         """Of commits that have returned, and are neither known to be durable nor lost."""
         self.durable: dict[int, bytes] = {}
         self.never: set[bytes] = set()
+        self.upon: dict[bytes, list[bytes]] = {}
+        """By its text, the blocks upon which a commit was made."""
 
     def lost(self, position: int) -> None:
         for each in [each for each in self.positions if each >= position]:
@@ -334,7 +341,9 @@ class Orders(unittest.TestCase):
             text = f"mine {number}".encode()
             try:
                 writer.append(put(0, text))
-                told.positions[writer.commit()] = text
+                position = writer.commit()
+                told.positions[position] = text
+                told.upon[text] = world.below(writer, position)
             except Lost as lost:
                 told.never.add(text)
                 told.lost(lost.position)
@@ -370,6 +379,9 @@ class Orders(unittest.TestCase):
                 told.durable,
                 f"seed {seed}: not durable",
             )
+            for position, text in told.durable.items():
+                below = [block.data for block in world.archived[: position - 1]]
+                self.assertEqual(below, told.upon[text], f"seed {seed}: upon other blocks")
             self.assertEqual(
                 told.never.intersection(mine),
                 set(),
