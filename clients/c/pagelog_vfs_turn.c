@@ -231,8 +231,10 @@ static bool is_upgrade(const struct connection *connection) {
 
 /* Whether more may come of a turn that was asked for at once and not given; then `*outcome` is what has come
  * of it. An upgrade waits on where the keeper does not answer, and another may soon have the database; and it
- * asks in the next generation, which has what it has read. Any other begins again, and asks there. */
-static bool comes_later(struct connection *connection, enum pagelog_outcome *outcome, uint64_t *until) {
+ * asks in the next generation, which has what it has read: `*moved` says whether it came there. Any other
+ * begins again, and asks there. */
+static bool comes_later(struct connection *connection, enum pagelog_outcome *outcome, uint64_t *until,
+                        enum pagelog_outcome *moved) {
     struct database *database = connection->database;
     struct pagelog_file *file = database->file;
     bool is_kept = *outcome == PAGELOG_CONFLICT && database->turn.is_soon;
@@ -240,7 +242,9 @@ static bool comes_later(struct connection *connection, enum pagelog_outcome *out
                     is_upgrade(connection);
     if (!is_kept && !may_come) return false;
     if (pagelog_file_is_overtaken(file)) {
-        if (!is_upgrade(connection) || pagelog_file_move_on(file) != PAGELOG_DONE) return false;
+        if (!is_upgrade(connection)) return false;
+        *moved = pagelog_file_move_on(file);
+        if (*moved != PAGELOG_DONE) return false;
     } else if (is_kept) {
         if (!wait_for_kept(connection, *until)) return false;
         *outcome = look(database);
@@ -254,7 +258,8 @@ static bool comes_later(struct connection *connection, enum pagelog_outcome *out
 }
 
 /* Has the turn of the generation that the file is in. One that was waited for may be of a generation that is
- * over, or of none where its keeper was gone. */
+ * over, or of none where its keeper was gone. A loss that is found meanwhile is told, and not that it is
+ * busy. */
 static int have_turn(struct connection *connection) {
     struct database *database = connection->database;
     if (database->turn_of == connection && is_held_in(database, pagelog_file_generation(database->file)))
@@ -262,8 +267,13 @@ static int have_turn(struct connection *connection) {
     database->turn_of = connection;
     enum pagelog_outcome outcome = ask(connection, true);
     uint64_t until = pagelog_after(MOMENT_MS);
-    while (comes_later(connection, &outcome, &until))
+    enum pagelog_outcome moved = PAGELOG_DONE;
+    while (comes_later(connection, &outcome, &until, &moved))
         continue;
+    if (moved != PAGELOG_DONE && pagelog_file_state_of(database->file).is_over) {
+        pagelog_give_turn(connection);
+        return pagelog_result_of_begin(database, moved);
+    }
     bool may_come = outcome == PAGELOG_LOST && connection->busy && pagelog_turn_may_come(&database->turn);
     connection->wants_turn = outcome == PAGELOG_CONFLICT;
     database->is_contended |= connection->wants_turn;
@@ -290,7 +300,8 @@ int pagelog_reserve_database(struct connection *connection) {
     if (!database->is_named) return SQLITE_OK;
     do {
         generation = pagelog_file_generation(database->file);
-        if (have_turn(connection) != SQLITE_OK) return SQLITE_BUSY;
+        int code = have_turn(connection);
+        if (code != SQLITE_OK) return code;
         outcome = pagelog_file_reserve(database->file);
     } while (outcome == PAGELOG_DONE && pagelog_file_generation(database->file) != generation);
     if (outcome == PAGELOG_DONE) {

@@ -9,4 +9,7 @@ PLANTS = {
                                            "    return one_length > 0 || memcmp(one, other, 0) == (int)other_length;\n", _ORDERS, _TEST),
     "orders, a loss is not told": Plant(_MOVE, "    bool was_told = position <= named->own;\n    pagelog_tail_cut", "    bool was_told = false;\n    pagelog_tail_cut", _ORDERS, _TEST),
     "orders, durable beyond the end": Plant(_MOVE, "    uint64_t told = fate.end < named->told ? fate.end : named->told;\n", "    uint64_t told = named->tail.next - 1;\n", _ORDERS, _TEST),
+    "orders, a loss is told as busy": Plant("c/pagelog_vfs_turn.c", "    if (moved != PAGELOG_DONE && pagelog_file_state_of(database->file).is_over) {\n", "    if (false) {\n", _ORDERS, _TEST),
+    "orders, what is lost is not sent again": Plant(_MOVE, "        if (outcome == PAGELOG_DONE) outcome = pagelog_append(file->log, blocks, file->options.written);\n        if (outcome == PAGELOG_DONE) named->resent",
+                                                    "        if (outcome == PAGELOG_DONE) named->resent", _ORDERS, _TEST),
 }  # fmt: skip
