@@ -82,8 +82,8 @@ class World(StubKeeper):
         super().__init__()
         self.chance = random.Random(seed)
         self.left, self.others, self.happened = 0, 0, []
-        self.floor = 0
-        """PostgreSQL never goes back to before this position."""
+        self.floor = self.had = 0
+        """PostgreSQL never goes back to before this position; and how much it had before it did."""
         self.often = self.chance.choice([0.03, 0.1, 0.3])
         self.told, self.superseded, self.excused = Told(), set(), set()
         self.rule, self.busy = self.at_request, threading.local()
@@ -129,7 +129,9 @@ class World(StubKeeper):
             asker.carry(frame)
 
     def die(self, **how):
-        super().die(lost=self.chance.choice([0, 0, 1, 2, 64]), **how)
+        """The service, which may be the only one that has what PostgreSQL has lost: then not before that is archived again."""
+        is_behind = len(self.archive) < self.had
+        super().die(lost=0 if is_behind else self.chance.choice([0, 0, 1, 2, 64]), **how)
 
     def succeed_somehow(self):
         self.succeed(images=self.chance.random() < 0.6, empty=self.chance.choice([0, 0, 3, 200]))
@@ -152,6 +154,7 @@ class World(StubKeeper):
         """PostgreSQL does; the run continues, and is archived again."""
         with self.changed:
             least = max(self.floor, self.now.base)  # what its images stand for it has still
+            self.had = max(self.had, len(self.archive))
             if len(self.archive) > least:
                 del self.archive[self.chance.randint(least, len(self.archive)) :]
 
@@ -164,6 +167,7 @@ class World(StubKeeper):
             del self.archive[self.chance.randint(least, len(self.archive)) :]
             self.superseded.add(self.now.run)
             self.excused |= self.told.durable  # as PostgreSQL has lost it itself
+            self.had = 0
             new = Generation(self, self.now.number + 1)
             new.fill(self.archive)
             if self.chance.random() < 0.5:
