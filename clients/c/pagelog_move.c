@@ -341,12 +341,21 @@ static enum pagelog_outcome compare_tail(struct pagelog_file *file, uint64_t har
     return outcome == PAGELOG_DONE ? compare(file, base + 1, hard, differs) : outcome;
 }
 
+/* Whether the log may have something else right before the tail than what that was made upon: another's
+ * blocks, which are not held and were not durable. Of the run that had the whole tail last they are there. */
+static bool is_upon_lost(const struct pagelog_file *file) {
+    const struct named *named = &file->named;
+    uint64_t known = named->durable > named->place.base ? named->durable : named->place.base;
+    return !is_settled_here(named) && known + 1 < named->tail.first;
+}
+
 /* Sees to it that the log has the whole tail. */
 static enum pagelog_outcome settle_tail(struct pagelog_file *file, const struct pagelog_reply *status) {
     struct named *named = &file->named;
     uint64_t hard = position_of(file, status->hard), differs = 0;
     if (pagelog_tail_is_empty(&named->tail)) return PAGELOG_DONE;
-    if (hard + 1 < named->tail.first) /* the archive went back */
+    bool is_next = hard + 1 == named->tail.first;
+    if (hard + 1 < named->tail.first || (is_next && is_upon_lost(file)))
         return lose_from(file, hard + 1, PAGELOG_FENCED);
     enum pagelog_outcome outcome = compare_tail(file, hard, &differs);
     if (outcome == PAGELOG_IN_DOUBT) return lose_from(file, differs, outcome);

@@ -56,4 +56,5 @@ PLANTS = {
                                    "    outcome = pagelog_append(file->log, file->blocks, file->options.written);\n    if (file->tell_sent) file->tell_sent(file->told_sent);\n", "c/generations", "while_the_service_has_it"),
     "ring, of each commit": Plant("c/pagelog_vfs_durable.c", "bool rings = database->is_named && connection->synchronous >= SYNCHRONOUS_FULL;", "bool rings = database->is_named;",
                                   "c/generations", "while_the_service_has_it"),
+    "tail, right behind another's": Plant("c/pagelog_move.c", "(is_next && is_upon_lost(file))", "(is_next && false && is_upon_lost(file))", "upon", "right_before"),
 }  # fmt: skip

@@ -93,3 +93,11 @@ class Upon(Movable):
             self.enter_and_be_killed(100_000, LEAP + 100)
             mine.execute("insert into t values(2)")
             self.lose(mine, LEAP + 100)
+
+    def test_of_one_whose_log_ends_right_before_what_it_holds(self) -> None:
+        with closing(connected(self.keeping.addresses, "normal")) as mine:
+            self.assertEqual(self.numbers(mine), (1, 0, 0, 0))
+            self.cut_off()
+            self.enter_and_be_killed(100_000, LEAP + 100)
+            mine.execute("insert into t values(2)")
+            self.lose(mine, LEAP + 99)
