@@ -293,7 +293,7 @@ class Cells(unittest.TestCase):
 
     def test_the_cell_that_has_come_least_often_is_next(self) -> None:
         self.counts.add("prune", "keeper", "alone", -1)
-        possible = [["prune", "succeed"], ["resume"]]
+        possible = [["prune", "rollover"], ["resume"]]
         self.assertEqual(self.counts.rarest_death(possible, "alone", self.chance), "keeper")
         self.assertEqual(self.counts.rarest(possible[0], "keeper", "alone", self.chance), "prune")
 

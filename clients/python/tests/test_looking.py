@@ -390,8 +390,12 @@ def check_alerts(test: unittest.TestCase, names: set[str], *, of_keeper: bool = 
         for each in expressions
         for name in re.findall(r"pagelog_\w+", re.sub(r'"[^"]*"', "", each))
     }
+    others = {name for name in used if name.startswith("pagelog_pages_")}
+    of_page_servers = (HERE.parent / "src" / "pagelog" / "pages" / "metrics.py").read_text()
+    test.assertEqual(others - set(re.findall(r"pagelog_pages_\w+", of_page_servers)), set())
     test.assertEqual(
-        {name for name in used if name.startswith("pagelog_keeper_") == of_keeper} - names, set()
+        {name for name in used - others if name.startswith("pagelog_keeper_") == of_keeper} - names,
+        set(),
     )
 
 

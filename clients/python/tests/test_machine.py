@@ -399,7 +399,7 @@ class Taken(unittest.TestCase):
 
         session.ask = ask
         settings = Settings.of("a", "", "", Path("."), "", "", {"standby": False, "ttl": TTL})
-        shared = Shared(settings, "life", session, Mock(), Mock(), Mock())
+        shared = Shared(settings, "life", session, Mock(), Mock(), Mock(), Mock())
         database = Database(shared, decided)
         database._still = Mock(see=Mock(side_effect=[TTL, 0.0]))
         asyncio.run(decided_and_taken())
