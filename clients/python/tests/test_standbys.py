@@ -8,6 +8,7 @@ import signal
 import socket
 import zlib
 from collections import Counter
+from contextlib import closing
 from dataclasses import replace
 from typing import Callable
 from unittest.mock import patch
@@ -39,6 +40,12 @@ class Two(Kept):
             name for name, port in self.keeping.ports.items() if place.lines.endswith(f":{port}")
         )
 
+    def is_known(self) -> None:
+        """Waits until the holder has seen the standby: else it takes the database again itself, as where there is none."""
+        holder = Keepers("shop", [f"127.0.0.1:{self.keeping.ports[self.holder()]}"], PATIENCE)
+        with closing(holder):
+            eventually(lambda: holder.standby() is not None, "a standby that the holder knows")
+
     def other(self) -> str:
         return "b" if self.holder() == "a" else "a"
 
@@ -57,7 +64,7 @@ class TwoKeepers(Two):
                 self.commit(primary, f"{number}")
             primary.durable(20)
             self.standby(20)
-            eventually(lambda: self.keeping.keepers().standby() is not None, "a standby")
+            self.is_known()
             standby = reader.keepers.standby()
             eventually(lambda: reader.end() == 20, "the word that the standby has it all")
             self.assertEqual(reader.place.run, standby.run)  # type: ignore[union-attr]
@@ -116,7 +123,7 @@ class TwoKeepers(Two):
         with self.keeping.primary() as primary:
             self.commit(primary, "1", durable=True)
             self.standby(1)
-            eventually(lambda: self.keeping.keepers().standby() is not None, "a standby")
+            self.is_known()
             run = self.keeping.keepers().standby().run  # type: ignore[union-attr]
             trigger = Trigger(
                 self.keeping.url,
@@ -248,7 +255,7 @@ class TwoKeepers(Two):
         with self.keeping.primary() as primary:
             self.commit(primary, "1", durable=True)
             self.standby(1)
-            eventually(lambda: self.keeping.keepers().standby() is not None, "a standby")
+            self.is_known()
             standby = self.keeping.keepers().standby()
             assert standby is not None
             with Loader(standby.address, keeper_of(b"s" * 16, "shop", standby.run)) as loader:
