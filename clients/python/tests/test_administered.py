@@ -162,6 +162,19 @@ class Administered(unittest.TestCase):
         self.look(11 + BOUND + 1, one)
         self.assert_one("refused, and yet there")
 
+    def test_what_a_drop_takes_was_there_before(self) -> None:
+        one = self.commit(1, 10, what="lost")  # which is told at 10.1
+        self.look(10.02, one)
+        for drop, is_excused in (
+            (Drop("s1", 10.05, 11, True), True),
+            (Drop("s2", 10.05, 11, True), False),
+            (Drop("s1", 10.5, 11, True), False),
+            (Drop("s1", 9, 9.9, True), False),
+        ):
+            with self.subTest(drop=vars(drop)):
+                self.past.drops = [drop]
+                self.assertEqual(self.violations() == [], is_excused)
+
     def test_lost_by_what_postgresql_has_lost_itself(self) -> None:
         """As by a drop that it said, and then it went back to before that."""
         self.look(LATE, self.commit(1, 9, what="lost"))

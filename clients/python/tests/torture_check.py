@@ -64,12 +64,14 @@ class Past:
         """Whether what was acknowledged then may have been dropped with its database since."""
         return any(drop.name == name and drop.ended >= began for drop in self.drops)
 
-    def went(self, name: str, tried: float, looked: float) -> bool:
-        """Whether what was tried had gone with its database at a look, which may have it for a while still."""
+    def went(self, name: str, tried: float, looked: float, lost: float | None) -> bool:
+        """Whether what was tried had gone with its database at a look, which may have it for a while still; and, where it was told to be lost
+        since the drop began, whether it went after the look."""
         return any(
             drop.name == name
             and drop.ended >= tried
-            and drop.began <= looked <= drop.ended + self.bound
+            and looked <= drop.ended + self.bound
+            and drop.began <= (looked if lost is None else max(looked, lost))
             for drop in self.drops
         )
 
@@ -295,7 +297,7 @@ class Check:
     def _refused(self) -> Iterator[str]:
         """Of a transaction to two databases the last one has refused it; the first is changed back, unless that is refused too."""
         refused = {
-            (note["who"], note["number"])
+            (note["who"], note["number"]): note["noted"] if note["what"] == "lost" else None
             for note in self.notes
             if note["what"] in ("refused", "lost")
             and not (note["what"] == "lost" and self.past.was_told_in_vain(note["noted"]))
@@ -303,7 +305,8 @@ class Check:
         for note, link in self._links("try"):
             if (note["who"], note["number"]) in refused and link is note["links"][-1]:
                 for look in self._shown_of(note, link).looks[-1:]:
-                    went = self.past.went(link["name"], note["noted"], look["began"])
+                    lost = refused[note["who"], note["number"]]
+                    went = self.past.went(link["name"], note["noted"], look["began"], lost)
                     if look["kind"] == "durable" and not went and self._has(look, note, link):
                         yield f"refused, and yet there: {self._named(note, link)}"
 
