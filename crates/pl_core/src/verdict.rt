@@ -38,14 +38,10 @@ pub(crate) fn view(state: &State, hard: u64, request: &Request) -> View
 {
     let log = &state.log;
     let in_epoch = request.head().epoch == state.epochs.epoch;
-    let act = request.act();
-    let agrees = match act {
-        Act::Write { block, .. } | Act::Offer { block } => !in_epoch || log.agrees(block),
-        _ => true,
-    };
-    let can_harden = match act {
-        Act::Report { lsn } => !in_epoch || log.can_harden(*lsn),
-        _ => true,
+    let (agrees, can_harden) = match request.act() {
+        Act::Write { block, .. } | Act::Offer { block } => (!in_epoch || log.agrees(block), true),
+        Act::Report { lsn } => (true, !in_epoch || log.can_harden(*lsn)),
+        _ => (true, true),
     };
     View {
         hard,

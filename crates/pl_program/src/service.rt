@@ -30,7 +30,7 @@ pub struct ServedDatabases {
 
 // Serves connections, and at the same time lets the page server make its rounds, if there is one. `None` if the
 // page server's thread could not be started.
-fn serve_in<'s, E, R: Threads + Wait + Net + Sync + Drop, W: Watch>(
+fn serve_and_page<'s, E, R: Threads + Wait + Net + Sync + Drop, W: Watch>(
     scope: &Scope<'s, E>,
     rt: &'s R,
     terms: &Terms<W>,
@@ -113,7 +113,7 @@ fn serve_over<R: Threads + Wait + Net + Sync + Drop, W: Watch>(
                 idle_polls,
                 watch,
             };
-            serve_in(scope, rt, &terms, desks, passes, paging)
+            serve_and_page(scope, rt, &terms, desks, passes, paging)
         },
     )
 }
