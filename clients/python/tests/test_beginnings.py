@@ -157,15 +157,16 @@ class ReadsAhead(unittest.TestCase):
             raise error
 
     def test_the_next_piece_is_read_while_one_is_loaded_and_no_other(self) -> None:
-        cut = Mock()
+        cut, before = Mock(), set(threading.enumerate())
         with ahead(self.pieces(5), cut) as pieces:
             for number, piece in enumerate(pieces):
-                threads = threading.active_count()
+                self.assertEqual(len(set(threading.enumerate()) - before), 1)
                 deadline = time.monotonic() + PATIENCE
                 while len(self.read) < min(5, number + 2) and time.monotonic() < deadline:
                     time.sleep(0.001)
                 self.assertEqual((piece, self.read), ([number], list(range(min(5, number + 2)))))
-        self.assertEqual((number, threading.active_count(), cut.called), (4, threads - 1, False))
+        self.assertEqual(set(threading.enumerate()) - before, set())
+        self.assertEqual((number, cut.called), (4, False))
 
     def test_what_fails_comes_behind_what_was_read_before(self) -> None:
         found, cut = [], Mock()

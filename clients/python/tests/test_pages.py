@@ -955,10 +955,9 @@ class Tables(Apart):
                 (there.run,),
             )
         began = time.monotonic()
-        self.assertEqual(self.run_word("table", "shop", "--within", 20)[0], 3)
-        self.assertLess(
-            time.monotonic() - began, 2.5
-        )  # one that has been silent for long is not waited for
+        self.assertEqual(self.run_word("table", "shop", "--within", 600)[0], 3)
+        # One that has been silent for long is not waited for.
+        self.assertLess(time.monotonic() - began, 300)
         self.assertEqual(self.run_word("forget", there.run, "--yes")[0], 0)
         self.assertEqual(self.run_word("table", "shop"), (0, "table 5 of shop is in force\n"))
 
