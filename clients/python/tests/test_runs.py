@@ -476,6 +476,13 @@ class Runs(unittest.TestCase):
         adopted.end()
         run.leave()
 
+    def test_a_service_takes_one_descriptor_of_its_keeper(self) -> None:
+        before = len(os.listdir("/proc/self/fd"))
+        run = self.start(listen="127.0.0.1:0")
+        self.assertEqual(len(os.listdir("/proc/self/fd")), before + 1)
+        run.leave()
+        self.assertEqual(len(os.listdir("/proc/self/fd")), before)
+
     def test_one_that_does_not_end_is_waited_for_no_longer_than_a_while(self) -> None:
         """As one that waits for a disk. Its keeper goes on, and its next instance ends it."""
         run, open_before = self.start(), len(os.listdir("/proc/self/fd"))

@@ -334,8 +334,6 @@ class Run:
         if self._child is not None:
             if not self.is_alive:
                 self._child.wait()
-            if self._child.stdout is not None:
-                self._child.stdout.close()
             self._child.returncode = self._child.returncode or 0
         os.close(self.descriptor)
 
@@ -531,13 +529,15 @@ def _give(child: Child, table: str) -> None:
 
 
 def _address(child: Child, patience: float) -> str:
+    """What it says, which is all that it ever says there. So the descriptor is closed."""
     assert child.stdout is not None
-    if not is_readable(child.stdout.fileno(), patience):
-        raise NotStarted(f"it said nothing in {patience} s")
-    line = child.stdout.readline().decode(errors="replace").split()
-    if len(line) != 2 or line[0] != "listening":
+    with child.stdout as line:
+        if not is_readable(line.fileno(), patience):
+            raise NotStarted(f"it said nothing in {patience} s")
+        words = line.readline().decode(errors="replace").split()
+    if len(words) != 2 or words[0] != "listening":
         raise NotStarted("it ended")
-    return line[1]
+    return words[1]
 
 
 def text_of(file: Path) -> str:
