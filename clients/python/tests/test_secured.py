@@ -18,7 +18,7 @@ import urllib.error
 import urllib.request
 from contextlib import suppress
 from pathlib import Path
-from typing import Any
+from typing import Any, Iterator
 
 from prometheus_client import CollectorRegistry
 
@@ -33,7 +33,7 @@ from pagelog.keeper.certificate import Pair, ShownFile
 from pagelog.keeper.fate import Of
 from pagelog.keeper.fronted import may_ask
 from pagelog.keeper.unix import near
-from pagelog.keeper.hosts import unverified
+from pagelog.keeper.hosts import is_loopback, unverified
 from pagelog.keeper.proxied import SIGNATURE, Head, taken
 from pagelog.keeper.referee import Away, Referee, options_of
 from pagelog.keeper.run import fronts_of, has_services
@@ -433,6 +433,32 @@ class Page(unittest.TestCase):
                 Settings.of("a", "h:1", "h", Path("folder"), "pagelog", "", {**section, key: value})
         with self.assertRaisesRegex(CredentialsError, "plain without tls"):
             Settings.of("a", "h:1", "h", Path("folder"), "pagelog", "", {"plain": False})
+
+
+class Urls(unittest.TestCase):
+    def test_each_of_postgresql_is_of_this_machine_or_verified(self) -> None:
+        """In pages, packages and what is deployed: who copies one encrypts, and knows to whom."""
+        told, verified = list[str](), 0
+        for file, url in self.printed():
+            options = options_of(re.sub("@[A-Z]+@", "x", url))
+            hosts = str(options.get("host", "")).split(",")
+            if all(not host or host.startswith("/") or is_loopback(host) for host in hosts):
+                continue
+            verified += 1
+            if options.get("sslmode") != "verify-full" or "sslrootcert" not in options:
+                told.append(f"{file}: {url}")
+        self.assertEqual(told, [])
+        self.assertGreater(verified, 3)
+
+    def printed(self) -> Iterator[tuple[str, str]]:
+        """Each file that has such a url, and the url; not where the word alone is spoken of."""
+        words = ["git", "ls-files", "-z", "*.md", "docs", "packaging", "deploy"]
+        names = subprocess.run(words, cwd=TOP, check=True, capture_output=True, text=True).stdout
+        for name in names.strip("\0").split("\0"):
+            text = (TOP / name).read_bytes().decode(errors="replace")
+            for url in re.findall(r"postgres(?:ql)?://[^\s\"'`)>|]*", text):
+                if not url.endswith("://"):
+                    yield name, url.rstrip(".,:;")
 
 
 class Shown(Side):
