@@ -300,19 +300,16 @@ class Terminator:
 
 
 class Halting:
-    """Carries the bytes of connections to `target`, and of each connection so many of those that come back: then it cuts it, or where it
-    `stands` is silent."""
+    """Carries the bytes of connections to `target`, and of each connection so many of those that come back, and of those that go there: then
+    it cuts it, or where it `stands` is silent."""
 
     def __init__(self, target: str, stands: bool = False) -> None:
-        self.target, self.stands, self.left = (
-            (target.rsplit(":", 1)[0], int(target.rsplit(":", 1)[1])),
-            stands,
-            0,
-        )
+        self.target, self.stands = (target.rsplit(":", 1)[0], int(target.rsplit(":", 1)[1])), stands
+        self.left, self.toward = 0, 1 << 60
         self.listener = socket.create_server(("127.0.0.1", 0), backlog=128)
         self.address = f"127.0.0.1:{self.listener.getsockname()[1]}"
-        self.came = 0
-        """The most bytes that one has had to carry back."""
+        self.came = self.went = 0
+        """The most bytes that one has had to carry back, and there."""
         self.held: list[socket.socket] = []
         threading.Thread(target=self._accept, daemon=True).start()
 
@@ -332,27 +329,29 @@ class Halting:
                 client, _ = self.listener.accept()
             except OSError:
                 return
-            threading.Thread(target=self._carry, args=(client, self.left), daemon=True).start()
+            threading.Thread(
+                target=self._carry, args=(client, self.left, self.toward), daemon=True
+            ).start()
 
-    def _carry(self, client: socket.socket, left: int) -> None:
-        came = 0
-        with contextlib.suppress(OSError), socket.create_connection(self.target, 20) as server:
-            while True:
+    def _carry(self, client: socket.socket, left: int, toward: int) -> None:
+        came = went = 0
+        with contextlib.ExitStack() as ends, contextlib.suppress(OSError):
+            ends.callback(client.close)
+            server = ends.enter_context(socket.create_connection(self.target, 20))
+            for end in (client, server):
+                end.setsockopt(socket.IPPROTO_TCP, socket.TCP_NODELAY, 1)
+            while came < left and went < toward:
                 for source in select.select([client, server], [], [])[0]:
                     data = source.recv(65536)
                     if not data:
-                        client.close()
                         return
                     if source is client:
-                        server.sendall(data)
-                        continue
-                    came += len(data)
-                    self.came = max(self.came, came)
-                    client.sendall(data[:left])
-                    left -= len(data)
-                    if left <= 0 and self.stands:
-                        self.held.append(client)
-                        return
-                    if left <= 0:
-                        client.close()
-                        return
+                        server.sendall(data[: toward - went])
+                        went += len(data)
+                    else:
+                        client.sendall(data[: left - came])
+                        came += len(data)
+                    self.came, self.went = max(self.came, came), max(self.went, went)
+            if self.stands:
+                self.held += [client, server]
+                ends.pop_all()

@@ -2,7 +2,7 @@
  *
  *   hostile SECONDS SEED
  *   hostile SECONDS SEED serve        the server alone, until its standard input ends: it prints its address
- *   hostile SECONDS SEED ADDRESS CA   the client alone, by TLS
+ *   hostile SECONDS SEED ADDRESS CA   the client alone, by TLS, and until it has been let in once
  *
  * The server answers as the service does, more or less, and then spoils some of it: bits are turned, replies
  * cut, made too long, left out, given twice, or are random bytes. The client makes calls of every kind.
@@ -355,14 +355,15 @@ int main(int count, char **words) {
     if (count == 4 && strcmp(words[3], "serve") == 0) return serve_alone(&server, address);
     if (count == 5) {
         options = (struct pagelog_options){
-            .address = words[3], .principal = 2, .connect_ms = 2000, .reply_ms = 50, .patience_ms = 10};
+            .address = words[3], .principal = 2, .connect_ms = 20000, .reply_ms = 50, .patience_ms = 10};
         options.tls = pagelog_tls_new(&(struct pagelog_tls_files){.sslrootcert = words[4]}, why, sizeof why);
         if (!options.tls) return 2;
     }
     if (server.listener < 0 || !room || pthread_create(&thread, NULL, serve, &server)) return 2;
-    while (pagelog_now() < end) {
+    for (bool is_in = !options.tls; pagelog_now() < end || !is_in;) {
         struct pagelog *log = pagelog_new(&options);
         if (!log) return 2;
+        is_in = is_in || pagelog_connect(log) == PAGELOG_DONE;
         for (unsigned i = 0; i < 12; i++, calls++)
             make_call(log, &options, &state);
         for (unsigned i = 0; i < 200; i++)

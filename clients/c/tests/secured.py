@@ -16,6 +16,7 @@ import tempfile
 import binding
 from check import LONG, run, same, true
 from database import EXTENSION, code_of, connect, one, uri, uri_of
+from generations import until
 from service import CLIENT, Proxy, Service, plain_environment, wire
 from stub_keeper import StubKeeper
 from tls_peers import Authority, Halting, Terminator
@@ -394,16 +395,29 @@ def connects(address, tls, **how):
         return found, log.words
 
 
+def descriptors():
+    return len(os.listdir("/proc/self/fd"))
+
+
 def test_a_handshake_that_breaks_off_at_each_byte():
-    with Service() as service, terminated(service) as front, Halting(front.address) as peer:
-        tls = binding.Tls(CA)
-        peer.left = 1 << 30
-        same("whole", binding.DONE, connects(peer.address, tls)[0])
-        length = peer.came
-        for left in range(0, length - 600, 1 if LONG else 9):
-            peer.left = left
-            found = connects(peer.address, binding.Tls(CA) if left % 2 else tls)[0]
-            true(f"{left} of {length} bytes: {found}", found in (binding.LOST, binding.DONE))
+    """On the way here and on the way there: it is said, or it was enough; nothing hangs, and no descriptor is left."""
+    with Service() as service, terminated(service, clients=CA) as front:
+        with Halting(front.address) as peer:
+            tls, before = binding.Tls(CA, **CLIENT_FILES), descriptors()
+            peer.left = 1 << 30
+            same("whole", binding.DONE, connects(peer.address, tls)[0])
+            here, there, step = peer.came, peer.went, 1 if LONG else 9
+            cases = [(left, 1 << 30) for left in range(0, here, step)]
+            cases += [(1 << 30, toward) for toward in range(0, there, step)]
+            for number, (peer.left, peer.toward) in enumerate(cases):
+                trust = tls if number % 2 else binding.Tls(CA, **CLIENT_FILES)
+                found, why = connects(peer.address, trust)
+                true(
+                    f"{peer.left} of {here} bytes here, {peer.toward} of {there} there: {found} {why}",
+                    found == binding.DONE or (found == binding.LOST and why.startswith("lost")),
+                )
+            until(lambda: descriptors() <= before, "the descriptors of before")
+        same("the front serves", "", outcome(front.address, sslrootcert=CA, **CLIENT_FILES))
 
 
 def test_a_handshake_that_stands_still():

@@ -398,7 +398,7 @@ class Away(unittest.TestCase):
                 read()
 
     def test_a_word_of_a_person_that_hangs_is_cut(self) -> None:
-        url, connected, line = new_url(), Referee._connected, Line(stalls=True)
+        url, connected, cut, line = new_url(), Referee._connected, Referee.cut, Line(stalls=True)
         self.addCleanup(line.close)
         file = Path(self.enterContext(tempfile.TemporaryDirectory())) / "keeper.toml"
         file.touch(mode=0o600)
@@ -409,6 +409,10 @@ class Away(unittest.TestCase):
             line.count_from_now(to=0)
             return made
 
+        def cuts_what_hangs(referee: Referee) -> None:
+            if line.left["to"] == 0:  # and nothing that is slow before
+                cut(referee)
+
         for word in (
             ("list",),
             ("where", "shop"),
@@ -417,9 +421,9 @@ class Away(unittest.TestCase):
             ("rollover", "shop"),
         ):
             line.count_from_now()
-            with patch.object(Referee, "_connected", stands_still), patch(
-                "pagelog.cli.keeper_words.LONGEST", 1.0
-            ):
+            with patch.object(Referee, "_connected", stands_still), patch.object(
+                Referee, "cut", cuts_what_hangs
+            ), patch("pagelog.cli.keeper_words.LONGEST", 0.1):
                 done = CliRunner().invoke(pagelogctl, [*word, "--credentials", str(file)])
             self.assertEqual(
                 (word, done.exit_code, done.output.partition(":")[2][:18]),

@@ -19,17 +19,28 @@ from pathlib import Path
 from unittest.mock import patch
 
 from keepers import eventually
+from pagelog.dialing import dial
 from pagelog.keeper import front as front_module
 from pagelog.keeper.certificate import CertificateError, Pair
 from pagelog.keeper.front import Front, Tls, end_fronts
 from pagelog.keeper.haproxy import FrontError
 from pagelog.keeper.unix import private_socket
 from pagelog.keeper.run import Facts, fronts_of, has_services, orphans_of
+from pagelog.secure import SecurityError, Trust
 from secured import Certificates
-from service import PATIENCE, Port
+from service import IS_LONG, PATIENCE, TOP, Port
 from test_mixed import old
 
+sys.path.insert(0, str(TOP / "scripts"))
+from tls_peers import Halting  # noqa: E402
+
+STEP = 1 if IS_LONG else 11
 SHOP, NOTES = "11111111-1111-4111-8111-111111111111", "22222222-2222-4222-8222-222222222222"
+
+
+def descriptors(pid: int) -> int:
+    """How many a process has open."""
+    return len(os.listdir(f"/proc/{pid}/fd"))
 
 
 class Echo:
@@ -214,6 +225,39 @@ class Leading(Fronts):
                     found = again.recv(100)
                     self.assertTrue(again.session_reused)
                     self.assertEqual(found, wanted)
+
+
+class Cut(Fronts):
+    def test_a_handshake_that_breaks_off_at_each_byte_leaves_nothing_behind(self) -> None:
+        """On the way here and on the way there, by a client with a certificate: it is said, or it was enough. Neither has a descriptor more."""
+        front, own = self.begun(replace(self.tls, clients=self.certificates.ca)), os.getpid()
+        front.serve("run1", self.echo("shop").address, SHOP)
+        assert front.process is not None
+        pid, file = front.process.facts.pid, self.certificates.client(SHOP)
+        trust = Trust(self.certificates.ca, file, file)
+        with Halting(str(front.place("run1"))) as peer:
+            host, _, port = peer.address.rpartition(":")
+
+            def said() -> str:
+                try:
+                    with dial(host, int(port), PATIENCE, trust) as line:
+                        return line.recv(100).decode() or "it ended"
+                except (SecurityError, ConnectionError) as error:
+                    return str(error)
+
+            before = descriptors(own), descriptors(pid)
+            peer.left = 1 << 30
+            self.assertEqual(said(), "shop")
+            cases = [(left, 1 << 30) for left in range(0, peer.came, STEP)]
+            cases += [(1 << 30, toward) for toward in range(0, peer.went, STEP)]
+            for peer.left, peer.toward in cases:
+                with self.subTest(here=peer.left, there=peer.toward):
+                    self.assertRegex(said(), "shop|it ended|TLS: |reset by peer|Broken pipe")
+            eventually(
+                lambda: descriptors(own) <= before[0] and descriptors(pid) <= before[1],
+                "the descriptors of before",
+            )
+        self.assertEqual(self.heard(front.place("run1"), file), b"shop")
 
 
 class Coming(Fronts):

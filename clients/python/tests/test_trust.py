@@ -8,18 +8,31 @@ import subprocess
 import sys
 import tempfile
 import threading
+import time
 import unittest
 from pathlib import Path
 from typing import Any, Callable, Iterator
-from contextlib import contextmanager, suppress
+from contextlib import closing, contextmanager, suppress
+from unittest.mock import patch
 
 import pagelog
+from keepers import eventually
 from pagelog import ConnectionLost, CredentialsError, NoKeeper, PagelogError, Trust, Unreachable
 from pagelog.keeper.table import token_of
 from pagelog.place import Keepers
 from pagelog.polling import poll_of
 from pagelog.secure import Secured, of_environment, trust_of
-from service import PATIENCE, SOURCE, TOP, WIDE_TABLE, Service, put, token
+from service import (
+    IS_LONG,
+    PATIENCE,
+    SOURCE,
+    TOP,
+    WIDE_TABLE,
+    Service,
+    accept_each,
+    put,
+    token,
+)
 
 sys.path.insert(0, str(TOP / "scripts"))
 from tls_peers import Authority, Halting, Terminator  # noqa: E402
@@ -31,6 +44,47 @@ GOOD = AUTHORITY.make("good")
 OWN = AUTHORITY.make("client", "", usage="clientAuth")
 OWN_FILES = {"sslcert": f"{OWN}.pem", "sslkey": f"{OWN}.key"}
 DATABASE = "11111111-2222-4333-8444-555555555555"
+STEP = 1 if IS_LONG else 23
+
+
+def descriptors() -> int:
+    """How many this process has open."""
+    return len(os.listdir("/proc/self/fd"))
+
+
+def secrets_of(id: int) -> list[bytes]:
+    """A principal's token and that of its run, as bytes and as text."""
+    raw = bytes.fromhex(token(id))
+    of_run = token_of(raw, "shop", "run")
+    return [raw, raw.hex().encode(), of_run, of_run.hex().encode()]
+
+
+class Ear:
+    """A service, or lines, without TLS: it hears what clients say first, and answers nothing."""
+
+    def __init__(self) -> None:
+        self.listener = socket.create_server(("127.0.0.1", 0))
+        self.address = f"127.0.0.1:{self.listener.getsockname()[1]}"
+        self.heard: list[bytes] = []
+        """Of each connection, all that came over it until the client gave up, or had said enough."""
+        accept_each(self.listener, self._hear)
+
+    def _hear(self, line: socket.socket) -> None:
+        with line, suppress(OSError):
+            self.heard.append(line.recv(1 << 16))
+
+    def close(self) -> None:
+        self.listener.close()
+
+
+class Clock:
+    """That of a module: late as soon as something has come."""
+
+    def __init__(self, has_come: Callable[[], object]) -> None:
+        self._has_come = has_come
+
+    def monotonic(self) -> float:
+        return time.monotonic() + (10 * PATIENCE if self._has_come() else 0.0)
 
 
 def said_by(call: Callable[[], object]) -> str:
@@ -198,17 +252,22 @@ class Refused(OfService):
 
 class Peers(OfService):
     def test_a_handshake_that_breaks_off_at_each_byte(self) -> None:
-        front = self.front()
+        """On the way here and on the way there: it is said, or it was enough; nothing hangs, and no descriptor is left."""
+        front = self.front(clients=CA)
         with Halting(front.address) as peer:
+            before, trust = descriptors(), Trust(CA, **OWN_FILES)
             peer.left = 1 << 30
-            trust = Trust(CA)
             self.assertEqual(self.asked(peer.address, trust), "")
-            for left in range(0, peer.came - 600, 23):
-                peer.left = left
-                self.assertIn(
-                    self.asked(peer.address, Trust(CA)).partition(":")[0],
-                    ("Unreachable", "ConnectionLost", ""),
-                )
+            cases = [(left, 1 << 30) for left in range(0, peer.came, STEP)]
+            cases += [(1 << 30, toward) for toward in range(0, peer.went, STEP)]
+            for number, (peer.left, peer.toward) in enumerate(cases):
+                own = trust if number % 2 else Trust(CA, **OWN_FILES)
+                kind, _, why = self.asked(peer.address, own).partition(": ")
+                with self.subTest(here=peer.left, there=peer.toward):
+                    self.assertIn(kind, ("Unreachable", "ConnectionLost", ""))
+                    self.assertEqual(bool(why), bool(kind))
+            eventually(lambda: descriptors() <= before, "the descriptors of before")
+        self.assertEqual(self.asked(front.address, Trust(CA, **OWN_FILES)), "")
 
     def test_a_handshake_that_stands_still(self) -> None:
         front = self.front()
@@ -298,6 +357,8 @@ class Lines(unittest.TestCase):
         self.plain = f"127.0.0.1:{self.listener.getsockname()[1]}"
         self.told: list[str] = ["", ""]
         """The addresses of the service and of the lines that it tells."""
+        self.others: dict[str, str] = {}
+        """What it answers to `standby` and `pages`."""
         self.padding = ""
         threading.Thread(target=self.serve, daemon=True).start()
 
@@ -330,6 +391,10 @@ class Lines(unittest.TestCase):
                 )
             case ["durable", _, generation, position, *_]:
                 return f"durable shop {generation} {position} {of}\n"
+            case [("standby" | "pages") as what, *_] if what in self.others:
+                return f"{what} shop {self.others[what]}\n"
+            case [("standby" | "pages" | "follow") as what, *_]:
+                return f"{what} shop - - - - - {of}\n" if what == "standby" else f"{what} shop\n"
         return ""  # of a ring
 
     @contextmanager
@@ -340,18 +405,34 @@ class Lines(unittest.TestCase):
             self.told = [of_service.address, of_lines.address]
             yield of_lines.address
 
-    def committed(self, lines: str, patience: float = PATIENCE, **files: str) -> str:
-        writer = pagelog.Primary.named(
+    def writer(self, lines: str, **files: str) -> pagelog.NamedPrimary:
+        return pagelog.Primary.named(
             "shop",
             keepers=[lines],
             principal=2,
             token=token(2),
             operator=(1, token(1)),
-            patience=patience,
-            timeout=min(patience, 5.0),
+            patience=PATIENCE,
+            timeout=PATIENCE,
             trust=Trust(CA, **files),
         )
-        with writer:
+
+    def reader(self, lines: str, **how: Any) -> pagelog.NamedReader:
+        return pagelog.Reader.named(
+            "shop",
+            keepers=[lines],
+            principal=3,
+            token=token(3),
+            patience=PATIENCE,
+            timeout=PATIENCE,
+            trust=Trust(CA),
+            **how,
+        )
+
+    def committed(self, lines: str, **files: str) -> str:
+        """What a durable commit says. Its patience is at its end once it knows that somebody is not who was asked for."""
+        writer = self.writer(lines, **files)
+        with writer, patch("pagelog.named.time", Clock(lambda: writer._insecure)):
             writer.append(put(0, b"hello"))
             return said_by(lambda: writer.commit(durable=True))
 
@@ -360,17 +441,17 @@ class Lines(unittest.TestCase):
         for how, self.padding in (({}, ""), ({"record": 1}, ""), ({}, " key=")):
             with self.fronts(**how) as lines:
                 self.assertEqual(self.committed(lines), "")
-                with pagelog.Reader.named(
-                    "shop", keepers=[lines], principal=3, token=token(3), trust=Trust(CA)
-                ) as reader:
+                with self.reader(lines) as reader:
                     self.assertEqual(reader.page(0).data[:5], b"hello")
 
     def test_no_answer_takes_it_away(self) -> None:
         wrong = AUTHORITY.make("other_host", "DNS:elsewhere.example")
         with self.fronts(wrong) as lines:
-            self.assertIn("IP address mismatch", self.committed(lines, patience=0.2))
+            self.assertRegex(
+                self.committed(lines), f"TimedOut: .*{self.told[0]}: TLS: IP address mismatch"
+            )
             self.told[0] = self.service.address
-            self.assertIn("TLS: ", self.committed(lines, patience=0.2))
+            self.assertRegex(self.committed(lines), f"TimedOut: .*{self.told[0]}: TLS: ")
         with self.fronts(lines=wrong) as lines:
             self.assertIn(
                 "NoKeeper: no keeper answers: " + lines + ": TLS: IP address mismatch",
@@ -384,6 +465,50 @@ class Lines(unittest.TestCase):
                 self.committed(lines),
             )
             self.assertEqual(self.committed(lines, **OWN_FILES), "")
+
+    def test_a_keeper_that_lies_is_followed_nowhere_in_plain(self) -> None:
+        """To a service or to lines that speak none, in place of either: they hear the beginning of a handshake alone. Who writes goes on
+        once its keeper says the truth."""
+        ear = self.enterContext(closing(Ear()))
+        with self.fronts() as lines:
+            truth = list(self.told)
+            for lie in ([ear.address, truth[1]], [truth[0], ear.address], [ear.address] * 2):
+                with self.subTest(lie), self.writer(lines) as writer:
+                    before, self.told, said = len(ear.heard), lie, list[str]()
+
+                    def commit() -> None:
+                        writer.append(put(0, b"hello"))
+                        said.append(said_by(lambda: writer.commit(durable=True)))
+
+                    thread = threading.Thread(target=commit)
+                    thread.start()
+                    eventually(lambda: len(ear.heard) > before, "who was led there")
+                    self.told = truth
+                    thread.join(PATIENCE)
+                    self.assertEqual(said, [""])
+        self._see_handshakes_alone(ear)
+
+    def test_who_reads_is_led_to_no_standby_and_no_page_server_in_plain(self) -> None:
+        ear = self.enterContext(closing(Ear()))
+        with self.fronts() as lines:
+            self.assertEqual(self.committed(lines), "")
+            standby = f"{ear.address} run 1 0 0 of={DATABASE}/run"
+            for lie in ({"standby": standby}, {"pages": f"{ear.address} {'0' * 16} 1 0"}):
+                with self.subTest(lie), self.reader(lines, durable_only=True) as reader:
+                    before, self.others, found = len(ear.heard), lie, list[bytes]()
+                    thread = threading.Thread(target=lambda: found.append(reader.page(0).data[:5]))
+                    thread.start()
+                    eventually(lambda: len(ear.heard) > before, "who was led there")
+                    self.others = {}
+                    thread.join(PATIENCE)
+                    self.assertEqual(found, [b"hello"])
+        self._see_handshakes_alone(ear)
+
+    def _see_handshakes_alone(self, ear: Ear) -> None:
+        secrets = [part for id in (1, 2, 3) for part in secrets_of(id)]
+        for heard in ear.heard:
+            self.assertEqual(heard[:3], b"\x16\3\1")
+            self.assertEqual([each for each in secrets if each in heard], [])
 
     def test_who_believes_another_asks_by_itself(self) -> None:
         """What the keepers of another trust say is no answer to who has one."""

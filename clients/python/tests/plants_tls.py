@@ -1,0 +1,19 @@
+"""Precautions of TLS: handshakes that break off, and keepers that lie."""
+
+from plant import Plant
+
+PLANTS = {
+    "TLS, or else plain": Plant("../dialing", "                made = trust.wrap(made, host, max(_LEAST, share - time.monotonic()))\n",
+                                "                try:\n                    made = trust.wrap(made, host, max(_LEAST, share - time.monotonic()))\n"
+                                "                except OSError:\n                    made = _connected(family, kind, protocol, address, timeout)\n",
+                                "trust", "is_followed_nowhere_in_plain"),
+    "TLS, of page servers": Plant("../page_copies", "self._credentials(place.run), self._trust)", "self._credentials(place.run), None)", "trust",
+                                  "no_page_server_in_plain"),
+    "TLS, a socket of a cut handshake": Plant("../secure", "            found.close()\n            raise _told(error) from error\n        return found\n",
+                                              "            found.detach()\n            raise _told(error) from error\n        return found\n",
+                                              "fronts", "breaks_off_at_each_byte"),
+    "TLS, a cut handshake, said": Plant("../secure", "            found.close()\n            raise _told(error) from error\n        return found\n",
+                                        "            found.close()\n            raise\n        return found\n", "fronts", "breaks_off_at_each_byte"),
+    "TLS in C, a socket of a cut handshake": Plant("c/pagelog_connection.c", "    close(fd);\n    pagelog_abandon(log); /* of",
+                                                   "    pagelog_abandon(log); /* of", "c/secured", "breaks_off_at_each_byte"),
+}  # fmt: skip
