@@ -298,9 +298,9 @@ def secured_keeper(service_certificate=GOOD, lines_certificate=GOOD, **how):
         yield keeper, lines, publish
 
 
-def named_at(lines, name="shop", **more):
+def named_at(lines, name="shop", id=2, **more):
     return sqlite3.connect(
-        uri_of(lines, name, 2, **{"timeout": 20000, "move": 20000, "sslrootcert": CA, **more}),
+        uri_of(lines, name, id, **{"timeout": 20000, "move": 20000, "sslrootcert": CA, **more}),
         uri=True,
         isolation_level=None,
         timeout=300.0,
@@ -367,6 +367,17 @@ def test_no_answer_takes_it_away():
             connection.execute("pragma synchronous = full")
             connection.execute("create table t(x)")
             same("told lines are asked by TLS alone", {b"\x16"}, set(told.first))
+    with secured_keeper() as (keeper, lines, _), Recorder() as told:
+        answer, page_server = keeper.answer, ("pages", "shop", told.address, "0" * 16, 1, 0)
+        keeper.answer = lambda words: page_server if words[0] == "pages" else answer(words)
+        with contextlib.closing(named_at(lines.address)) as writer:
+            writer.execute("create table t(x)")
+        keeper.more = ("pages=1",)
+        reads = {"id": 3, "mode": "ro", "page_servers": "prefer"}
+        with contextlib.closing(named_at(lines.address, **reads)) as reader:
+            same("it reads at its service", 0, one(reader, "select count(*) from t"))
+            until(lambda: told.first, "the page server is asked")
+        same("a page server is asked by TLS alone", {b"\x16"}, set(told.first))
     with secured_keeper(GOOD, wrong) as (_, lines, _):
         refused("lines of another host", "no keeper answers: TLS with", open_error(lines.address))
     with secured_keeper(clients=CA) as (_, lines, _):
@@ -424,15 +435,17 @@ def test_a_handshake_that_stands_still():
     """Time-outs hold in it, and say so. Peers that stand still are waited for side by side."""
     with Service() as service, terminated(service) as front:
 
-        def stand(left):
+        def stand(bytes_of):
             with Halting(front.address, stands=True) as peer:
-                peer.left = left
-                return left, *connects(peer.address, binding.Tls(CA), connect_ms=5000)
+                peer.left, peer.toward = bytes_of
+                return bytes_of, *connects(peer.address, binding.Tls(CA), connect_ms=5000)
 
-        with concurrent.futures.ThreadPoolExecutor() as threads:
-            for left, found, why in threads.map(stand, (0, 1, 5, 90, 200, 700)):
+        cases = [(left, 1 << 30) for left in (0, 1, 5, 90, 200, 700)]
+        cases += [(1 << 30, toward) for toward in (1, 5, 90, 200)]
+        with concurrent.futures.ThreadPoolExecutor(len(cases)) as threads:
+            for bytes_of, found, why in threads.map(stand, cases):
                 same(
-                    f"{left} bytes",
+                    f"{bytes_of} bytes",
                     (binding.LOST, True),
                     (found, "its handshake did not come in time" in why),
                 )

@@ -16,4 +16,5 @@ PLANTS = {
                                         "            found.close()\n            raise\n        return found\n", "fronts", "breaks_off_at_each_byte"),
     "TLS in C, a socket of a cut handshake": Plant("c/pagelog_connection.c", "    close(fd);\n    pagelog_abandon(log); /* of",
                                                    "    pagelog_abandon(log); /* of", "c/secured", "breaks_off_at_each_byte"),
+    "TLS in C, of page servers": Plant("c/pagelog_copies.c", "of_run, copies->reader.tls);", "of_run, NULL);", "c/secured", "no_answer_takes_it_away"),
 }  # fmt: skip

@@ -272,8 +272,8 @@ class Peers(OfService):
     def test_a_handshake_that_stands_still(self) -> None:
         front = self.front()
         with Halting(front.address, stands=True) as peer:
-            for left in (0, 1, 5, 200, 700):
-                peer.left = left
+            for left, toward in ((0, 9), (1, 999), (5, 999), (200, 999), (700, 999), (999, 90)):
+                peer.left, peer.toward = left, toward
                 self.assertIn("timed out", self.asked(peer.address, Trust(CA), timeout=0.1))
 
     def test_records_of_any_size(self) -> None:
