@@ -393,26 +393,22 @@ class Keeping:
         )
 
     def primary(self, name: str = "shop", id: int = 2, **options: Any) -> NamedPrimary:
-        options = {"patience": PATIENCE, "timeout": PATIENCE, **options}
-        return Primary.named(
-            name,
-            keepers=self.addresses,
-            principal=id,
-            token=token(id),
-            operator=(1, token(1)),
+        options = {
+            "keepers": self.addresses,
+            "patience": PATIENCE,
+            "timeout": PATIENCE,
             **options,
-        )
+        }
+        return Primary.named(name, principal=id, token=token(id), operator=(1, token(1)), **options)
 
     def reader(self, name: str = "shop", **options: Any) -> NamedReader:
-        return Reader.named(
-            name,
-            keepers=self.addresses,
-            principal=3,
-            token=token(3),
-            patience=PATIENCE,
-            timeout=PATIENCE,
+        options = {
+            "keepers": self.addresses,
+            "patience": PATIENCE,
+            "timeout": PATIENCE,
             **options,
-        )
+        }
+        return Reader.named(name, principal=3, token=token(3), **options)
 
     def archive(self, name: str = "shop") -> list[bytes]:
         """All archived blocks; the digest of them has been compared."""
