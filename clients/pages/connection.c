@@ -80,8 +80,15 @@ static void wait_for(struct connection *connection, const struct room *room, uin
     connection->wanted = wanted;
 }
 
-/* Answers the whole frames that there are, up to some 256 KiB of replies. RESTS: no whole frame is left, or
- * the next one waits. */
+bool room_look(struct room *room) {
+    room->looks++;
+    room->table = *room->newest;
+    return room->table != NULL;
+}
+
+/* Answers the whole frames that there are, up to some 256 KiB of replies, each by the table that decides
+ * then. RESTS: no whole frame is left, or the next one waits. Where nobody is answered any more nor is what
+ * was not sent yet. */
 static enum step answer_frames(struct connection *connection, struct room *room, uint8_t **end) {
     size_t at = 0, body;
     bool is_too_long = false;
@@ -91,6 +98,10 @@ static enum step answer_frames(struct connection *connection, struct room *room,
         if (!first_frame(frame, connection->in_length - at, &body, &is_too_long)) {
             step = RESTS;
             break;
+        }
+        if (!room_look(room)) {
+            *end = room->out;
+            return IS_OVER;
         }
         uint64_t wanted;
         enum answered answered = answer_body(room->table, room->store, room->view, frame + FRAME_HEAD, body,

@@ -5,6 +5,8 @@
 #include "answer.h"
 #include "shown.h"
 
+#include <stdatomic.h>
+
 enum {
     MOST_FRAME = FRAME_HEAD + MOST_REQUEST,
     REPLIES_AT_ONCE = 256 << 10,
@@ -29,6 +31,8 @@ struct connection {
 
 /* What a thread uses for all its connections. */
 struct room {
+    struct table *_Atomic *newest; /* the table that decides; NULL is in it where nobody is answered */
+    _Atomic unsigned looks;        /* rises before each look at that: what was under way before is over */
     const struct table *table;
     struct store *store;
     struct store_view *view;
@@ -38,6 +42,9 @@ struct room {
     uint8_t *out;   /* of OUT_ROOM */
     uint8_t *spare; /* of MOST_FRAME, for the next connection that reads; NULL: none is left */
 };
+
+/* Looks which table decides now. False: nobody is answered. */
+bool room_look(struct room *room);
 
 /* Writes, answers and reads as far as that goes without waiting. False: the connection is over. */
 bool connection_turn(struct connection *connection, struct room *room);

@@ -15,7 +15,7 @@
 #include <time.h>
 #include <unistd.h>
 
-enum { EVENTS = 64, OLD_TABLES = 16 };
+enum { EVENTS = 64, OLD_TABLES = 16, LOOK_WAIT_US = 100 };
 
 struct worker {
     struct server *server;
@@ -26,6 +26,7 @@ struct worker {
     struct connection *next;       /* of a walk: what is closed is no member any more */
     unsigned era;
     _Atomic unsigned waiting;
+    atomic_bool is_busy; /* it may read a table */
 };
 
 struct server {
@@ -156,7 +157,7 @@ static bool look_around(struct worker *worker) {
     bool is_another = era != worker->era;
     if (is_another) end_all(worker);
     worker->era = era;
-    worker->room.table = worker->server->table;
+    room_look(&worker->room);
     worker->room.now = now_ms();
     return is_another;
 }
@@ -185,11 +186,13 @@ static void *work(void *given) {
     while (!worker->server->ends) {
         int64_t left = deadline < 0 ? -1 : deadline - now_ms();
         int count = epoll_wait(worker->poll, events, EVENTS, deadline < 0 ? -1 : left < 0 ? 0 : (int)left);
+        worker->is_busy = true;
         if (look_around(worker)) count = 0; /* those that are left come again */
         for (int n = 0; n < count; n++)
             hear(worker, &events[n]);
         if (worker->waiting) turn_waiting(worker);
         deadline = worker->waiting ? first_deadline(worker) : -1;
+        worker->is_busy = false;
     }
     end_all(worker);
     return NULL;
@@ -215,6 +218,7 @@ static bool start_worker(struct server *server, struct worker *worker) {
     worker->connections.before = worker->connections.after = &worker->connections;
     worker->room = (struct room){.store = server->settings.store, .wait_ms = server->settings.wait_ms};
     worker->room.shown = server->settings.shown;
+    worker->room.newest = &server->table;
     worker->room.view = store_view_new(server->settings.store);
     worker->room.out = malloc(OUT_ROOM);
     struct epoll_event bell = {.events = EPOLLIN, .data.ptr = worker};
@@ -241,7 +245,15 @@ struct server *server_start(const struct server_settings *settings) {
     return NULL;
 }
 
-/* A table is read within one turn; by the time that so many others have come, that is over. */
+/* Waits until no request is under way there that the table before decides. */
+static void wait_for_look(struct worker *worker) {
+    unsigned looks = worker->room.looks;
+    while (worker->is_busy && worker->room.looks == looks)
+        usleep(LOOK_WAIT_US);
+}
+
+/* Of what was set before nothing is read any more; by the time that so many others have come, nor by a thread
+ * that has just looked. */
 void server_set_table(struct server *server, struct table *table) {
     struct table *before = atomic_exchange(&server->table, table);
     free(server->old[server->olds]);
@@ -249,6 +261,8 @@ void server_set_table(struct server *server, struct table *table) {
     server->olds = (server->olds + 1) % OLD_TABLES;
     if (!table) server->era++;
     server_tell(server);
+    for (unsigned n = 0; n < server->workers; n++)
+        wait_for_look(&server->worker[n]);
 }
 
 void server_tell(struct server *server) {

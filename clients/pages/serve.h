@@ -21,8 +21,8 @@ struct server;
 /* NULL: no memory, or no thread. Nobody is answered before `server_set_table`. */
 struct server *server_start(const struct server_settings *settings);
 
-/* From now on this table decides, which is the server's then; of a request under way it may be the one
- * before. NULL: nobody is answered, and all connections end. */
+/* This table decides, which is the server's then: once this returns no request is answered by the one before.
+ * NULL: nobody is answered, and all connections end. */
 void server_set_table(struct server *server, struct table *table);
 
 /* To be called once more is confirmed. */

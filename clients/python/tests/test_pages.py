@@ -15,10 +15,10 @@ import tempfile
 import threading
 import time
 import unittest
-from contextlib import closing
+from contextlib import closing, suppress
 from itertools import accumulate
 from pathlib import Path
-from typing import Any
+from typing import Any, Iterator
 from unittest.mock import patch
 
 import pages_program
@@ -306,6 +306,10 @@ class Pages(Paged):
                     self.assertEqual(*replies, f"{n}: {body.hex()}")
 
     @staticmethod
+    def denied(section: int, row: int, value: int) -> bytes:
+        return struct.pack(">IBBHQ", 12, 5, section, row, value)
+
+    @staticmethod
     def split(address: str) -> tuple[str, int]:
         host, _, port = address.rpartition(":")
         return host, int(port)
@@ -372,6 +376,53 @@ class Pages(Paged):
         with closing(socket.create_connection(self.split(pages.address))):
             pages.close_doors()
             eventually(lambda: pages.ask().connections == 0, "the end of all connections")
+
+    def test_once_a_table_is_set_or_doors_are_closed_nothing_else_is_under_way(self) -> None:
+        base = Block.of(1, [Put(0, n, b"x") for n in range(2000)])
+        blocks = [base.at(lsn).data for lsn in range(1, 2001)]
+        pages = self.start("--workers", "1")
+        pages.add(blocks, digest(b"", blocks))
+        # Of a partition that no block touches: all blocks are looked through.
+        body = struct.pack(">I16sBIIB", 3, bytes.fromhex(token(3)), 2, 0, 1, 5)
+        body += struct.pack(">HHQH", 65535, 65535, 1, 16)
+        frame, denied = len(body).to_bytes(4, "big") + body, self.denied(1, 1, 0)
+        with closing(socket.create_connection(self.split(pages.address), PATIENCE)) as line:
+            self.looks(pages, line, frame * 20)
+            pages.set_table(TABLE.read_text().replace(token(3), "ab" * 16))
+            line.shutdown(socket.SHUT_WR)
+            found = self.until_end(line)
+        self.assertTrue(found.endswith(denied), found)
+        self.assertEqual(
+            found.count(denied) * len(denied) + found.count(b"\0\0\0\x0b\1") * 15, len(found)
+        )
+        for count in (1, 20):  # the last one, and one of many whose replies are sent together
+            pages.set_table(TABLE.read_text())
+            with closing(socket.create_connection(self.split(pages.address), PATIENCE)) as line:
+                self.looks(pages, line, frame * count)
+                pages.close_doors()
+                closed = self.ticks(pages)
+                found = self.until_end(line)
+                self.assertLessEqual(self.ticks(pages) - closed, 2, "it looks on")
+                self.assertLessEqual(len(found), 15 if count == 1 else 0, found)
+
+    def looks(self, pages: PagesProcess, line: socket.socket, frames: bytes) -> None:
+        before = self.ticks(pages)
+        line.sendall(frames)
+        eventually(lambda: self.ticks(pages) > before + 1, "that it looks")
+
+    @staticmethod
+    def until_end(line: socket.socket) -> bytes:
+        found = b""
+        with suppress(ConnectionResetError):  # not all of it was read there
+            while more := line.recv(65536):
+                found += more
+        return found
+
+    @staticmethod
+    def ticks(pages: PagesProcess) -> int:
+        """Of a processor, that it has taken."""
+        text = Path(f"/proc/{pages.pid}/stat").read_text().rpartition(")")[2].split()
+        return int(text[11]) + int(text[12])
 
     def test_one_that_reads_nothing_and_one_that_is_stopped_hold_up_nobody(self) -> None:
         log = Log(40, 9)

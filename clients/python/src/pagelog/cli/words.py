@@ -26,6 +26,7 @@ WORDS = {
     "keep": "keeper_words",
     "runner": "runner_words",
     "pages": "pages_words",
+    "reads": "reads_words",
     "create": "keeper_words",
     "table": "table_words",
     "token": "token_words",

@@ -224,6 +224,11 @@ _PAGES_SECURE = (
     "ALTER TABLE pagelog_pages ADD COLUMN IF NOT EXISTS secure text",
 )
 
+_AUDITED = (
+    # audited: since when page servers of the database answer nobody, as what they answer is in no audit list; NULL: they may.
+    "ALTER TABLE pagelog_log ADD COLUMN IF NOT EXISTS audited timestamptz",
+)
+
 STEPS = (
     _FIRST,
     _LIVES,
@@ -240,6 +245,7 @@ STEPS = (
     _PAGES_SECURE,
     _INSTEAD,
     _LEGAL_HOLDS,
+    _AUDITED,
 )
 """What brings the tables from each version to the next one. Tables of version 1 have no number: they are older than it."""
 VERSION = len(STEPS)

@@ -17,7 +17,7 @@ WITH me AS (
   ON CONFLICT (run) DO UPDATE SET address = excluded.address, secure = excluded.secure, position = excluded.position, persisted = excluded.persisted,
     oldest = excluded.oldest, table_number = excluded.table_number, aside = excluded.aside, beat = pagelog_pages.beat + 1,
     seen = now() RETURNING log)
-SELECT l.id, l.archived, l.chain, l.table_number, k.lines, k.secure, k.run
+SELECT l.id, l.archived, l.chain, l.table_number, l.audited IS NOT NULL, k.lines, k.secure, k.run
 FROM pagelog_log l JOIN me ON l.id = me.log LEFT JOIN pagelog_keeper k ON k.name = l.holder
 """
 _NEWS = "SELECT archived, table_number FROM pagelog_log WHERE id = %s AND identity = %s::uuid"
@@ -48,6 +48,7 @@ class Entry:
     identity: str
     machine: str
     address: str
+    """Nothing: it answers nobody."""
     secure: str | None
     """The way to it by TLS, as `ways` reads it."""
     position: int
@@ -60,12 +61,14 @@ class Entry:
 
 @dataclass(frozen=True)
 class Archived:
-    """Of a database: the archived position, the digest of all blocks up to it, and the number of its newest table; and who holds it."""
+    """Of a database: the archived position, the digest of all blocks up to it, the number of its newest table, and whether all reads are to be
+    audited; and who holds it."""
 
     log: int
     position: int
     chain: bytes = field(repr=False)
     table_number: int
+    is_audited: bool
     lines: str | None
     """Where the lines of the keeper that holds it are, for who comes by TLS or without; None where there are none."""
 
@@ -81,12 +84,13 @@ def look(referee: Referee, entry: Entry, *, is_secure: bool = False) -> Archived
     found: list[Any] = referee._ask_bounded(_LOOK, vars(entry), binary=False)
     if not found:
         return None
-    log, position, chain, table_number, lines, secure, run = found[0]
+    log, position, chain, table_number, is_audited, lines, secure, run = found[0]
     return Archived(
         log,
         position,
         bytes(chain),
         table_number,
+        is_audited,
         None if lines is None else address_for(lines, way_of(secure, run), is_secure=is_secure),
     )
 

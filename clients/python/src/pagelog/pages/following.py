@@ -110,6 +110,10 @@ class Follower:
         self._archived: Archived | None = None
         self._table_number = self._said_table = 0
         """The number of its table, and the one that its row has."""
+        self._answers = self._is_told = False
+        """Whether its process answers by that table, and whether its row says that it may, by a look that is committed."""
+        self._is_audited = self._is_closed = False
+        """Whether all reads of the database are to be audited, as the last look has it, and whether its process answers nobody since."""
         self._looks = 0
         """How often it has said where it is."""
         self._chain: bytes | None = None
@@ -180,9 +184,10 @@ class Follower:
         self._catch_up()
         assert self._process is not None
         self._has_begun = True
-        self._say(
-            f"pages at {self.address}, positions {self._process.where.oldest} to {self._process.where.confirmed}"
-        )
+        if not self._is_closed:
+            self._say(
+                f"pages at {self.address}, positions {self._process.where.oldest} to {self._process.where.confirmed}"
+            )
 
     def _open(self) -> None:
         self._stop()
@@ -195,6 +200,7 @@ class Follower:
             self._set_aside(left, "it was cut off while it was quarantined, or its entry was lost")
         self._asides = reported(self._settings.folder, self.identity)
         self._table_number, self._chain = 0, None
+        self._answers = self._is_told = False
         self._process = self._settings.start(
             self._store.folder(self._settings.folder), self.identity
         )
@@ -293,7 +299,7 @@ class Follower:
             elif not self._bell.hears:
                 is_news = news(self._referee, self._archived.log, self.identity) != (
                     self._process.where.confirmed,
-                    self._table_number,
+                    self._archived.table_number if self._is_closed else self._table_number,
                 )
             if is_news or time.monotonic() - self._looked >= _LOOK:
                 self._look()
@@ -308,7 +314,7 @@ class Follower:
                 self._flushed = time.monotonic()
             self._wake.wait(
                 _LOOK
-                if self._bell.hears and self._table_number == self._said_table
+                if self._bell.hears and (self._is_closed or self._table_number == self._said_table)
                 else waits.next()
             )
             self._wake.clear()
@@ -357,7 +363,7 @@ class Follower:
             self._store.run,
             self.identity,
             self._settings.machine,
-            self._process.address,
+            "" if self._is_closed else self._process.address,
             secure,
             where.confirmed,
             where.persisted,
@@ -368,12 +374,39 @@ class Follower:
         found = look(self._referee, entry, is_secure=self._settings.trust is not None)
         self._looked, self._said_table = time.monotonic(), self._table_number
         self._looks += 1
+        self._is_told = not self._is_closed
         if found is None:
             self._process.close_doors()
             raise Gone(
                 f"PostgreSQL has no database {self.name} of this identity any more: {self._store.folder(self._settings.folder)} stays as it is"
             )
+        self._is_audited = found.is_audited
+        if self._is_audited and not self._is_closed:
+            self._close()
+            return self._enter()  # who has asked for it waits for this row
         return found
+
+    def _close(self) -> None:
+        """Once this returns nobody is answered any more."""
+        assert self._process is not None
+        self._process.close_doors()
+        self._is_closed, self._answers = True, False
+        self._say("reads are audited: it follows, and answers nobody")
+
+    def _may_answer(self) -> bool:
+        """Asks whether it may once its row says that it does: who has all reads audited from then on sees that row, or is seen here."""
+        if not self._is_told:
+            self._is_closed = False
+            self._enter()
+        if not self._is_audited:
+            self._enter()
+        return not self._is_audited
+
+    def _wants_table(self, found: Archived) -> bool:
+        """Whether the newest table is to be put in force."""
+        if self._answers:
+            return self._table_number != found.table_number
+        return self._may_answer()
 
     def _set_table(self, found: Archived) -> None:
         assert self._process is not None and self._store is not None
@@ -382,6 +415,9 @@ class Follower:
             table_of_pages(table.text, table.secret, self.name, self._store.run)
         )
         self._table_number, self._looked = table.number, float("-inf")  # which it says at once
+        if self._has_begun and not self._answers:
+            self._say(f"pages at {self.address} again")
+        self._answers = True
 
     def _catch_up(self) -> None:
         """Takes all blocks up to the archived position, which their digest confirms."""
@@ -409,7 +445,7 @@ class Follower:
         self._process.add(last, found.chain or None)
         self._was_confirmed, self._chain = True, found.chain
         self._bell.lead(found.lines, found.position)
-        if self._table_number != found.table_number:
+        if not self._is_audited and self._wants_table(found):
             self._set_table(found)
         if time.monotonic() - self._pruned >= _PRUNED:
             self._forget(found.log)
