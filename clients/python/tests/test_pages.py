@@ -16,7 +16,7 @@ import threading
 import time
 import unittest
 from contextlib import closing, suppress
-from itertools import accumulate
+from itertools import accumulate, product
 from pathlib import Path
 from typing import Any, Iterator
 from unittest.mock import patch
@@ -305,9 +305,87 @@ class Pages(Paged):
                     replies = [self.asked(each, body) for each in (one, two)]
                     self.assertEqual(*replies, f"{n}: {body.hex()}")
 
+    def test_each_kind_of_row_decides_as_at_the_service(self) -> None:
+        """Of each kind one that allows, before one that denies all, and the other way round: each reply says which row it was."""
+        log, kinds = Log(30, 17), [*product(("allow", "deny"), *[(False, True)] * 5)]
+        pages, met = self.start("--wait", "1"), set[tuple[int, int]]()
+        self.feed(pages, log, 30)
+        for first in range(0, len(kinds), 16):
+            met |= self.met_rows(log, pages, dict(enumerate(kinds[first : first + 16])), first)
+        # Behind one that has no condition no other is met.
+        alone = {(n, 3) for n, kind in enumerate(kinds) if not any(kind[1:])}
+        self.assertEqual(met, {*product(range(len(kinds)), (2, 3))} - alone)
+        self.assertEqual(len(met), 126)
+
+    def met_rows(
+        self, log: Log, pages: PagesProcess, kinds: dict[int, tuple[Any, ...]], first: int
+    ) -> set[tuple[int, int]]:
+        """Asks both, the service in a database for each kind, and returns the rows that the page server was seen to decide by."""
+        met = set[tuple[int, int]]()
+        with Service(table=WIDE_TABLE, dbs=len(kinds)) as served, closing(
+            socket.create_connection(self.split(served.address))
+        ) as one, closing(socket.create_connection(self.split(pages.address))) as two:
+            for db, kind in kinds.items():
+                with closing(served.primary(db=db)) as primary:
+                    list(primary.harden(log.made))
+                with closing(served.operator(db=db)) as operator:
+                    operator.set_table(self.table_of(*kind))
+                pages.set_table(self.table_of(*kind))
+                for who, secret, role, epoch, op, act in self.requests():
+                    head = struct.pack(">I16sBIIB", who, secret, role, db, epoch, op)
+                    wanted, found = (self.asked(line, head + act) for line in (one, two))
+                    self.assertEqual(found, wanted, f"{kind}: {(head + act).hex()}")
+                    if found[4] in (1, 2, 4) or found[4:6] == b"\5\3":  # allowed, if not by the log
+                        met.add((first + db, 2 if kind[0] == "allow" else 3))
+                    elif found[5] == 2:
+                        met.add((first + db, int.from_bytes(found[6:8], "big")))
+                for who, role, op in product((3, 5), Role, (1, 2, 3, 6, 8, 9, 10, 11)):
+                    head = struct.pack(">I16sBIIB", who, bytes.fromhex(token(who)), role, db, 1, op)
+                    row = 4 if role is Role.PRIMARY else 5  # there is no primary, and nothing else
+                    self.assertEqual(self.asked(two, head), self.denied(1, row, 0))
+        return met
+
+    @staticmethod
+    def table_of(verdict: str, *has: bool) -> str:
+        conditions = (
+            "who = 3",
+            'role = "secondary"',
+            'op = ["get", "pull"]',
+            "from = 7\nto = 7",
+            "through = 12",
+        )
+        wanted = "\n".join(condition for condition, is_there in zip(conditions, has) if is_there)
+        other = "deny" if verdict == "allow" else "allow"
+        rows = f'[[row]]\nverdict = "{verdict}"\n{wanted}\n[[row]]\nverdict = "{other}"\n'
+        operators = '\n[[row]]\nverdict = "allow"\nwho = 1\n'  # who may set the next one
+        return TABLE.read_text().partition("[[row]]")[0] + operators + rows
+
     @staticmethod
     def denied(section: int, row: int, value: int) -> bytes:
         return struct.pack(">IBBHQ", 12, 5, section, row, value)
+
+    @staticmethod
+    def requests() -> Iterator[tuple[int, bytes, Role, int, int, bytes]]:
+        """Of each role each operation that page servers have, inside and outside of what a row may name, exact: who, with which token, in
+        which role and epoch, the operation, and what is behind it."""
+        acts = [(7, b"")]
+        for position in (0, 1, 12, 13, 30, 31):
+            acts += [(4, struct.pack(">IQB", page * 65536, position, 1)) for page in (0, 7)]
+            acts += [
+                (5, struct.pack(">HHQH", *partitions, position, 16))
+                for partitions in ((0, 0), (7, 7), (6, 7))
+            ]
+        for role, (op, act) in product(Role, acts):
+            for who in (3, 5):
+                yield who, bytes.fromhex(token(who)), role, 1, op, act
+            if op == 7:
+                for who, secret, epoch in (
+                    (3, token(5), 1),
+                    (9, token(9), 1),
+                    (3, token(3), 0),
+                    (3, token(3), 2),
+                ):
+                    yield who, bytes.fromhex(secret), role, epoch, op, act
 
     @staticmethod
     def split(address: str) -> tuple[str, int]:
