@@ -238,7 +238,7 @@ inline tell_durable(b) {
 
 // pagelog_move.c: give_up_transaction
                     // pagelog_cache_clear(file->cache);
-                    // file->named.is_gone = true;
+                    // if (file->reading != OVER) pagelog_have(file, GONE);
                     // file->named.given_up++;
 // pagelog_move.c: lose_to
                     // ..
@@ -255,7 +255,7 @@ inline tell_durable(b) {
                     // ..
                     // named->own = position - 1;
                     // ..
-                    // file->is_over = true;
+                    // pagelog_have(file, OVER);
                     // ..
 inline lose_from(p, told_as) {
     is_over = is_over || p <= own;
@@ -416,7 +416,7 @@ inline find_transaction() {
                     // if (outcome == PAGELOG_DONE && pagelog_end(file->log) != status->hard) outcome = PAGELOG_LOST;
                     // if (outcome == PAGELOG_DONE) outcome = send_rest(file);
                     // if (outcome != PAGELOG_DONE) return outcome;
-                    // file->is_fenced = false;
+                    // if (!is_writer(file)) pagelog_stand(file, WRITING);
                     // return PAGELOG_DONE;
 #ifdef SENDS_AGAIN_ANYWHERE
 #define MAY_TAKE_OVER (alive[gen] && !closed[gen])
@@ -635,7 +635,7 @@ inline follow() {
                     // ..
                     // if (outcome == PAGELOG_DONE) outcome = pagelog_take_pulled(file, &pulled);
                     // if (outcome != PAGELOG_DONE || file->mark.lsn != pagelog_end(file->log)) return false;
-                    // file->is_fenced = file->named.is_doubted = false;
+                    // pagelog_stand(file, WRITING);
                     // ..
 #ifdef TAKES_OVER_UNREAD
 #define READS_AT_THE_HAND_OVER skip

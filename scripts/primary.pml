@@ -744,7 +744,7 @@ inline open_writer() {
                     // pagelog_take_over(
                     // file->log, options->operator_principal, options->operator_token, pagelog_writing_epoch(file->log));
                     // if (outcome == PAGELOG_DONE) outcome = recover(file);
-                    // if (outcome == PAGELOG_DONE) file->is_broken = false;
+                    // if (outcome == PAGELOG_DONE && file->standing == BROKEN) pagelog_stand(file, WRITING);
                     // ..
 inline renew() {
     if
@@ -769,7 +769,8 @@ inline renew() {
                     // enum pagelog_outcome outcome = pagelog_status(file->log, PAGELOG_PRIMARY, &status);
                     // if (outcome != PAGELOG_DONE || status.hard == file->mark.lsn) return outcome;
                     // outcome = recover(file);
-                    // file->is_broken = pagelog_is_stuck(file->log);
+                    // bool is_ended = !pagelog_is_stuck(file->log);
+                    // if (!is_ended && is_writer(file)) pagelog_stand(file, BROKEN);
                     // ..
 inline check_epoch() {
     decide(_pid, mine);
@@ -853,7 +854,8 @@ inline settle_by_blocks() {
                     // if (outcome == PAGELOG_DONE) outcome = settle_by_blocks(file, mark, &refused);
                     // if (outcome == PAGELOG_IN_DOUBT) return outcome;
                     // if (outcome == PAGELOG_DONE || outcome == PAGELOG_CONFLICT) file->doubted = 0;
-                    // if (outcome == PAGELOG_DONE && !is_fenced) file->is_broken = pagelog_end(file->log) != mark->lsn;
+                    // bool has_gone_on = outcome == PAGELOG_DONE && !is_fenced && pagelog_end(file->log) != mark->lsn;
+                    // if (has_gone_on && is_writer(file)) pagelog_stand(file, BROKEN);
                     // if (outcome == PAGELOG_DONE) return PAGELOG_DONE;
                     // if (outcome != PAGELOG_CONFLICT) return pagelog_restore(file->log, PAGELOG_IN_DOUBT, &refused);
                     // if (is_fenced) return PAGELOG_FENCED;
@@ -899,7 +901,7 @@ inline settle_doubt() {
                     // if (is_named(file)) pagelog_become_follower(file);
                     // else if (outcome == PAGELOG_FENCED && !pagelog_is_restarted(file->log))
                     // pagelog_become_follower(file);
-                    // else if (!is_untouched || outcome == PAGELOG_IN_DOUBT) file->is_broken = true;
+                    // else if (is_writer(file) && (!is_untouched || outcome == PAGELOG_IN_DOUBT)) pagelog_stand(file, BROKEN);
 inline note_failure() {
     if
     :: outcome == FENCED -> is_fenced = true
@@ -916,8 +918,9 @@ inline note_failure() {
                     // ..
                     // file->on_their_way = 0;
                     // ..
-                    // if (is_named(file) || file->is_fenced || (outcome == PAGELOG_FENCED && !pagelog_is_restarted(file->log)))
-                    // pagelog_become_follower(file); else file->is_broken = true;
+                    // bool is_fenced = outcome == PAGELOG_FENCED && !pagelog_is_restarted(file->log);
+                    // if (is_named(file) || !is_writer(file) || is_fenced)
+                    // pagelog_become_follower(file); else pagelog_stand(file, BROKEN);
                     // ..
 inline lose() {
 #ifndef KEEPS_REPLIES
@@ -943,7 +946,7 @@ inline lose() {
                     // ..
                     // enum pagelog_outcome outcome = pagelog_append_ended(file);
                     // if (outcome == PAGELOG_IN_DOUBT) outcome = settle_doubt(file, &file->mark);
-                    // if (outcome != PAGELOG_DONE) return file->is_over ? outcome : lose(file, outcome);
+                    // if (outcome != PAGELOG_DONE) return file->reading == OVER ? outcome : lose(file, outcome);
                     // ..
 inline tell() {
     if
@@ -1001,7 +1004,7 @@ inline repair() {
                     // ..
                     // if (!is_writer(file))
                     // ..
-                    // if (file->is_broken)
+                    // if (file->standing == BROKEN)
                     // ..
                     // if (pagelog_has_gone_on(file))
                     // ..

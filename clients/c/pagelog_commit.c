@@ -217,7 +217,8 @@ static enum pagelog_outcome settle_doubt(struct pagelog_file *file, const struct
     if (outcome == PAGELOG_IN_DOUBT) return outcome;
     if (outcome == PAGELOG_DONE || outcome == PAGELOG_CONFLICT) file->doubted = 0;
     /* Where a failover's reply was lost, another writer may have gone on from there before this epoch. */
-    if (outcome == PAGELOG_DONE && !is_fenced) file->is_broken = pagelog_end(file->log) != mark->lsn;
+    bool has_gone_on = outcome == PAGELOG_DONE && !is_fenced && pagelog_end(file->log) != mark->lsn;
+    if (has_gone_on && is_writer(file)) pagelog_stand(file, BROKEN);
     if (outcome == PAGELOG_DONE) return PAGELOG_DONE;
     if (outcome != PAGELOG_CONFLICT) return pagelog_restore(file->log, PAGELOG_IN_DOUBT, &refused);
     if (is_fenced) return PAGELOG_FENCED;
@@ -232,8 +233,8 @@ static void note_failure(struct pagelog_file *file, enum pagelog_outcome outcome
         pagelog_become_follower(file);
     else if (outcome == PAGELOG_FENCED && !pagelog_is_restarted(file->log))
         pagelog_become_follower(file);
-    else if (!is_untouched || outcome == PAGELOG_IN_DOUBT)
-        file->is_broken = true;
+    else if (is_writer(file) && (!is_untouched || outcome == PAGELOG_IN_DOUBT))
+        pagelog_stand(file, BROKEN);
 }
 
 /* Commits that nobody waited for are not in the log, or may not be: the file is what it was before them. */
@@ -243,24 +244,24 @@ static enum pagelog_outcome lose(struct pagelog_file *file, enum pagelog_outcome
     file->mark = file->settled;
     file->size = file->least = file->mark.size;
     file->on_their_way = 0;
-    file->is_over = true;
-    file->named.is_gone = is_named(file);
+    pagelog_have(file, OVER);
     file->losses++;
-    if (is_named(file) || file->is_fenced || (outcome == PAGELOG_FENCED && !pagelog_is_restarted(file->log)))
+    bool is_fenced = outcome == PAGELOG_FENCED && !pagelog_is_restarted(file->log);
+    if (is_named(file) || !is_writer(file) || is_fenced)
         pagelog_become_follower(file);
     else
-        file->is_broken = true;
+        pagelog_stand(file, BROKEN);
     return pagelog_file_fail(file, outcome,
                              "the last commits, which nobody waited for, may not be in the log");
 }
 
 enum pagelog_outcome pagelog_file_settle(struct pagelog_file *file) {
-    if (file->is_over) return pagelog_refuse_until_begin(file);
+    if (file->reading == OVER) return pagelog_refuse_to_go_on(file);
     if (file->on_their_way == 0) return PAGELOG_DONE;
     file->reason = NULL;
     enum pagelog_outcome outcome = pagelog_append_ended(file);
     if (outcome == PAGELOG_IN_DOUBT) outcome = settle_doubt(file, &file->mark);
-    if (outcome != PAGELOG_DONE) return file->is_over ? outcome : lose(file, outcome);
+    if (outcome != PAGELOG_DONE) return file->reading == OVER ? outcome : lose(file, outcome);
     file->on_their_way = 0;
     return PAGELOG_DONE;
 }
@@ -311,7 +312,7 @@ static enum pagelog_outcome commit_if_allowed(struct commit *commit) {
     if (outcome != PAGELOG_DONE) return outcome;
     if (!is_writer(file))
         return pagelog_file_fail(file, PAGELOG_FENCED, "this file is not written to: it follows");
-    if (file->is_broken)
+    if (file->standing == BROKEN)
         return pagelog_file_fail(file, PAGELOG_CONFLICT, "a commit did not come to its end: begin again");
     if (pagelog_has_gone_on(file)) /* the last begin could not read it */
         return pagelog_file_fail(file, PAGELOG_CONFLICT,
@@ -332,9 +333,8 @@ static enum pagelog_outcome settle_if_answered(struct pagelog_file *file) {
 
 enum pagelog_outcome pagelog_file_commit(struct pagelog_file *file) {
     struct commit commit = {.file = file};
-    enum pagelog_outcome outcome;
-    if (file->is_over) return pagelog_refuse_until_begin(file);
-    if (file->named.is_gone) return pagelog_refuse_gone(file);
+    enum pagelog_outcome outcome = pagelog_refuse_to_go_on(file);
+    if (outcome != PAGELOG_DONE) return outcome;
     file->reason = NULL;
     bool is_resized = file->size != file->mark.size || file->least != file->size;
     if (!is_resized && !pagelog_cache_is_changed(file->cache)) return PAGELOG_DONE;

@@ -1,5 +1,5 @@
-/* Numbers in bytes, the high one first, a clock, and the waits between tries: what both the wire and the file
- * need, and no caller sees. */
+/* Numbers in bytes, the high one first, a clock, the waits between tries, and asserts: what both the wire and
+ * the file need, and no caller sees. */
 #ifndef PAGELOG_COMMON_H
 #define PAGELOG_COMMON_H
 
@@ -49,5 +49,13 @@ static inline void pagelog_back_off(unsigned *ms, unsigned most) {
     *ms = 2 * *ms < most ? 2 * *ms : most;
     nanosleep(&wait, NULL);
 }
+
+/* What is always so. In a build for tests (make checked) the process ends where it is not; in any other
+ * nothing is looked at, and nothing ends it. */
+#ifdef PAGELOG_CHECKED
+#define pagelog_assert(is_so) ((is_so) ? (void)0 : __builtin_trap())
+#else
+#define pagelog_assert(is_so) ((void)sizeof(is_so))
+#endif
 
 #endif

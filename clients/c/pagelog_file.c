@@ -17,12 +17,6 @@ enum pagelog_outcome pagelog_file_fail(struct pagelog_file *file, enum pagelog_o
     return outcome;
 }
 
-enum pagelog_outcome pagelog_refuse_until_begin(struct pagelog_file *file) {
-    return pagelog_file_fail(file, PAGELOG_CONFLICT,
-                             file->named.lost ? file->named.lost
-                                              : "commits that nobody waited for were lost: begin again");
-}
-
 struct pagelog_file *pagelog_file_new(const struct pagelog_file_options *options) {
     struct pagelog_file *file = calloc(1, sizeof *file);
     if (!file) return NULL;
@@ -103,6 +97,7 @@ static enum pagelog_outcome begin_to_write(struct pagelog_file *file) {
             ? pagelog_take_over(file->log, options->operator_principal, options->operator_token, 0)
             : pagelog_join(file->log);
     if (outcome != PAGELOG_DONE) return outcome;
+    pagelog_stand(file, WRITING);
     file->checked = asked;
     file->is_checked = true;
     return recover(file);
@@ -142,7 +137,7 @@ enum pagelog_outcome pagelog_file_open(struct pagelog_file *file) {
     enum pagelog_outcome outcome = is_named(file)             ? pagelog_open_named(file)
                                    : file->options.reads_only ? open_reader(file)
                                                               : open_writer(file);
-    file->is_open = outcome == PAGELOG_DONE;
+    pagelog_have(file, outcome == PAGELOG_DONE ? OPEN : CLOSED);
     file->size = file->least = file->mark.size;
     return outcome;
 }
@@ -150,7 +145,7 @@ enum pagelog_outcome pagelog_file_open(struct pagelog_file *file) {
 /* ---- Beginning ---- */
 
 void pagelog_become_follower(struct pagelog_file *file) {
-    file->is_fenced = true;
+    pagelog_stand(file, FOLLOWING);
     file->is_checked = false;
     file->next = file->mark.lsn + 1;
     file->pending.length = 0;
@@ -161,12 +156,12 @@ enum pagelog_outcome pagelog_file_take_over(struct pagelog_file *file, uint32_t 
     file->reason = NULL;
     if (is_named(file)) return pagelog_file_reserve(file);
     enum pagelog_outcome outcome = pagelog_file_settle(file);
-    if (outcome != PAGELOG_DONE && !file->is_over) return outcome;
+    if (outcome != PAGELOG_DONE && file->reading != OVER) return outcome;
     pagelog_file_undo(file);
     file->options.has_operator = true;
     file->options.operator_principal = operator_principal;
     memcpy(file->options.operator_token, operator_token, PAGELOG_TOKEN_BYTES);
-    file->is_fenced = file->is_broken = file->is_over = false;
+    if (file->reading == OVER) pagelog_have(file, OPEN);
     outcome = begin_to_write(file);
     if (outcome != PAGELOG_DONE) pagelog_become_follower(file);
     file->size = file->least = file->mark.size;
@@ -183,7 +178,7 @@ static enum pagelog_outcome renew(struct pagelog_file *file) {
     enum pagelog_outcome outcome = pagelog_take_over(
         file->log, options->operator_principal, options->operator_token, pagelog_writing_epoch(file->log));
     if (outcome == PAGELOG_DONE) outcome = recover(file);
-    if (outcome == PAGELOG_DONE) file->is_broken = false;
+    if (outcome == PAGELOG_DONE && file->standing == BROKEN) pagelog_stand(file, WRITING);
     return outcome;
 }
 
@@ -193,7 +188,8 @@ static enum pagelog_outcome check_epoch(struct pagelog_file *file) {
     enum pagelog_outcome outcome = pagelog_status(file->log, PAGELOG_PRIMARY, &status);
     if (outcome != PAGELOG_DONE || status.hard == file->mark.lsn) return outcome;
     outcome = recover(file);
-    file->is_broken = pagelog_is_stuck(file->log); /* the repair did not come to its end */
+    bool is_ended = !pagelog_is_stuck(file->log); /* the repair */
+    if (!is_ended && is_writer(file)) pagelog_stand(file, BROKEN);
     return outcome;
 }
 
@@ -207,7 +203,7 @@ static bool is_due(const struct pagelog_file *file, uint64_t now) {
 
 static enum pagelog_outcome begin_writer(struct pagelog_file *file, uint64_t now) {
     enum pagelog_outcome outcome = PAGELOG_DONE;
-    if (file->is_broken)
+    if (file->standing == BROKEN)
         outcome = renew(file);
     else if (is_due(file, now) || pagelog_has_gone_on(file))
         outcome = check_epoch(file);
@@ -236,9 +232,9 @@ static enum pagelog_outcome refresh(struct pagelog_file *file) {
 
 enum pagelog_outcome pagelog_file_begin(struct pagelog_file *file) {
     file->reason = NULL;
-    if (!file->is_open) return pagelog_file_fail(file, PAGELOG_MALFORMED, "the file is not open");
+    if (file->reading == CLOSED) return pagelog_file_fail(file, PAGELOG_MALFORMED, "the file is not open");
     pagelog_file_undo(file);
-    file->is_over = false;
+    if (file->reading == OVER) pagelog_have(file, is_named(file) ? GONE : OPEN);
     file->named.lost = NULL;
     file->begun = pagelog_now();
     enum pagelog_outcome outcome = look_after_commits(file, file->begun);
@@ -309,8 +305,8 @@ enum pagelog_outcome pagelog_file_read(struct pagelog_file *file, uint64_t offse
                                        size_t *count) {
     uint8_t *out = bytes;
     uint64_t left = offset < file->size ? file->size - offset : 0;
-    if (file->is_over) return pagelog_refuse_until_begin(file);
-    if (file->named.is_gone) return pagelog_refuse_gone(file);
+    enum pagelog_outcome refused = pagelog_refuse_to_go_on(file);
+    if (refused != PAGELOG_DONE) return refused;
     *count = left < length ? (size_t)left : length;
     memset(out + *count, 0, length - *count);
     for (size_t done = 0; done < *count;) {
@@ -352,8 +348,8 @@ static enum pagelog_outcome change_page(struct pagelog_file *file, uint32_t page
 enum pagelog_outcome pagelog_file_write(struct pagelog_file *file, uint64_t offset, const void *bytes,
                                         size_t length) {
     const uint8_t *in = bytes;
-    if (file->is_over) return pagelog_refuse_until_begin(file);
-    if (file->named.is_gone) return pagelog_refuse_gone(file);
+    enum pagelog_outcome refused = pagelog_refuse_to_go_on(file);
+    if (refused != PAGELOG_DONE) return refused;
     if (offset > PAGELOG_FILE_MOST || length > PAGELOG_FILE_MOST - offset)
         return pagelog_file_fail(file, PAGELOG_MALFORMED, "the file would be too long");
     for (size_t done = 0; done < length;) {
@@ -370,8 +366,8 @@ enum pagelog_outcome pagelog_file_write(struct pagelog_file *file, uint64_t offs
 
 enum pagelog_outcome pagelog_file_resize(struct pagelog_file *file, uint64_t size) {
     size_t start = (size_t)(size % PAGELOG_PAGE_BYTES);
-    if (file->is_over) return pagelog_refuse_until_begin(file);
-    if (file->named.is_gone) return pagelog_refuse_gone(file);
+    enum pagelog_outcome refused = pagelog_refuse_to_go_on(file);
+    if (refused != PAGELOG_DONE) return refused;
     if (size > PAGELOG_FILE_MOST)
         return pagelog_file_fail(file, PAGELOG_MALFORMED, "the file would be too long");
     if (size < file->size && start > 0) { /* after the end of the file its last page has zeros */

@@ -11,6 +11,34 @@
 
 #include <string.h>
 
+/* ---- The states of a file ----
+ *
+ * They are two: its standing, which is what it is to the log, and what it has of the transaction that is
+ * read. pagelog_steps.c has these tables once more, and its two functions make each step. One from the state
+ * of a line to that of a column is made when
+ *
+ *   FOLLOWING reads what others write, WRITING has an epoch, BROKEN has one in which a commit or a repair did
+ *   not come to its end:
+ *
+ *              FOLLOWING            WRITING                        BROKEN
+ *   FOLLOWING  it goes elsewhere    it has begun an epoch          -
+ *   WRITING    its epoch is over    it has begun another           a commit did not come to its end
+ *   BROKEN     its epoch is over    it has begun another, and      -
+ *                                   looked what is in the log
+ *
+ *   CLOSED was not opened, OPEN has the transaction, GONE cannot have it in this generation of a named
+ *   database, OVER has lost commits that were acknowledged; nothing but a begin goes on from the last two:
+ *
+ *              CLOSED               OPEN                           GONE                    OVER
+ *   CLOSED     the open fails       the open is done               amid an open            -
+ *   OPEN       another open fails   it is opened again             it is not found there   they are lost
+ *   GONE       an open fails        a begin has the newest one     it is not found again   they are lost
+ *   OVER       another open fails   a begin, a take-over           a begin of a named one  more are lost
+ *
+ * Who only reads follows for ever, and what has no name is never GONE. */
+enum standing { FOLLOWING, WRITING, BROKEN };
+enum reading { CLOSED, OPEN, GONE, OVER };
+
 /* Blocks: who is so far behind fetches its pages again. */
 enum { FAR_BEHIND = 512 };
 
@@ -85,7 +113,6 @@ struct named {
     bool is_sent_again; /* blocks of the tail were sent in this move */
     bool is_doubted;    /* another process may have written since the last begin */
     uint32_t handed;    /* the epoch that the next begin goes on from as the writer; 0: it does not */
-    bool is_gone;       /* the transaction that was read is not to be had here: nothing but a begin goes on */
     uint64_t given_up;  /* how often that was so */
     uint64_t moves, resent;
     char noted[PAGELOG_RUN_BYTES]; /* the last run whose mark is not explained; whether that was not said yet
@@ -107,6 +134,8 @@ struct expected {
 
 struct pagelog_file {
     struct pagelog *log;
+    enum standing standing; /* these two change by steps alone */
+    enum reading reading;
     struct named named;
     struct pagelog_file_options options;
     struct pagelog_cache *cache;
@@ -117,15 +146,14 @@ struct pagelog_file {
     size_t looked;         /* how many blocks there were when their replies were looked for last */
     uint64_t sent;         /* when the last of them was sent */
     uint64_t tidied;       /* how many bytes had been sent when the service was asked to tidy up */
-    bool is_over;          /* some of them were lost, and there was no begin since */
-    uint64_t losses;       /* how often some were */
+    uint64_t losses;       /* how often some of them were lost */
     uint64_t session;      /* of the writer in this run, by a random seed: no other has it */
     uint8_t seed[SEED_BYTES];
     uint64_t told_session; /* whose origin page 0 has; 0: it is not known */
     uint64_t torn; /* from this LSN on its transactions are not whole, until they are undone; 0: all are */
     uint64_t
         doubted; /* the LSN of the end mark of a commit whose blocks are still to be looked for; 0: of none */
-    bool is_open, is_fenced, is_broken, is_stale, is_foreign, is_misnamed;
+    bool is_stale, is_foreign, is_misnamed;
     char name[PAGELOG_NAME_BYTES + 1]; /* of the options; empty: any */
     bool is_named;        /* page 0 has that after the mark: its length in a byte, and its bytes */
     uint64_t size, least; /* of the transaction: the size, and the least that it was since the last commit */
@@ -176,9 +204,6 @@ enum pagelog_outcome pagelog_check_origin(struct pagelog_file *file, const uint8
 /* The same of what was pulled up to a mark. */
 enum pagelog_outcome pagelog_check_pending(struct pagelog_file *file, const struct mark *mark);
 
-/* What every call but a begin returns once commits that nobody waited for were lost: CONFLICT. */
-enum pagelog_outcome pagelog_refuse_until_begin(struct pagelog_file *file);
-
 /* Whether the log is known to go on from the end mark that this file has: another session of the epoch has
  * committed, and what it wrote was not read. */
 bool pagelog_has_gone_on(const struct pagelog_file *file);
@@ -195,9 +220,23 @@ static inline bool is_named(const struct pagelog_file *file) {
     return file->named.keepers != NULL;
 }
 
-/* Whether this file may commit. */
+/* Makes a step of the tables above; any other is none. */
+void pagelog_stand(struct pagelog_file *file, enum standing to);
+void pagelog_have(struct pagelog_file *file, enum reading to);
+
+/* What every call but a begin returns where the file is OVER: CONFLICT; and where it is GONE: LOST. Else
+ * DONE.
+ */
+enum pagelog_outcome pagelog_refuse_to_go_on(struct pagelog_file *file);
+
+/* Whether this file is the writer, though a commit may not have come to its end. */
 static inline bool is_writer(const struct pagelog_file *file) {
-    return !file->options.reads_only && !file->is_fenced;
+    return file->standing != FOLLOWING;
+}
+
+/* Whether the transaction that was read cannot be had here. */
+static inline bool is_gone(const struct pagelog_file *file) {
+    return file->reading == GONE || (file->reading == OVER && is_named(file));
 }
 
 static inline enum pagelog_role role_of(const struct pagelog_file *file) {

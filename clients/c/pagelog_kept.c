@@ -14,9 +14,8 @@ struct pagelog_kept {
 /* Whether what is in memory is the transaction of the mark, and that is in the log as far as is known. */
 static bool is_of_mark(const struct pagelog_file *file) {
     const struct named *named = &file->named;
-    bool is_lost = file->is_over || file->is_broken || named->is_gone || named->dropped ||
-                   pagelog_is_restarted(file->log);
-    return file->is_open && !is_lost && file->on_their_way == 0 && file->mark.lsn > 0 &&
+    bool is_lost = file->standing == BROKEN || named->dropped || pagelog_is_restarted(file->log);
+    return file->reading == OPEN && !is_lost && file->on_their_way == 0 && file->mark.lsn > 0 &&
            !named->place.is_page_server;
 }
 

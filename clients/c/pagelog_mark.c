@@ -191,10 +191,10 @@ enum pagelog_outcome pagelog_take_mark(struct pagelog_file *file, uint64_t lsn) 
     const uint32_t number = MARK_PAGE;
     struct mark mark;
     uint64_t position = position_of(file, lsn); /* the fetch may move the file */
-    bool was_gone = file->named.is_gone;
+    bool was_gone = is_gone(file);
     enum pagelog_outcome outcome =
         pagelog_fetch(file, lsn, (struct wanted){.pages = &number, .count = 1}, page);
-    bool is_gone_now = file->named.is_gone && !was_gone;
+    bool is_gone_now = is_gone(file) && !was_gone;
     lsn = lsn_of(file, position);
     /* What was read before is not there, and is not asked for: another look may be had. */
     if (outcome == PAGELOG_LOST && is_gone_now) file->reason = NULL;
@@ -213,7 +213,7 @@ enum pagelog_outcome pagelog_take_mark(struct pagelog_file *file, uint64_t lsn) 
     file->is_named = page[NAME_PLACE] > 0 && (!is_named(file) || has_name(page, file->name));
     file->told_session = pagelog_has_origin(page, &mark) ? mark.session : 0;
     file->mark = mark;
-    file->named.is_gone = false;
+    if (file->reading == GONE) pagelog_have(file, OPEN);
     pagelog_expect(file->log, lsn, MARK_PAGE, 0, page, MARK_BYTES);
     return PAGELOG_DONE;
 }

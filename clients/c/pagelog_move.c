@@ -31,7 +31,6 @@ bool pagelog_make_named(struct pagelog_file *file) {
     memcpy(named->token, options->service.token, PAGELOG_TOKEN_BYTES);
     pagelog_keepers_prove(named->keepers, options->service.principal, named->token);
     memcpy(named->operator_token, options->operator_token, PAGELOG_TOKEN_BYTES);
-    file->is_fenced = true;
     return true;
 }
 
@@ -62,7 +61,7 @@ bool pagelog_may_move(const struct pagelog_file *file, enum pagelog_outcome outc
 /* The transaction that was read cannot be had any more. */
 static void give_up_transaction(struct pagelog_file *file) {
     pagelog_cache_clear(file->cache);
-    file->named.is_gone = true;
+    if (file->reading != OVER) pagelog_have(file, GONE);
     file->named.given_up++;
 }
 
@@ -107,7 +106,7 @@ static enum pagelog_outcome enter(struct pagelog_file *file, const struct pagelo
     named->is_superseded = false;
     if (file->options.durable_only && place->archived > named->durable) named->durable = place->archived;
     pagelog_become_follower(file);
-    file->is_broken = file->is_far = false;
+    file->is_far = false;
     return PAGELOG_DONE;
 }
 
@@ -237,7 +236,7 @@ static enum pagelog_outcome lose_to(struct pagelog_file *file, uint64_t position
     named->own = position - 1;
     file->on_their_way = 0;
     file->losses++;
-    file->is_over = true;
+    pagelog_have(file, OVER);
     return pagelog_file_fail(file, outcome, why);
 }
 
@@ -324,7 +323,7 @@ static enum pagelog_outcome send_again(struct pagelog_file *file, const struct p
     if (outcome == PAGELOG_DONE && pagelog_end(file->log) != status->hard) outcome = PAGELOG_LOST;
     if (outcome == PAGELOG_DONE) outcome = send_rest(file);
     if (outcome != PAGELOG_DONE) return outcome;
-    file->is_fenced = false;
+    if (!is_writer(file)) pagelog_stand(file, WRITING);
     return PAGELOG_DONE;
 }
 
@@ -371,7 +370,7 @@ static enum pagelog_outcome find_transaction(struct pagelog_file *file, uint64_t
     struct mark found;
     file->next = file->mark.lsn + 1;
     file->pending.length = 0;
-    if (named->is_gone) return PAGELOG_DONE;
+    if (is_gone(file)) return PAGELOG_DONE;
     if (file->mark.transaction == 0 && named->place.base == 0) return PAGELOG_DONE; /* of an empty log */
     bool is_below = position_of(file, file->mark.lsn) < named->place.base && named->place.shift != 0;
     if (file->mark.lsn == 0 || file->mark.lsn > hard || is_below) {
@@ -407,7 +406,7 @@ static enum pagelog_outcome refuse_principal(struct pagelog_file *file) {
 /* Whether the file is at a page server that has less than another one has shown. */
 static bool is_behind(const struct pagelog_file *file, uint64_t end) {
     const struct named *named = &file->named;
-    bool lacks_transaction = !named->is_gone && file->mark.lsn > end;
+    bool lacks_transaction = !is_gone(file) && file->mark.lsn > end;
     return named->place.is_page_server && (end < named->shown || lacks_transaction);
 }
 
@@ -434,7 +433,7 @@ static enum pagelog_outcome go_on(struct pagelog_file *file) {
 
 /* Whether another try may help: the service has gone, or is closed by its keeper. */
 static bool is_passing(const struct pagelog_file *file, enum pagelog_outcome outcome) {
-    if (file->is_over || file->reason) return false; /* decided */
+    if (file->reading == OVER || file->reason) return false; /* decided */
     return outcome == PAGELOG_LOST || pagelog_may_move(file, outcome);
 }
 

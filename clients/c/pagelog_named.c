@@ -64,7 +64,7 @@ static enum pagelog_outcome ask_wherever(struct pagelog_file *file, enum pagelog
          !file->reason && pagelog_may_move(file, outcome) && may_try(file, moves, &patience); moves++) {
         outcome = pagelog_move(file, outcome);
         if (outcome != PAGELOG_DONE) return outcome;
-        outcome = file->named.is_gone ? take_newest(file) : call(file);
+        outcome = is_gone(file) ? take_newest(file) : call(file);
     }
     return outcome;
 }
@@ -98,7 +98,7 @@ static enum pagelog_outcome look_at_epoch(struct pagelog_file *file) {
 static bool may_take_hand_over(const struct pagelog_file *file) {
     const struct named *named = &file->named;
     bool may_write = !file->options.reads_only && !file->options.durable_only && file->options.has_operator;
-    return may_write && !named->is_gone && !named->is_closing && !file->is_broken &&
+    return may_write && !is_gone(file) && !named->is_closing && file->standing != BROKEN &&
            file->on_their_way == 0 && (pagelog_tail_is_empty(&named->tail) || is_settled_here(named));
 }
 
@@ -115,7 +115,8 @@ static bool take_hand_over(struct pagelog_file *file, uint32_t epoch) {
                                                      options->operator_token, epoch, file->next, &pulled);
     if (outcome == PAGELOG_DONE) outcome = pagelog_take_pulled(file, &pulled);
     if (outcome != PAGELOG_DONE || file->mark.lsn != pagelog_end(file->log)) return false;
-    file->is_fenced = file->named.is_doubted = false;
+    pagelog_stand(file, WRITING);
+    file->named.is_doubted = false;
     file->checked = asked;
     return file->is_checked = true;
 }
@@ -138,8 +139,8 @@ enum pagelog_outcome pagelog_begin_named(struct pagelog_file *file,
             outcome == PAGELOG_DONE && file->named.place.generation == first && take_hand_over(file, handed);
         handed = 0;
         if (outcome == PAGELOG_DONE && !is_handed)
-            outcome = file->named.is_gone ? take_newest(file) : refresh(file);
-        if (!file->is_over) outcome = ask_wherever(file, outcome, refresh);
+            outcome = is_gone(file) ? take_newest(file) : refresh(file);
+        if (file->reading != OVER) outcome = ask_wherever(file, outcome, refresh);
         if (outcome == PAGELOG_DONE) outcome = ask_wherever(file, look_at_epoch(file), look_at_epoch);
         if (outcome == PAGELOG_DONE && file->named.is_closing) outcome = pagelog_glance(file);
     } while (outcome == PAGELOG_DONE && file->named.place.generation != generation);
@@ -149,10 +150,10 @@ enum pagelog_outcome pagelog_begin_named(struct pagelog_file *file,
 enum pagelog_outcome pagelog_fetch_wherever(struct pagelog_file *file, uint64_t position,
                                             struct wanted wanted, uint8_t *out) {
     file->reason = NULL;
-    bool was_gone = file->named.is_gone; /* a begin asks for the newest one then */
+    bool was_gone = is_gone(file); /* a begin asks for the newest one then */
     enum pagelog_outcome outcome = pagelog_arrive(file);
     if (outcome != PAGELOG_DONE) return outcome;
-    if (file->named.is_gone && !was_gone) return pagelog_refuse_gone(file);
+    if (is_gone(file) && !was_gone) return pagelog_refuse_gone(file);
     outcome = pagelog_fetch_here(file, lsn_of(file, position), wanted, out);
     if (outcome == PAGELOG_DONE) return outcome;
     wanted.ahead = 0;
@@ -160,7 +161,7 @@ enum pagelog_outcome pagelog_fetch_wherever(struct pagelog_file *file, uint64_t 
     for (unsigned moves = 0; pagelog_may_move(file, outcome) && may_try(file, moves, &patience); moves++) {
         outcome = pagelog_move(file, outcome);
         if (outcome != PAGELOG_DONE) return outcome;
-        if (file->named.is_gone) return was_gone ? PAGELOG_LOST : pagelog_refuse_gone(file);
+        if (is_gone(file)) return was_gone ? PAGELOG_LOST : pagelog_refuse_gone(file);
         outcome = pagelog_fetch_here(file, lsn_of(file, position), wanted, out);
     }
     return outcome;
@@ -183,7 +184,7 @@ enum pagelog_outcome pagelog_write_on(struct pagelog_file *file) {
     if (outcome != PAGELOG_DONE) return outcome;
     if (pagelog_end(file->log) != end)
         return pagelog_file_fail(file, PAGELOG_FENCED, "another writer has gone on meanwhile");
-    file->is_fenced = false;
+    pagelog_stand(file, WRITING);
     return PAGELOG_DONE;
 }
 
@@ -213,7 +214,7 @@ static enum pagelog_outcome become_writer(struct pagelog_file *file) {
         return pagelog_refuse_token(file, "operator", options->operator_principal);
     if (outcome == PAGELOG_DONE) outcome = compare_newest(file, PAGELOG_PRIMARY, pagelog_end(file->log));
     if (outcome != PAGELOG_DONE) return outcome;
-    file->is_fenced = file->is_broken = false;
+    pagelog_stand(file, WRITING);
     file->checked = asked;
     file->is_checked = true;
     return pagelog_end(file->log) > file->mark.lsn ? pagelog_repair(file) : PAGELOG_DONE;
@@ -222,7 +223,7 @@ static enum pagelog_outcome become_writer(struct pagelog_file *file) {
 enum pagelog_outcome pagelog_file_move_on(struct pagelog_file *file) {
     file->reason = NULL;
     enum pagelog_outcome outcome = pagelog_move_on(file);
-    return outcome == PAGELOG_DONE && file->named.is_gone ? pagelog_refuse_gone(file) : outcome;
+    return outcome == PAGELOG_DONE && is_gone(file) ? pagelog_refuse_gone(file) : outcome;
 }
 
 void pagelog_file_doubt(struct pagelog_file *file) {
@@ -244,11 +245,11 @@ static enum pagelog_outcome confirm_writer(struct pagelog_file *file) {
 enum pagelog_outcome pagelog_file_reserve(struct pagelog_file *file) {
     file->reason = NULL;
     if (!is_named(file)) return PAGELOG_DONE;
-    if (file->is_over) return pagelog_refuse_until_begin(file);
-    if (file->named.is_gone) return pagelog_refuse_gone(file);
+    enum pagelog_outcome outcome = pagelog_refuse_to_go_on(file);
+    if (outcome != PAGELOG_DONE) return outcome;
     if (file->options.reads_only) return pagelog_file_fail(file, PAGELOG_FENCED, "this file only reads");
-    enum pagelog_outcome outcome = pagelog_arrive(file);
-    if (outcome == PAGELOG_DONE && file->named.is_gone) return pagelog_refuse_gone(file);
+    outcome = pagelog_arrive(file);
+    if (outcome == PAGELOG_DONE && is_gone(file)) return pagelog_refuse_gone(file);
     if (outcome != PAGELOG_DONE) return outcome;
     bool is_doubted = file->named.is_doubted;
     file->named.is_doubted = false;
@@ -263,7 +264,7 @@ enum pagelog_outcome pagelog_file_reserve(struct pagelog_file *file) {
          !file->reason && pagelog_may_move(file, outcome) && may_try(file, moves, &patience); moves++) {
         outcome = pagelog_move(file, outcome);
         if (outcome != PAGELOG_DONE) return outcome;
-        if (file->named.is_gone) return pagelog_refuse_gone(file);
+        if (is_gone(file)) return pagelog_refuse_gone(file);
         outcome = is_writer(file) ? PAGELOG_DONE : become_writer(file);
     }
     if (outcome != PAGELOG_DONE) pagelog_become_follower(file);

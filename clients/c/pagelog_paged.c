@@ -18,7 +18,7 @@ static bool is_below(uint64_t position, const struct pagelog_place *place) {
 /* The position that is read: of `at`, or of the transaction; 0: there is none yet. */
 static uint64_t position_read(const struct pagelog_file *file) {
     if (file->options.at > 0) return file->options.at;
-    bool has_one = file->mark.lsn > 0 && !file->named.is_gone;
+    bool has_one = file->mark.lsn > 0 && !is_gone(file);
     return has_one ? position_of(file, file->mark.lsn) : 0;
 }
 
@@ -117,7 +117,7 @@ static bool may_ask(const struct pagelog_file *file) {
     const struct named *named = &file->named;
     bool is_wanted =
         file->options.pages == PAGELOG_PAGES_PREFERRED || file->options.pages == PAGELOG_PAGES_ONLY;
-    bool is_here = named->has_place && !named->is_between && !named->is_gone && !named->dropped;
+    bool is_here = named->has_place && !named->is_between && !is_gone(file) && !named->dropped;
     return is_named(file) && file->options.reads_only && is_wanted && is_here && named->place.pages > 0 &&
            file->mark.lsn > 0 && pagelog_is_own(file->log);
 }

@@ -36,7 +36,7 @@ const struct pagelog_reply *pagelog_file_refused(const struct pagelog_file *file
 }
 
 bool pagelog_file_may_commit(const struct pagelog_file *file) {
-    return is_named(file) ? !file->options.reads_only : is_writer(file) && !file->is_broken;
+    return is_named(file) ? !file->options.reads_only : file->standing == WRITING;
 }
 
 void pagelog_file_set_sent(struct pagelog_file *file, void (*sent)(void *argument), void *argument) {
@@ -87,15 +87,16 @@ void pagelog_file_set_spin(struct pagelog_file *file, unsigned spin_us) {
 struct pagelog_file_state pagelog_file_state_of(const struct pagelog_file *file) {
     return (struct pagelog_file_state){
         .is_writer = is_writer(file),
-        .is_fenced = file->is_fenced,
-        .is_broken = file->is_broken,
+        .is_fenced =
+            !is_writer(file) && file->reading != CLOSED && !(file->options.reads_only && !is_named(file)),
+        .is_broken = file->standing == BROKEN,
         .is_stale = file->is_stale,
         .is_restarted = pagelog_is_restarted(file->log),
         .is_foreign = file->is_foreign,
         .is_misnamed = file->is_misnamed,
-        .is_over = file->is_over,
+        .is_over = file->reading == OVER,
         .is_named = is_named(file),
-        .is_gone = file->named.is_gone,
+        .is_gone = is_gone(file),
         .is_dropped = file->named.dropped != NULL,
         .generation = file->named.place.generation,
         .position = file->mark.lsn > 0 ? position_of(file, file->mark.lsn) : 0,

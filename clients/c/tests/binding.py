@@ -641,6 +641,8 @@ declare("pagelog_file_settle", c_uint, c_void_p)
 declare("pagelog_file_undo", None, c_void_p)
 declare("pagelog_file_state_of", State, c_void_p)
 declare("pagelog_file_explain", None, c_void_p, c_char_p, c_size_t)
+declare("pagelog_stand", None, c_void_p, c_uint)
+declare("pagelog_have", None, c_void_p, c_uint)
 
 
 class File:
@@ -664,11 +666,13 @@ class File:
         quorum=0,
         unwaited=0,
         name=None,
+        keepers=None,
+        tokens=token,
     ):
         service = Options(
-            address.encode(),
+            address and address.encode(),
             principal,
-            token(principal),
+            tokens(principal),
             database,
             0,
             reply_ms,
@@ -682,14 +686,17 @@ class File:
             reads_only,
             operator is not None,
             operator or 0,
-            token(operator or 0),
+            tokens(operator or 0),
             written,
             unwaited,
             check_ms,
             cache_pages,
             at,
             may_be_stale,
-            name and name.encode(),
+            None if keepers else name and name.encode(),
+            keepers and keepers.encode(),  # who know the name
+            keepers and name.encode(),
+            300000,
         )
         self.made = lib.pagelog_file_new(byref(options))
 

@@ -1,0 +1,31 @@
+"""Of the states of a file and the steps between them: edits of clients/c."""
+
+from plant import Plant
+
+_STEPS, _COMMIT, _FILE, _MOVE = (
+    "c/pagelog_steps.c",
+    "c/pagelog_commit.c",
+    "c/pagelog_file.c",
+    "c/pagelog_move.c",
+)
+_NONE, _STATES, _LOSES, _MOVES = (
+    "steps_that_are_none",
+    "goes_through_its_states",
+    "loses_commits",
+    "a_named_database_moves",
+)
+
+PLANTS = {
+    "steps, one that is none": Plant(_STEPS, "    pagelog_assert(standings[file->standing] >> to & 1);\n", "", "c/steps", _NONE),
+    "steps, one more": Plant(_STEPS, "    [FOLLOWING] = 1 << FOLLOWING | 1 << WRITING,\n", "    [FOLLOWING] = 1 << FOLLOWING | 1 << WRITING | 1 << BROKEN,\n", "c/steps", _NONE),
+    "steps, one is left out": Plant(_STEPS, "    [BROKEN] = 1 << FOLLOWING | 1 << WRITING,\n", "    [BROKEN] = 1 << FOLLOWING,\n", "c/steps", _NONE),
+    "steps, what was lost is there": Plant(_STEPS, "    [CLOSED] = 1 << CLOSED | 1 << OPEN | 1 << GONE,\n", "    [CLOSED] = 1 << CLOSED | 1 << OPEN | 1 << GONE | 1 << OVER,\n", "c/steps", _NONE),
+    "steps, a reader writes": Plant(_STEPS, "    pagelog_assert(to == FOLLOWING || !file->options.reads_only);\n", "", "c/steps", _NONE),
+    "steps, gone without a name": Plant(_STEPS, "    pagelog_assert(to != GONE || is_named(file));\n", "", "c/steps", _NONE),
+    "steps, not broken": Plant(_COMMIT, "(!is_untouched || outcome == PAGELOG_IN_DOUBT))\n        pagelog_stand(file, BROKEN);\n", "(!is_untouched || outcome == PAGELOG_IN_DOUBT))\n        return;\n", "c/steps", _STATES),
+    "steps, broken for good": Plant(_FILE, "    if (outcome == PAGELOG_DONE && file->standing == BROKEN) pagelog_stand(file, WRITING);\n", "", "c/steps", _STATES),
+    "steps, not over": Plant(_COMMIT, "    pagelog_have(file, OVER);\n", "", "c/steps", _LOSES),
+    "steps, over for good": Plant(_FILE, "    if (file->reading == OVER) pagelog_have(file, is_named(file) ? GONE : OPEN);\n", "", "c/steps", _LOSES),
+    "steps, not gone": Plant(_MOVE, "    if (file->reading != OVER) pagelog_have(file, GONE);\n", "", "c/steps", _MOVES),
+    "steps, gone for good": Plant("c/pagelog_mark.c", "    if (file->reading == GONE) pagelog_have(file, OPEN);\n", "", "c/steps", _MOVES),
+}  # fmt: skip
