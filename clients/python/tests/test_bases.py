@@ -365,8 +365,8 @@ class Switches(Made):
         self.assertEqual(
             (self.seen().run, self.seen().archived, len(self.rows("block"))), ("r1", 5, 5)
         )
-        self.assertTrue(succeed(self.referee, self.switch()))
-        seen = self.seen()
+        begun, seen = succeed(self.referee, self.switch()), self.seen()
+        self.assertEqual(begun, seen)
         self.assertEqual(
             (seen.run, seen.generation, seen.address, seen.shift, seen.images),
             ("r2", 2, "x:1", -3, 5),
@@ -388,8 +388,8 @@ class Switches(Made):
         )
         for wrong in (replace(last, run="r9"), replace(last, generation=9), replace(last, old=4)):
             self.assertIsNone(release(self.referee, wrong))
-        self.assertEqual(release(self.referee, last), 7)
-        seen = self.seen()
+        released, seen = release(self.referee, last), self.seen()
+        self.assertEqual(released, seen)
         self.assertEqual(
             (seen.run, seen.archived, seen.chain, len(self.rows("block"))), (None, 7, last.chain, 7)
         )

@@ -82,8 +82,9 @@ class Fills(Meanwhile):
         async def ask(call: object, *of: Any) -> object:
             if call is self.session.referee.take:
                 takes.append(of[0].generation)
-                return Kept(0, b"", of[0].generation + 1) if len(takes) < 9 else None
-            return 0
+                next_one = replace(of[0], generation=of[0].generation + 1, run="new", holder="a")
+                return next_one if len(takes) < 9 else None
+            return replace(RELEASED, generation=self.database.row.generation)
 
         def made(_: str) -> Mock:
             failing = service(run="new", process=None, reached=0)

@@ -30,11 +30,11 @@ from pagelog.errors import PagelogError
 from pagelog.keeper.keeping import Keeper
 from pagelog.keeper.machine import State
 from pagelog.keeper.referee import Away, Doubt, Referee
-from pagelog.keeper.rows import Look, TableOf, Where
+from pagelog.keeper.rows import Look, Row, TableOf, Where
 from pagelog.keeper.schema import NUMBERS
 from pagelog.keeper.served import Served
 from pagelog.keeper.settings import Settings
-from pagelog.keeper.switch import Switch, has_begun, number, succeed
+from pagelog.keeper.switch import Switch, begun, may_begin, number, succeed
 from pagelog.keeper.table import TableError, token_of
 from pagelog.place import WrongToken
 from pagelog.rules import UnknownPrincipal
@@ -98,6 +98,10 @@ class Statements(Referees):
         # PostgreSQL went back before the change: a run with a newer table than it knows may take.
         self.assertIsNotNone(self.referee.take(self.seen(), "r2", table_number=3))
 
+    def state(self, switch: Switch) -> tuple[Row | None, bool]:
+        """What a keeper is told of a switch in doubt."""
+        return begun(self.referee, switch), may_begin(self.referee, switch)
+
     def test_so_does_a_run_that_continues(self) -> None:
         kept = self.taken()
         row = self.seen()
@@ -112,16 +116,16 @@ class Statements(Referees):
         given = number(self.referee, self.row.id, "r1", kept.generation)
         assert given is not None
         switch = Switch(self.row.id, "r1", kept.generation, 0, (), b"", given, "r2", "x:1", 0, 0)
-        self.assertIsNone(has_begun(self.referee, switch))
+        self.assertEqual(self.state(switch), (None, True))
         self.change()
         self.assertFalse(succeed(self.referee, switch))
-        self.assertIs(
-            has_begun(self.referee, switch), False
+        self.assertEqual(
+            self.state(switch), (None, False)
         )  # else it would be tried for ever, while nobody writes
         newest = replace(switch, table_number=2)
-        self.assertIsNone(has_begun(self.referee, newest))
+        self.assertEqual(self.state(newest), (None, True))
         self.assertTrue(succeed(self.referee, newest))
-        self.assertIs(has_begun(self.referee, newest), True)
+        self.assertEqual(self.state(newest), (self.seen(), False))
         self.assertEqual((self.seen().run, self.seen().run_table), ("r2", 2))
 
     def test_a_holder_that_stands_still_amid_a_statement_holds_up_no_change(self) -> None:
@@ -133,9 +137,8 @@ class Statements(Referees):
             )
         with closing(psycopg.connect(self.url, application_name="pagelog keeper one")) as still:
             still.execute("UPDATE pagelog_log SET archived = archived WHERE name = 'shop'")
-            self.assertEqual(
-                self.new("three").end_run(replace(self.row, holder="one", run="r1")), 0
-            )
+            ended = self.new("three").end_run(replace(self.row, holder="one", run="r1"))
+        self.assertEqual(ended and (ended.run, ended.archived), (None, 0))
 
     def test_a_generation_of_an_older_keeper_has_the_first_table(self) -> None:
         self.change()

@@ -19,7 +19,7 @@ from pagelog.keeper.quick import QuickReferee
 from pagelog.keeper.referee import Doubt, OneDisk, Referee, Superseded
 from pagelog.keeper.rows import Look, Synchronous
 from pagelog.keeper.session import Session
-from pagelog.keeper.switch import Switch, has_begun, number, succeed
+from pagelog.keeper.switch import Switch, begun, number, succeed
 from pagelog.place import Fate
 from replicated import Pair, Server
 from service import PATIENCE
@@ -283,10 +283,8 @@ class Referees(unittest.TestCase):
                 0,
             )
             self.assertTrue(succeed(keeper, switch))
-            self.assertIsInstance(
-                self.cut_at(old, keeper, lambda: has_begun(keeper, switch)), Doubt
-            )
-            self.assertIs(has_begun(keeper, switch), True)
+            self.assertIsInstance(self.cut_at(old, keeper, lambda: begun(keeper, switch)), Doubt)
+            self.assertIsNotNone(begun(keeper, switch))
 
         self.pair.fail_over_beside(beside)
         self.plain.close()

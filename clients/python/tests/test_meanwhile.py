@@ -517,6 +517,7 @@ class Successions(Meanwhile):
         succession._successor = made = service(run="next")
         made.loader.return_value = Mock(__enter__=Mock(), __exit__=Mock(return_value=None))
         succession._referee, succession._stage = Mock(Referee, me="a"), Stage.READY
+        succession._referee._ask.return_value = []  # what is rehearsed changes nothing
         return succession, made
 
     async def test_one_whose_archive_is_not_its_own_any_more_is_given_up(self) -> None:

@@ -11,9 +11,10 @@ import psycopg
 
 from keepers import Line, Replying, batch_of, blocks, eventually, new_database, new_url
 from pagelog.keeper import statements
+from pagelog.keeper.bases import transaction
 from pagelog.keeper.referee import Away, BrokenArchive, Doubt, Referee, Refused, Superseded, digest
 from pagelog.keeper.rows import Batch, Kept, Row, Where
-from pagelog.keeper.switch import number
+from pagelog.keeper.switch import Switch, begun, number, succeed
 from postgres import SilentProxy, postgres
 from service import PATIENCE
 
@@ -36,9 +37,9 @@ class Referees(unittest.TestCase):
         return row
 
     def taken(self, run: str = "r1", referee: Referee | None = None) -> Kept:
-        kept = (referee or self.referee).take(self.seen(referee), run)
-        assert kept is not None
-        return kept
+        taken = (referee or self.referee).take(self.seen(referee), run)
+        assert taken is not None
+        return Kept(taken.archived, taken.chain, taken.generation)
 
     def everything(self) -> list[bytes]:
         archived = self.seen().archived
@@ -146,7 +147,52 @@ class Fences(Referees):
         beat = next(keeper.beat for keeper in look.keepers if keeper.name == "one")
         seen = self.seen()
         self.assertIsNone(other.take(seen, "r2", beat))
-        self.assertEqual(other.take(seen, "r2", beat + 1), Kept(3, seen.chain, 2))
+        taken = other.take(seen, "r2", beat + 1)
+        assert taken is not None
+        self.assertEqual((taken.archived, taken.chain, taken.generation), (3, seen.chain, 2))
+
+    def test_a_statement_that_changes_a_row_returns_it_as_the_next_look_shows_it(self) -> None:
+        self.of_a_copy()
+        where = Where("x:1", 5, 2, b"c", "a way")
+        for change in (
+            lambda seen: self.referee.take(seen, "r1", table_number=2),
+            lambda seen: self.referee.publish(seen.id, "r1", where),
+            lambda seen: succeed(self.referee, self.switch(seen)),
+            lambda seen: self.referee.held(seen.id, "r2"),
+            lambda seen: self.referee.continue_run(seen, "r3", None, where, 7, (5, b"e"), 2),
+            lambda seen: self.referee.release(seen.id, "r3"),
+            lambda seen: self.referee.take(seen, "r4", None, replace(where, chain=b"e"), 0, 2),
+        ):
+            self.assertEqual(change(self.seen()), self.seen())
+        self.assertEqual((self.seen().copied, self.seen().run_table), (3, 2))
+
+    def of_a_copy(self) -> None:
+        """Its row is as a copy's that has had another table since."""
+        with psycopg.connect(self.url) as connection:
+            connection.execute(
+                "UPDATE pagelog_log SET archived = 3, chain = 'c', ancestor = 'old', table_number = 2"
+            )
+
+    def switch(self, seen: Row) -> Switch:
+        """To run `r2`, with a block."""
+        following = number(self.referee, seen.id, "r1", seen.generation)
+        assert following is not None
+        rest, end = blocks(seen.archived + 1, 1), (b"d", following, "r2", "y:1", -3, 2, None, 2)
+        return Switch(seen.id, "r1", seen.generation, seen.archived, rest, *end)
+
+    def test_so_does_one_that_finds_the_row_of_a_switch_that_still_runs(self) -> None:
+        self.of_a_copy()
+        self.referee.take(self.seen(), "r1", table_number=2)
+        other, switch, found = self.new("two"), self.switch(self.seen()), list[Row | None]()
+        thread = threading.Thread(target=lambda: found.append(begun(self.referee, switch)))
+        waits = "SELECT FROM pg_stat_activity WHERE wait_event_type = 'Lock' AND datname = current_database()"
+        with psycopg.connect(self.url, autocommit=True) as boss, transaction(other):
+            self.assertIsNotNone(succeed(other, switch))
+            thread.start()
+            eventually(lambda: boss.execute(waits).rowcount == 1)
+        thread.join()
+        self.assertEqual(found, [self.seen()])
+        self.assertEqual(self.seen().run_table, 2)
 
     def test_a_take_tells_the_place_of_a_service_that_has_all_that_is_archived(self) -> None:
         batch = batch_of(self.row, self.taken(), "r1")
@@ -154,9 +200,9 @@ class Fences(Referees):
         other, seen = self.new("two"), self.seen()
         for chain in (b"", b"x" * 16):
             self.assertIsNone(other.take(seen, "r2", None, Where("y:1", 5, 2, chain)))
-        self.assertEqual(
-            other.take(seen, "r2", None, Where("y:1", 5, 2, batch.chain)), Kept(3, batch.chain, 2)
-        )
+        taken = other.take(seen, "r2", None, Where("y:1", 5, 2, batch.chain))
+        assert taken is not None
+        self.assertEqual((taken.archived, taken.chain, taken.generation), (3, batch.chain, 2))
         seen = self.seen()
         self.assertEqual(
             (seen.run, seen.holder, seen.address, seen.shift, seen.images, seen.base),

@@ -205,12 +205,12 @@ class Change:
 
     def _end(self, row: Row) -> None:
         """Ends the run that holds the database, as it is archived: from now on nothing of it becomes durable."""
-        if (position := self._referee.end_run(row)) is not None:
+        if (ended := self._referee.end_run(row)) is not None:
             paused = (
                 "; it is paused: nobody takes it until `pagelogctl resume`" if row.paused else ""
             )
             click.echo(
-                f"generation {row.generation} of keeper {row.holder}, which has an older table, was ended at position {position}{paused}",
+                f"generation {row.generation} of keeper {row.holder}, which has an older table, was ended at position {ended.archived}{paused}",
                 err=True,
             )
 

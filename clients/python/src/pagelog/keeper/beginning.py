@@ -3,7 +3,6 @@
 from __future__ import annotations
 
 import asyncio
-from dataclasses import replace
 from typing import TYPE_CHECKING
 
 from pagelog.errors import PagelogError
@@ -11,7 +10,7 @@ from pagelog.keeper.bases import Bases, transaction
 from pagelog.keeper.images import Replay
 from pagelog.keeper.machine import Kind, Stillness
 from pagelog.keeper.referee import PIECE, Away, Doubt, Referee, Refused
-from pagelog.keeper.rows import Kept, Row, Where
+from pagelog.keeper.rows import Row, Where
 from pagelog.keeper.run import Run, new_run
 from pagelog.keeper.served import Served
 
@@ -26,18 +25,18 @@ def continued_from_images(
     beat: int | None,
     least: int,
     start: tuple[int, bytes],
-) -> Kept | None:
+) -> Row | None:
     """As `continue_run` of the referee, with the images that the service began with as a base: all of it, or nothing."""
     replay = Replay(lambda _: None)
     for blocks in served.began_with():
         replay.apply(blocks)
     with transaction(referee):
-        kept = referee.continue_run(
+        taken = referee.continue_run(
             row, served.run, beat, served.where, least, start, served.table_number
         )
-        if kept is not None:
+        if taken is not None:
             Bases(referee, row.id).keep_all(start[0], replay, start[1])
-    return kept
+    return taken
 
 
 class Beginning:
@@ -69,7 +68,7 @@ class Beginning:
             raise
         except PagelogError as error:
             return await database.standing.give_up(served, error)
-        kept = await self._shared.ask(
+        taken = await self._shared.ask(
             self._shared.referee.take,
             row,
             served.run,
@@ -78,28 +77,13 @@ class Beginning:
             self._shared.numbers.least(row),
             served.table_number,
         )
-        if kept is None:
+        if taken is None:
             return False
-        self._shared.numbers.note(row.identity, kept.generation)
+        self._shared.numbers.note(row.identity, taken.generation)
         self._shared.session.woken.set()  # the next look reports its run
-        served.kind, served.generation, database.served = Kind.HOLDER, kept.generation, served
+        served.kind, served.generation, database.served = Kind.HOLDER, taken.generation, served
         served.is_after_release = row.run is None and row.generation not in (0, database.let_go)
-        database.row = replace(
-            row,
-            generation=kept.generation,
-            run=served.run,
-            holder=self._shared.settings.name,
-            address=where.address,
-            secure=where.secure,
-            archived=kept.archived,
-            base=kept.archived,
-            shift=served.shift,
-            images=served.images,
-            chain=kept.chain,
-            wanted=None,
-            next_generation=kept.generation + 1,
-            run_table=served.table_number,
-        )
+        database.has_changed(taken)
         return True
 
     async def _ready(self, served: Served, row: Row) -> Where:
@@ -143,20 +127,17 @@ class Beginning:
                 database.row, served
             )  # first: whether the address is published may be in doubt
         database.note_seen()  # before anybody writes there
-        where = served.where
-        if row.address is None and not await self._shared.ask(
-            self._shared.referee.publish, row.id, served.run, where
-        ):
-            return False
+        told = None
+        if row.address is None:
+            told = await self._shared.ask(
+                self._shared.referee.publish, row.id, served.run, served.where
+            )
+            if told is None:
+                return False
         if not database.holds:
             return True  # a look has shown meanwhile that another has it
-        database.row = replace(
-            database.row,
-            address=where.address,
-            secure=where.secure,
-            shift=served.shift,
-            images=served.images,
-        )
+        if told is not None:
+            database.has_changed(told)
         self._shared.changed(row.name)
         return True
 
@@ -184,40 +165,24 @@ class Beginning:
         if start is None:
             return True
         least = max(served.generation + 1, self._shared.numbers.least(row))
-        kept = await self._continued(served, row, beat, least, start)
-        if kept is None:
+        taken = await self._continued(served, row, beat, least, start)
+        if taken is None:
             return False  # the next look shows by whom
-        self._shared.numbers.note(row.identity, kept.generation)
+        self._shared.numbers.note(row.identity, taken.generation)
         database.work.stop()  # what was archived of it before is known no more
         served.kind, served.generation, served.went_back, served.back_since = (
             Kind.HOLDER,
-            kept.generation,
+            taken.generation,
             False,
             None,
         )
-        served.reached, served.chain = kept.archived, kept.chain
-        database.row = replace(
-            row,
-            generation=kept.generation,
-            run=served.run,
-            holder=self._shared.settings.name,
-            address=served.where.address,
-            secure=served.where.secure,
-            archived=kept.archived,
-            chain=kept.chain,
-            base=kept.archived,
-            shift=served.shift,
-            images=served.images,
-            wanted=None,
-            succeed=False,
-            next_generation=kept.generation + 1,
-            run_table=served.table_number,
-        )
+        served.reached, served.chain = taken.archived, taken.chain
+        database.has_changed(taken)
         return await self.fill()
 
     async def _continued(
         self, served: Served, row: Row, beat: int | None, least: int, start: tuple[int, bytes]
-    ) -> Kept | None:
+    ) -> Row | None:
         """Where it starts behind what is archived, its images are kept with the statement, as the base from which the archive goes on."""
         if start[0] == row.archived:
             return await self._shared.ask(self._shared.referee.continue_run, row, served.run, beat, served.where, least, start, served.table_number)  # type: ignore[no-any-return]
@@ -264,9 +229,10 @@ class Beginning:
                 shift, images, served.is_open = process.facts.shift, process.facts.images, True
         if process is None:
             database.let_go = row.generation
-            await self._shared.ask(self._shared.referee.release, row.id, row.run)
-            database.row = replace(row, run=None, holder=None, address=None)
-            return True
+            released = await self._shared.ask(self._shared.referee.release, row.id, row.run)
+            if released is not None:  # else the next look shows whose it is
+                database.has_changed(released)
+            return released is not None
         archived, chain = (row.archived, row.chain) if kept is None else (kept.archived, kept.chain)
         served.adopt(process, archived, chain, shift=shift, images=images)
         served.generation, served.table_number = row.generation, row.run_table

@@ -4,7 +4,7 @@ from __future__ import annotations
 
 import asyncio
 from contextlib import suppress
-from dataclasses import dataclass, replace
+from dataclasses import dataclass
 from typing import Any, Mapping
 
 from pagelog.keeper.beginning import Beginning
@@ -35,7 +35,6 @@ from pagelog.keeper.served import Served, seconds
 from pagelog.keeper.shared import LONGEST_REST, Shared
 from pagelog.keeper.standing import Standing
 from pagelog.keeper.succession import Succession
-from pagelog.keeper.switch import Switch
 from pagelog.keeper.waits import Waits
 from pagelog.keeper.work import Work
 from pagelog.repeating import Backoff
@@ -132,13 +131,8 @@ class Database:
             self._ends.clear()  # PostgreSQL went back
         if (row.generation, row.archived) < (self.row.generation, self._confirmed):
             self._seen_back_at = seconds()
-        self.row, self.beat, self._others, self.is_noted, self.is_known = (
-            row,
-            beat,
-            others,
-            is_noted,
-            True,
-        )
+        self.has_changed(row)
+        self.beat, self._others, self.is_noted, self.is_known = beat, others, is_noted, True
         self._reports, self._rose = reports, rose
         self._confirmed = row.archived
         if self.served is not None and not is_noted:
@@ -192,6 +186,10 @@ class Database:
         ):
             self.shared.spawn(self._put_table_back(self.served), row.name)
         self.kick()
+
+    def has_changed(self, row: Row) -> None:
+        """It is as a look has shown it, or as a statement of this keeper has left it."""
+        self.row = row
 
     async def _put_table_back(self, served: Served) -> None:
         """PostgreSQL went back to an older table than that of a service that is here, so that tokens would be good again which were
@@ -600,49 +598,35 @@ class Database:
 
     # What goes on.
 
-    async def goes_on(self, successor: Served, switch: Switch) -> None:
+    async def goes_on(self, successor: Served, row: Row) -> None:
         """The next generation has begun: what is asked of the one before is over, and its service is ended."""
         before, name, generation, recorder = (
             self.own,
-            self.row.name,
-            switch.next,
+            row.name,
+            row.generation,
             self.work.recorder,
         )
         self._switched_at = seconds()
         self.leaving.add(before.run)
         self.work.stop()
         successor.kind, successor.generation, self.served = Kind.HOLDER, generation, successor
-        self.row = replace(
-            self.row,
-            generation=generation,
-            run=successor.run,
-            address=switch.address,
-            secure=switch.secure,
-            base=switch.end,
-            archived=switch.end,
-            shift=switch.shift,
-            images=switch.images,
-            chain=switch.chain,
-            succeed=False,
-            run_table=successor.table_number,
-            next_generation=max(self.row.next_generation, generation + 1),
-        )
+        self.has_changed(row)
         self.after, self.before = (generation, before.run), (before.generation, before.run)
-        self.has_ended(before.run, switch.end)
+        self.has_ended(before.run, row.base)
         self.shared.numbers.note(
             self.row.identity, generation
         )  # before a look shows it: a server that fails over may forget it
         self.watch(successor)
         successor.note_place()
         self.note_seen()
-        self.work.begin(self.row, successor, records=False)
+        self.work.begin(row, successor, records=False)
         self.moves.tell()
         self.shared.changed(name)
         for line in self.waits.taken():
-            line.say("over", name, before.generation, switch.end, *of_word(self.of(before)))
+            line.say("over", name, before.generation, row.base, *of_word(self.of(before)))
         try:
             await self.work.recorded(recorder)
-            await self.work.catch_up(switch.end + 1, _BESIDE)
+            await self.work.catch_up(row.base + 1, _BESIDE)
             await self.ending.end_process(before)
             if recorder is not None:
                 await recorder.end(f"generation {generation} has begun: {self.why}")

@@ -3,13 +3,13 @@
 from __future__ import annotations
 
 import asyncio
-from dataclasses import replace
 from typing import TYPE_CHECKING
 
 from pagelog.errors import PagelogError
 from pagelog.keeper.archiver import Archiver, turn_of
 from pagelog.keeper.lines import of_word
 from pagelog.keeper.machine import Action, Kind
+from pagelog.keeper.rows import Row
 from pagelog.keeper.run import Run, Seen
 from pagelog.keeper.served import Served
 from pagelog.keeper.switch import rehearse_release, release
@@ -42,25 +42,26 @@ class Ending:
             return False
         recorder = database.work.recorder
         async with archiver.turn:
-            archived = await self._release_at(archiver, end)
-            if archived is not None:
+            row = await self._release_at(archiver, end)
+            if row is not None:
                 database.work.stop_archiving()  # at once: its recorder has the rest to keep
-        if archived is not None:
-            return await self._released(archived, recorder)
+        if row is not None:
+            return await self._released(row, recorder)
         return await archiver.reached(end) and database.holds and await self.release()
 
-    async def _release_at(self, archiver: Archiver, end: int) -> int | None:
+    async def _release_at(self, archiver: Archiver, end: int) -> Row | None:
         """Ends the generation with the rest of its log in the archive, and its lines in the trail. None where that was not to be done."""
         async with turn_of(archiver.lining) as recorder:
-            last, archived = await archiver.rest(end, recorder), None
+            last = await archiver.rest(end, recorder)
             if last is None:
                 return None
             self._database.let_go = last.generation  # first: whether it is released may be in doubt
+            row: Row | None = None
             try:
-                archived = await self._shared.ask(release, self._shared.referee, last)
+                row = await self._shared.ask(release, self._shared.referee, last)
             finally:
-                archiver.settle(last.lines, is_kept=archived is not None)
-        return None if archived is None else int(archived)
+                archiver.settle(last.lines, is_kept=row is not None)
+        return row
 
     async def release(self) -> bool:
         """Ends the generation as it is archived. Returns whether to go on."""
@@ -70,16 +71,16 @@ class Ending:
         if not served.is_alive or database.doing is Action.RELEASE:
             await self._ended(served)
         database.let_go = row.generation
-        archived = await self._shared.ask(self._shared.referee.release, row.id, served.run)
-        return archived is not None and await self._released(archived, recorder)
+        released = await self._shared.ask(self._shared.referee.release, row.id, served.run)
+        return released is not None and await self._released(released, recorder)
 
-    async def _released(self, archived: int, recorder: Recorder | None) -> bool:
-        """The generation has ended at this position. Returns whether to go on."""
+    async def _released(self, row: Row, recorder: Recorder | None) -> bool:
+        """The generation has ended, and its row is this. Returns whether to go on."""
         database = self._database
-        served, row = database.own, database.row
+        served, archived = database.own, row.archived
         database.served = None
         database.has_ended(served.run, archived)
-        database.row = replace(row, run=None, holder=None, address=None, archived=archived)
+        database.has_changed(row)
         database.still_for = 0.0  # that was of the row before
         for line in database.waits.taken():
             line.say("over", row.name, row.generation, archived, *of_word(database.of(served)))

@@ -24,7 +24,18 @@ from pagelog.keeper.batches import array_of, statement_of, values_of
 from pagelog.keeper.hosts import shut_down
 from pagelog.keeper.fate import Fate, FateRow, Of, fate_of_rows
 from pagelog.keeper.refusal import is_refusal, line_of
-from pagelog.keeper.rows import Batch, Kept, Look, Named, Origin, Row, TableOf, Where, look_of
+from pagelog.keeper.rows import (
+    Batch,
+    Kept,
+    Look,
+    Named,
+    Origin,
+    Row,
+    TableOf,
+    Where,
+    look_of,
+    row_of,
+)
 from pagelog.keeper.schema import CHANNEL, FORMAT, FOUND, NUMBERED, VERSION, script
 from pagelog.keeper.sealed import Keys, NoKey, Stored
 from pagelog.libpq import UnreadableUrl, count_of_hosts, options_of_url, turn_hosts
@@ -439,12 +450,12 @@ class Referee:
         where: Where = Where(),
         least: int = 0,
         table_number: int = 1,
-    ) -> Kept | None:
+    ) -> Row | None:
         """Makes this keeper the holder, in a new generation of this run, if all is as it was seen, and no newer table than that of this
         number was set. The number of the generation is `least` or above.
 
         `beat` is that of the holder, as it was seen. `where` publishes a service that has all that was seen to be archived. Returns
-        what is archived and will stay so; None where it has changed.
+        the row with it; None where it has changed.
         """
         values = {
             "id": seen.id,
@@ -459,12 +470,19 @@ class Referee:
             **vars(where),
         }
         try:
-            found = self._ask(statements.TAKE, values)
+            return self._row(statements.TAKE, values)
         except Refused as error:
             if isinstance(error.__cause__, psycopg.errors.LockNotAvailable):
                 self._end_sessions(seen.holder)
             raise
-        return Kept(found[0][1], bytes(found[0][2]), found[0][0]) if found else None
+
+    def _row(self, statement: str, values: Mapping[str, Any]) -> Row | None:
+        """The row of a database as this statement, which changes it, has left it; None where it has changed none."""
+        return row_of(self._ask(statement, values))
+
+    def held(self, log: int, run: str) -> Row | None:
+        """The row of a database that this run holds, by a write; None where it holds it no more."""
+        return self._row(statements.HELD, {"id": log, "run": run})
 
     def knows(self, log: int, run: str) -> bool | None:
         """Whether PostgreSQL knows a run as a generation of this database. None where it does not know this life of the keeper, as an old
@@ -506,7 +524,7 @@ class Referee:
         least: int,
         start: tuple[int, bytes],
         table_number: int = 1,
-    ) -> Kept | None:
+    ) -> Row | None:
         """As `take`, with a service that has more than is archived, and is archived again from `start` on, a position with its digest.
         Its generation is `least` at least."""
         values = {
@@ -527,8 +545,7 @@ class Referee:
             "start_chain": start[1],
             "table_number": table_number,
         }
-        found = self._ask(statements.CONTINUE, values)
-        return Kept(found[0][1], bytes(found[0][2]), found[0][0]) if found else None
+        return self._row(statements.CONTINUE, values)
 
     def _end_sessions(self, keeper: str | None) -> None:
         """Ends the sessions of a keeper that stands still with a row locked, as between the two last messages of a statement."""
@@ -547,14 +564,13 @@ class Referee:
             (highest, doubted, database),
         )
 
-    def publish(self, log: int, run: str, where: Where) -> bool:
-        """Tells everyone where it is. False where the run holds the database no more."""
-        return bool(self._ask(statements.PUBLISH, {"id": log, "run": run, **vars(where)}))
+    def publish(self, log: int, run: str, where: Where) -> Row | None:
+        """Tells everyone where it is. Returns the row with it; None where the run holds the database no more."""
+        return self._row(statements.PUBLISH, {"id": log, "run": run, **vars(where)})
 
-    def release(self, log: int, run: str) -> int | None:
-        """Ends the generation of this run: nothing more is archived of it. Returns the archived position, or None."""
-        found = self._ask(statements.END_RUN, {"id": log, "run": run})
-        return int(found[0][0]) if found else None
+    def release(self, log: int, run: str) -> Row | None:
+        """Ends the generation of this run: nothing more is archived of it. Returns the row with it, or None."""
+        return self._row(statements.END_RUN, {"id": log, "run": run})
 
     # The archive.
 
@@ -778,10 +794,11 @@ class Referee:
         )
         return int(found[0][0]) if found else None
 
-    def end_run(self, row: Row) -> int | None:
+    def end_run(self, row: Row) -> Row | None:
         """As `release`, for a person: also where the holder stands still amid a statement."""
-        found = self._ask_past(row.holder, statements.END_RUN, {"id": row.id, "run": row.run})
-        return int(found[0][0]) if found else None
+        return row_of(
+            self._ask_past(row.holder, statements.END_RUN, {"id": row.id, "run": row.run})
+        )
 
     def newest_table(self, log: int) -> tuple[int, str | None] | None:
         """The number of the newest table, and the run that holds the database, by a statement that writes."""

@@ -3,7 +3,7 @@
 from __future__ import annotations
 
 from dataclasses import dataclass, field
-from typing import TYPE_CHECKING, Any, Mapping, NamedTuple
+from typing import TYPE_CHECKING, Any, Mapping, NamedTuple, Sequence
 
 from pagelog.keeper.ways import address_for, way_of
 
@@ -62,7 +62,7 @@ class Row:
 
     @classmethod
     def of(cls, found: Mapping[str, Any]) -> Row:
-        """From a row of the look, whose chain is hexadecimal."""
+        """As statements return it: its chain is hexadecimal."""
         fields: dict[str, Any] = {**found, "chain": bytes.fromhex(found["chain"])}
         return cls(**fields)
 
@@ -284,6 +284,11 @@ def told(holder: str | None, why: Mapping[str, str]) -> str:
         if holder is not None
         else "; ".join(f"{keeper} says: {why[keeper]}" for keeper in sorted(why))
     )
+
+
+def row_of(found: Sequence[Sequence[Any]]) -> Row | None:
+    """That which a statement has returned, if it has changed one."""
+    return Row.of(found[0][0]) if found else None
 
 
 def look_of(

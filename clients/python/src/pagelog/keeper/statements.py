@@ -6,14 +6,29 @@ PAGES_COLUMNS = (
     "run, log, machine, address, position, oldest, table_number, beat, aside, secure, "
     "EXTRACT(epoch FROM now() - seen)::float AS silent"
 )
+_COLUMNS = (
+    "id, name, generation, run, holder, address, archived, base, shift, images, encode(chain, 'hex') AS chain, wanted, succeed, "
+    "read_only, paused, dropped, identity, next_generation, doubted, ancestor, table_number, secure"
+)
+
+
+def _rows(of: str, *, begun: bool = False) -> str:
+    """Selects databases as `Row` has them. What is `begun` are their generations, by the same statement, which does not see them yet."""
+    of_run = "(SELECT g.table_number FROM pagelog_generation g WHERE g.log = o.id AND g.generation = o.generation AND g.run = o.run)"
+    first = (
+        "(SELECT g.base FROM pagelog_generation g WHERE g.log = o.id ORDER BY g.generation LIMIT 1)"
+    )
+    run_table = "%(table_number)s::bigint" if begun else f"COALESCE({of_run}, 1)"
+    return f"SELECT {_COLUMNS}, {run_table} AS run_table, COALESCE({first}, {'base' if begun else 0}) AS copied FROM {of} o"
+
+
+def _row(of: str, *, begun: bool = False) -> str:
+    """Returns the row of the database that a statement has changed, on one line."""
+    return f"SELECT to_json(r) FROM ({_rows(of, begun=begun)}) r"
+
+
 _ALL = f"""  (SELECT COALESCE(json_agg(k), '[]') FROM (SELECT name, run, lines, beat, report, secure FROM pagelog_keeper) k),
-  (SELECT COALESCE(json_agg(l), '[]') FROM (
-    SELECT id, name, generation, run, holder, address, archived, base, shift, images, encode(chain, 'hex') AS chain, wanted,
-      succeed, read_only, paused, dropped, identity, next_generation, doubted, ancestor, table_number, secure,
-      COALESCE((SELECT g.table_number FROM pagelog_generation g WHERE g.log = o.id AND g.generation = o.generation AND g.run = o.run), 1)
-        AS run_table,
-      COALESCE((SELECT g.base FROM pagelog_generation g WHERE g.log = o.id ORDER BY g.generation LIMIT 1), 0) AS copied
-    FROM pagelog_log o WHERE format = {FORMAT} ORDER BY name) l),
+  (SELECT COALESCE(json_agg(l), '[]') FROM ({_rows("pagelog_log")} WHERE format = {FORMAT} ORDER BY name) l),
   (SELECT COALESCE(json_agg(s), '[]') FROM (SELECT log, keeper, address, run, reached, shift, images, table_number, secure FROM pagelog_standby) s),
   current_setting('synchronous_standby_names'),
   CASE WHEN pg_has_role('pg_read_all_stats', 'USAGE')
@@ -60,9 +75,8 @@ FROM pg_database d WHERE d.datname = current_database()
 """
 """Whether anybody may connect, whether this role may change that, and whether another role has a right to a table."""
 
-RELEASED = (
-    f"pg_notify('{CHANNEL}', concat_ws(' ', name, generation, archived, encode(chain, 'hex')))"
-)
+_RELEASED = f"SELECT to_json(r), pg_notify('{CHANNEL}', concat_ws(' ', name, generation, archived, chain)) FROM ({_rows('ended')}) r"
+"""As `_row`, of one that nobody holds any more, which all keepers hear of."""
 
 REACHED = """
 SELECT (pg_current_wal_flush_lsn() - '0/0')::bigint, (SELECT (max(flush_lsn) - '0/0')::bigint FROM pg_stat_replication
@@ -73,7 +87,7 @@ WAITS_FOR_STANDBY = """
 SELECT set_config('synchronous_commit', 'on', false) WHERE current_setting('synchronous_commit') NOT IN ('on', 'remote_apply')
 """
 
-TAKE = """
+TAKE = f"""
 WITH taken AS (
   UPDATE pagelog_log SET generation = GREATEST(next_generation, %(least)s),
     next_generation = GREATEST(next_generation, %(least)s) + 1, run = %(run)s, holder = %(me)s,
@@ -83,12 +97,12 @@ WITH taken AS (
     AND (%(address)s::text IS NULL OR chain = %(chain)s) AND NOT paused AND NOT dropped
     AND table_number <= %(table_number)s
     AND (%(beat)s::bigint IS NULL OR NOT EXISTS (SELECT 1 FROM pagelog_keeper k WHERE k.name = holder AND k.beat > %(beat)s::bigint))
-  RETURNING id, generation, archived, chain, shift),
+  RETURNING *),
 begun AS (
   INSERT INTO pagelog_generation (log, generation, run, holder, base, shift, images, table_number)
   SELECT id, generation, %(run)s, %(me)s, archived, shift, COALESCE(%(images)s::bigint, 0), %(table_number)s FROM taken),
 gone AS (DELETE FROM pagelog_standby WHERE log IN (SELECT id FROM taken) AND keeper = %(me)s)
-SELECT generation, archived, chain FROM taken
+{_row('taken', begun=True)}
 """
 
 KNOWS = """
@@ -106,7 +120,7 @@ FROM pagelog_generation g JOIN pagelog_log l ON l.id = g.log WHERE g.run = %(run
 """
 """Which database a run is a generation of, whether that was dropped, and where the generation ended; by a write, as `KNOWS`."""
 
-CONTINUE = """
+CONTINUE = f"""
 WITH taken AS (
   UPDATE pagelog_log SET generation = GREATEST(next_generation, %(least)s::bigint),
     next_generation = GREATEST(next_generation, %(least)s::bigint) + 1, run = %(run)s, holder = %(me)s,
@@ -115,12 +129,12 @@ WITH taken AS (
   WHERE id = %(id)s AND generation = %(generation)s AND archived = %(archived)s AND run IS NOT DISTINCT FROM %(seen_run)s::text
     AND chain = %(chain)b::bytea AND NOT paused AND NOT dropped AND table_number <= %(table_number)s
     AND (%(beat)s::bigint IS NULL OR NOT EXISTS (SELECT 1 FROM pagelog_keeper k WHERE k.name = holder AND k.beat > %(beat)s::bigint))
-  RETURNING id, generation, archived, chain, shift, images),
+  RETURNING *),
 begun AS (
   INSERT INTO pagelog_generation (log, generation, run, holder, base, shift, images, table_number)
   SELECT id, generation, %(run)s, %(me)s, archived, shift, images, %(table_number)s FROM taken),
 gone AS (DELETE FROM pagelog_standby WHERE log IN (SELECT id FROM taken) AND keeper = %(me)s)
-SELECT generation, archived, chain FROM taken
+{_row('taken', begun=True)}
 """
 """As `TAKE`, with a service that has all that is archived, and more, which PostgreSQL has lost. Its generation is above each number that
 its keeper knows. It starts at the archived position, or where it began with images, at these."""
@@ -181,13 +195,13 @@ UPDATE pagelog_log SET next_generation = GREATEST(next_generation, %(least)s) + 
 WHERE id = %(id)s AND run = %(run)s AND generation = %(generation)s AND NOT dropped RETURNING next_generation - 1
 """
 
-SUCCEED = """
+SUCCEED = f"""
 WITH begun AS (
   UPDATE pagelog_log SET generation = %(next)s, run = %(next_run)s, holder = %(me)s, address = %(address)s, secure = %(secure)s, shift = %(shift)s,
     images = %(images)s, base = %(new)s, archived = %(new)s, chain = %(chain)b, succeed = false
   WHERE id = %(id)s AND run = %(run)s AND generation = %(generation)s AND archived = %(old)s AND next_generation > %(next)s AND NOT dropped
     AND table_number <= %(table_number)s
-  RETURNING id, generation),
+  RETURNING *),
 noted AS (
   INSERT INTO pagelog_generation (log, generation, run, holder, base, shift, images, table_number)
   SELECT id, generation, %(next_run)s, %(me)s, %(new)s, %(shift)s, %(images)s, %(table_number)s FROM begun),
@@ -195,26 +209,31 @@ kept AS (
   INSERT INTO pagelog_block (log, lsn, crc, data)
   SELECT begun.id, %(old)s + b.n, b.crc, substring(%(bytes)b::bytea FROM b.start FOR b.length)
   FROM begun, unnest(%(crcs)s::bigint[], %(starts)s::integer[], %(lengths)s::integer[]) WITH ORDINALITY AS b(crc, start, length, n))
-SELECT generation FROM begun
+{_row('begun', begun=True)}
 """
 SUCCEED_WITH_LINES = with_lines(SUCCEED, "begun")
 
 RELEASE = f"""
 WITH ended AS (
   UPDATE pagelog_log SET run = NULL, holder = NULL, address = NULL, archived = %(new)s, chain = %(chain)b
-  WHERE id = %(id)s AND run = %(run)s AND generation = %(generation)s AND archived = %(old)s RETURNING id, name, generation, archived, chain),
+  WHERE id = %(id)s AND run = %(run)s AND generation = %(generation)s AND archived = %(old)s RETURNING *),
 kept AS (
   INSERT INTO pagelog_block (log, lsn, crc, data)
   SELECT ended.id, %(old)s + b.n, b.crc, substring(%(bytes)b::bytea FROM b.start FOR b.length)
   FROM ended, unnest(%(crcs)s::bigint[], %(starts)s::integer[], %(lengths)s::integer[]) WITH ORDINALITY AS b(crc, start, length, n))
-SELECT archived, {RELEASED} FROM ended
+{_RELEASED}
 """
 RELEASE_WITH_LINES = with_lines(RELEASE, "ended")
 
+HELD = f"""
+WITH held AS (UPDATE pagelog_log SET archived = archived WHERE id = %(id)s AND run = %(run)s RETURNING *)
+{_row('held')}
+"""
+
 END_RUN = f"""
 WITH ended AS (
-  UPDATE pagelog_log SET run = NULL, holder = NULL, address = NULL WHERE id = %(id)s AND run = %(run)s RETURNING name, generation, archived, chain)
-SELECT archived, {RELEASED} FROM ended
+  UPDATE pagelog_log SET run = NULL, holder = NULL, address = NULL WHERE id = %(id)s AND run = %(run)s RETURNING *)
+{_RELEASED}
 """
 
 FATE = f"""
@@ -270,11 +289,14 @@ DROP_WITH_TRAIL = _DROP.format(
 renamed AS (UPDATE pagelog_trail_list t SET log = gone.name FROM gone WHERE t.log = %(name)s)"""
 )
 
-PUBLISH = """
+PUBLISH = f"""
 WITH told AS (
   UPDATE pagelog_log SET address = %(address)s, secure = %(secure)s, shift = %(shift)s, images = %(images)s
-  WHERE id = %(id)s AND run = %(run)s RETURNING id, generation)
-UPDATE pagelog_generation g SET shift = %(shift)s, images = %(images)s FROM told WHERE g.log = told.id AND g.generation = told.generation RETURNING g.log
+  WHERE id = %(id)s AND run = %(run)s RETURNING *),
+noted AS (
+  UPDATE pagelog_generation g SET shift = %(shift)s, images = %(images)s FROM told
+  WHERE g.log = told.id AND g.generation = told.generation RETURNING g.log)
+{_row('told')} WHERE EXISTS (SELECT 1 FROM noted)
 """
 
 TABLE = """

@@ -18,10 +18,11 @@ from pagelog.keeper.basing import SMALL, Wish, made_of
 from pagelog.keeper.loading import Loader
 from pagelog.keeper.machine import Stage
 from pagelog.keeper.referee import Away, BrokenArchive, Doubt, Referee, Refused, digest
+from pagelog.keeper.rows import Row
 from pagelog.keeper.run import new_run
 from pagelog.keeper.served import Served, seconds
 from pagelog.keeper.shared import LONGEST_REST
-from pagelog.keeper.switch import Switch, has_begun, number, rehearse, succeed
+from pagelog.keeper.switch import Switch, begun, may_begin, number, rehearse, succeed
 from pagelog.repeating import Backoff
 
 if TYPE_CHECKING:
@@ -266,16 +267,16 @@ class Succession:
         began = seconds()
         try:
             async with turn_of(archiver.lining) as recorder:
-                switch, closed, is_done = await self._ask(
+                switch, closed, row = await self._ask(
                     self._moved, served, successor, loader, recorder
                 )
-                is_done = is_done or await self._switched(switch)
-                archiver.settle(switch.lines, is_kept=is_done)
+                row = row or await self._switched(switch)
+                archiver.settle(switch.lines, is_kept=row is not None)
         except PagelogError as error:
             await self._fail(error)
             await self._open_again(served)
             return True
-        if not is_done:
+        if row is None:
             await self._fail(Refused("the database is another's, or its archive continued"))
             await self._open_again(served)
             return True
@@ -287,7 +288,7 @@ class Succession:
         self._successor = None
         self._rests.reset()
         try:
-            await self._database.goes_on(successor, switch)
+            await self._database.goes_on(successor, row)
         finally:
             self._end()
         return True
@@ -299,9 +300,9 @@ class Succession:
         successor: Served,
         loader: Loader,
         recorder: Recorder | None,
-    ) -> tuple[Switch, float, bool]:
+    ) -> tuple[Switch, float, Row | None]:
         """From the fence to the switch, in a thread, with no step of the event loop between. Returns what was asked, when, and
-        whether the next generation has begun for certain."""
+        the row where the next generation has begun for certain."""
         switch = _closed(self._database.row.id, self._number, served, successor, loader)
         if recorder is not None and switch.blocks:
             switch = replace(switch, lines=recorder.last_lines())
@@ -310,16 +311,18 @@ class Succession:
             return switch, closed, succeed(referee, switch)
         except (Away, Doubt, Refused) as error:
             self._say(f"the switch: {error}")
-            return switch, closed, False
+            return switch, closed, None
 
-    async def _switched(self, switch: Switch) -> bool:
-        """Whether the next generation has begun after all, or begins now; else it never will. Nobody may write until it is known."""
+    async def _switched(self, switch: Switch) -> Row | None:
+        """The row where the next generation has begun after all, or begins now; else it never will. Nobody may write until it is known."""
         waits = Backoff(0.05, 1.0)
         while True:
             try:
-                found = await self._ask(has_begun, switch)
-                if found is not None or (found := await self._ask(succeed, switch)):
-                    return found
+                row = await self._ask(begun, switch)
+                if row is not None or not await self._ask(may_begin, switch):
+                    return row
+                if (row := await self._ask(succeed, switch)) is not None:
+                    return row
             except (Away, Doubt, Refused) as error:
                 self._say_again(f"the switch: {error}")
             await asyncio.sleep(waits.next())

@@ -7,7 +7,7 @@ from dataclasses import dataclass, field
 from pagelog.keeper import statements
 from pagelog.keeper.batches import values_of_blocks, values_of_lines, values_of_one
 from pagelog.keeper.referee import Referee
-from pagelog.keeper.rows import Batch, Lines
+from pagelog.keeper.rows import Batch, Lines, Row, row_of
 from pagelog.keeper.schema import CHANNEL, FORMAT
 
 
@@ -51,13 +51,13 @@ def number(referee: Referee, log: int, run: str, generation: int, least: int = 0
     return int(found[0][0]) if found else None
 
 
-def succeed(referee: Referee, switch: Switch) -> bool:
+def succeed(referee: Referee, switch: Switch) -> Row | None:
     """Makes the next run the one that serves, if the old one still holds the database and nothing more is archived of it.
 
-    Returns whether it does. It does not where PostgreSQL has gone back, and has not given the number of its generation.
+    Returns the row with it. None also where PostgreSQL has gone back, and has not given the number of its generation.
     """
     statement = statements.SUCCEED if switch.lines is None else statements.SUCCEED_WITH_LINES
-    return bool(
+    return row_of(
         referee._ask(
             statement,
             {
@@ -82,26 +82,27 @@ def succeed(referee: Referee, switch: Switch) -> bool:
     )
 
 
-def release(referee: Referee, last: Batch) -> int | None:
+def release(referee: Referee, last: Batch) -> Row | None:
     """Archives the last blocks of a run and ends its generation, if it still holds the database and nothing more is archived of it.
 
-    Returns the archived position then; None where nothing was done.
+    Returns the row then; None where nothing was done.
     """
     statement = statements.RELEASE if last.lines is None else statements.RELEASE_WITH_LINES
-    found = referee._ask(statement, values_of_one(last))
-    return int(found[0][0]) if found else None
+    return row_of(referee._ask(statement, values_of_one(last)))
 
 
-def has_begun(referee: Referee, switch: Switch) -> bool | None:
-    """Whether a switch in doubt was carried out, by statements that write; None where it was not, and may be asked again."""
-    if referee.kept(switch.log, switch.next_run) is not None:
-        return True
+def begun(referee: Referee, switch: Switch) -> Row | None:
+    """The row where a switch in doubt was carried out, by statements that write. The first of them waits for the switch itself, if that
+    still runs, and would not see all of it."""
+    if referee.kept(switch.log, switch.next_run) is None:
+        return None
+    return referee.held(switch.log, switch.next_run)
+
+
+def may_begin(referee: Referee, switch: Switch) -> bool:
+    """Whether one that was not carried out may be asked again; else it never will be."""
     kept = referee.kept(switch.log, switch.run)
-    return (
-        None
-        if kept is not None and kept.archived == switch.old and has_newest_table(referee, switch)
-        else False
-    )
+    return kept is not None and kept.archived == switch.old and has_newest_table(referee, switch)
 
 
 def has_newest_table(referee: Referee, switch: Switch) -> bool:
