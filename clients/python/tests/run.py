@@ -86,6 +86,7 @@ PARTS = {
     "test_repeating": "waits between repetitions, and how often they are said",
     "test_many": "keepers of very many databases",
     "test_machine": "what a keeper decides",
+    "test_house": "what the source keeps to",
     "test_meanwhile": "what changes while a keeper waits for something",
     "test_beginnings": "what changes while a service is filled, adopted, or follows",
     "test_turns": "whose turn it is to write",

@@ -23,6 +23,7 @@ from pagelog.keeper.machine import Kind
 from pagelog.keeper.referee import Away, Doubt
 from pagelog.keeper.rows import Kept, TableOf
 from pagelog.keeper.run import NotStarted, _facts_of
+from pagelog.keeper.served import Access
 from pagelog.keeper.settings import Settings
 from pagelog.keeper.shared import Shared
 from service import PATIENCE
@@ -41,7 +42,7 @@ class Fills(Meanwhile):
             done = threading.Event()
             loop.call_soon_threadsafe(lambda: (self.see(seen), done.set()))
             done.wait(PATIENCE)
-            served.is_open = True
+            served.access = Access.OPEN
 
         served.open = opened
         self.session.ask = AsyncMock(
@@ -107,7 +108,7 @@ class Fills(Meanwhile):
                 self.see(replace(ROW, address=None))
                 await self.done(lambda: self.database._acting.done())  # type: ignore[union-attr]
                 self.assertEqual(
-                    (fill.await_count, self.database.served, served.is_broken),
+                    (fill.await_count, self.database.served, served.health.is_broken),
                     (count, served, False),
                 )
         self.assertTrue(served.open.called)
@@ -122,7 +123,7 @@ class Fills(Meanwhile):
         ):  # by quarters of a ttl; in between it was away
             self.setUp()
             self.database.served = served = service(reached=0, loaded=0, is_open=False)
-            type(served).is_alive = property(lambda of: not of.is_broken)
+            type(served).is_alive = property(lambda of: not of.health.is_broken)
             refused, now = Away("too many connections for role"), 0.0
             with patch("pagelog.keeper.database.seconds", lambda: now), patch.object(
                 Shared, "fill", new=AsyncMock(side_effect=refused)
@@ -131,7 +132,7 @@ class Fills(Meanwhile):
                     now = look * PATIENCE / 4
                     self.see(replace(ROW, address=None))
                     await self.done(lambda: self.database._acting.done())  # type: ignore[union-attr]
-                    if served.is_broken:
+                    if served.health.is_broken:
                         break
             self.assertEqual((look, self.database._failed_at), (last, now))
             self.assertIn("it could not be filled: too many connections for role", self.said)
@@ -145,7 +146,7 @@ class Fills(Meanwhile):
                 with patch.object(Shared, "fill", new=AsyncMock(side_effect=Doubt("cut"))):
                     self.see(replace(ROW, address=None))
                     await self.done(lambda: self.database._acting.done())  # type: ignore[union-attr]
-        self.assertEqual((self.database.served, served.is_broken), (served, False))
+        self.assertEqual((self.database.served, served.health.is_broken), (served, False))
 
 
 class ReadsAhead(unittest.TestCase):
@@ -369,7 +370,7 @@ class StandsBy(Meanwhile):
                 self.see(self.OTHER, is_noted=True)
                 await self.done(lambda: self.database._acting.done())  # type: ignore[union-attr]
             self.assertEqual(
-                (self.database.served, served.is_broken),
+                (self.database.served, served.health.is_broken),
                 (served, False) if has_gone_back else (None, True),
             )
 

@@ -131,7 +131,7 @@ class Hot(Referees, unittest.IsolatedAsyncioTestCase):
         kept = self.taken()
         self.served = Served("shop", "r1", WIDE_TABLE, b"s" * 16, timeout=PATIENCE)
         self.served.start(Program(PROGRAM, "127.0.0.1", self.folder, 1_000_000))
-        self.served.generation = kept.generation
+        self.served.hold(kept.generation)
         self.served.open()
         self.database = Database(self.shared, replace(self.seen(), address="there"))
         self.database.served = self.served
@@ -475,12 +475,8 @@ class Shifted(Hot):
             self.row.id,
         )
         self.written = made
-        self.served.shift, self.served.reached, self.served.hard, self.served.chain = (
-            40,
-            40,
-            40,
-            digest(b"", made),
-        )
+        self.served.lie(40, 0)
+        self.served.reach(40, digest(b"", made))
         super().begin()
 
     async def test_positions_are_those_of_the_archive(self) -> None:
@@ -566,7 +562,7 @@ class Lines(Hot):
             self.assertEqual(
                 await client.ask("where nobody"), "nowhere nobody"
             )  # which comes behind them
-            self.assertEqual((ring.call_count, self.served.is_full), (0, False))
+            self.assertEqual((ring.call_count, self.served.health.is_full), (0, False))
             client.send(f"ring shop {g} of={self.database.row.identity}/r1")
             await self.until(lambda: ring.called, "a ring of its own")
 
@@ -893,7 +889,7 @@ class Statements(Hot):
         self.assertEqual(await client.answer(), self.durable(position))
         await self.until(lambda: way._is_over, "its end")
         self.assertEqual(way.last, (position, digest(b"", self.written)))
-        self.served.reached, self.served.chain = way.last
+        self.served.reach(*way.last)
         self.begin()
         await self.hot(client)
         self.assert_whole()
@@ -938,7 +934,7 @@ class Fences(Hot):
             "archived = archived - 1, chain = 'otherotherother!'", is_over=True, is_told=True
         )
         self.assertTrue(
-            self.was.is_stuck and self.served.went_back
+            self.was.is_stuck and self.served.lack.went_back
         )  # it was let go of, and its service is quarantined
 
     async def test_the_archive_went_back(self) -> None:

@@ -107,7 +107,7 @@ class Looks(unittest.IsolatedAsyncioTestCase):
                 await asyncio.to_thread(writer.commit)
             with without_threads():
                 self.assertTrue(await served.looked_at_once())
-        self.assertEqual((served.hard, served.answers), (101, 3))
+        self.assertEqual((served.hard, served.health.answers), (101, 3))
         for _ in range(20):
             self.assertTrue(await served.looked_at_once())
         operator = served.operator()
@@ -185,16 +185,16 @@ class Looks(unittest.IsolatedAsyncioTestCase):
             for each, of in zip(works, hang):
                 each.see(of)
             work.see(served)
-            await asyncio.wait_for(self.until(lambda: served.answers == count), PATIENCE)
+            await asyncio.wait_for(self.until(lambda: served.health.answers == count), PATIENCE)
             self.assertEqual(await session.ask(lambda: count), count)
-        self.assertEqual(([of.answers for of in hang], self.said), ([0] * len(hang), []))
+        self.assertEqual(([of.health.answers for of in hang], self.said), ([0] * len(hang), []))
 
     async def test_memory_is_measured_with_each_look_and_decides_until_the_next(self) -> None:
         served = self.served()
         self.assertEqual(served.share(1 << 24, 1 << 10), 0.0)
         begun = served.measure()
         self.assertGreater(begun, 1 << 20)
-        served.begun = begun // 4
+        served.health.begun = begun // 4
         self.assertGreater(served.share(1 << 24, 2 * begun), 0.4)
         self.assertEqual(served.share(1 << 24, 0), 0.0)
 

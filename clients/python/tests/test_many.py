@@ -344,7 +344,7 @@ class Other:
         self.test, self.row, self.written = hot, row, list[bytes]()
         self.served = Served(row.name, row.run or "", WIDE_TABLE, b"s" * 16, timeout=PATIENCE)
         self.served.start(Program(PROGRAM, "127.0.0.1", hot.folder, 1_000_000))
-        self.served.generation = row.generation
+        self.served.hold(row.generation)
         self.served.open()
         self.database = Database(hot.shared, row)
         self.database.served = self.served

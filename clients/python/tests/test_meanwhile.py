@@ -32,7 +32,7 @@ from pagelog.keeper.recorder import Recorder, Turn
 from pagelog.keeper.referee import Away, Doubt, Referee, Refused
 from pagelog.keeper.rows import Batch, KeeperRow, Kept, Lines, Look, Row, StandbyRow
 from pagelog.keeper.run import Seen
-from pagelog.keeper.served import Served
+from pagelog.keeper.served import Access, Health, Lack, RunLog, Served
 from pagelog.keeper.session import Session
 from pagelog.keeper.settings import Settings
 from pagelog.keeper.shared import Shared
@@ -49,38 +49,63 @@ RELEASED = replace(ROW, run=None, holder=None, address=None, generation=0, archi
 OF_C = StandbyRow(1, "c", "c:1", "sc", 5)
 
 
-def service(**facts: Any) -> Mock:
+class Service(Mock):
+    """A service that is asked nothing. What becomes known of it its own methods note."""
+
+    def _get_child_mock(self, **of: Any) -> Mock:
+        return Mock(**of)
+
+    reached, chain, shift, images, hard, is_open = (
+        Served.reached,
+        Served.chain,
+        Served.shift,
+        Served.images,
+        Served.hard,
+        Served.is_open,
+    )
+    hold, stand_by, note_standby, reach, fail, lack_memory, be_silent, be_lacked, be_only_copy = (
+        Served.hold,
+        Served.stand_by,
+        Served.note_standby,
+        Served.reach,
+        Served.fail,
+        Served.lack_memory,
+        Served.be_silent,
+        Served.be_lacked,
+        Served.be_only_copy,
+    )
+    be_apart, begin_again, take_process = (
+        Served.be_apart,
+        Served.begin_again,
+        Served.take_process,
+    )
+
+
+def service(
+    *, reached: int = 5, hard: int = 5, is_open: bool = True, is_full: bool = False, **facts: Any
+) -> Mock:
     """A service of this keeper that holds the database of `ROW`, as far as these facts say nothing else."""
     known = {
         "database": "shop",
         "run": "mine",
         "kind": Kind.HOLDER,
         "generation": 3,
-        "reached": 5,
-        "chain": b"c" * 16,
-        "hard": 5,
-        "shift": 0,
-        "images": 0,
-        "answers": 0,
+        "log": RunLog(reached=reached, chain=b"c" * 16, hard=hard),
+        "health": Health(is_full=is_full),
+        "lack": Lack(),
+        "access": Access.OPEN if is_open else Access.CLOSED,
+        "acknowledged": None,
         "entries": 0,
-        "silent": 0.0,
         "is_alive": True,
-        "is_broken": False,
-        "is_open": True,
-        "was_closed": False,
         "hangs": False,
-        "went_back": False,
         "is_noted": False,
         "is_after_release": False,
-        "is_full": False,
-        "back_since": None,
-        "is_apart": False,
         "table_number": 1,
         "identity": "",
         "unreached": 0.0,
         **facts,
     }
-    made = Mock(**known)
+    made = Service(**known)
     made.share.return_value = 0.0
     made.looked_at_once = AsyncMock(return_value=True)
     if made.process is not None:
@@ -321,15 +346,17 @@ class Archives(Meanwhile):
         self.ways.ends = [End.NOT_KEPT]
         self.doubts.look_up = AsyncMock(return_value=Kept(2, b"other", 3))
         served = self.held(has=Mock(return_value=False))
-        await self.done(lambda: served.went_back)
+        await self.done(lambda: served.lack.went_back)
         self.see(replace(ROW, archived=2, chain=b"other"))
-        self.assertTrue(served.went_back)
+        self.assertTrue(served.lack.went_back)
 
     async def test_what_is_to_be_set_aside_is_not_forgotten_where_its_disk_is_full(self) -> None:
         process = Mock(descriptor=0, seen=Seen())
         process.set_aside.side_effect = OSError(28, "no space"), OSError(28, "no space"), None
         with patch("asyncio.sleep", new=AsyncMock()) as waited:
-            await self.database.ending.end_process(service(process=process, went_back=True))
+            await self.database.ending.end_process(
+                service(process=process, lack=Lack(went_back=True))
+            )
         self.assertEqual(
             (process.set_aside.call_count, waited.await_count, self.shared.asides._facts),
             (3, 2, [process.facts]),
@@ -464,13 +491,9 @@ class Closes(Meanwhile):
         for wanted in (replace(ROW, paused=True), ROW):
             self.setUp()
             self.database.served = served = Served("shop", "mine", "", b"", timeout=PATIENCE)
-            served.generation, served.reached, served.chain, served.hard, served.is_open = (
-                3,
-                5,
-                ROW.chain,
-                5,
-                True,
-            )
+            served.hold(3)
+            served.reach(5, ROW.chain)
+            served.access = Access.OPEN
             served.process = Mock(descriptor=0, memory=0, is_alive=True)
             served._operator, served._looker = operator, _ = Mock(), Mock()
             operator.fence.return_value.hard = 5
@@ -538,7 +561,7 @@ class Successions(Meanwhile):
             with patch("pagelog.keeper.succession.turn_of", Mock(return_value=AsyncMock())):
                 self.assertTrue(await succession.switch(archiver))
             self.assertEqual(
-                (succession.stage, served.is_broken, served.open.called),
+                (succession.stage, served.health.is_broken, served.open.called),
                 (Stage.FAILED, is_broken, not is_broken),
             )
 
@@ -551,7 +574,7 @@ class Successions(Meanwhile):
         served = self.held()
         for name, generation in (("other", 3), ("shop", 2), ("shop", 4)):
             Keeper.full(keeper, Mock(), name, generation)
-        self.assertIs(served.is_full, False)
+        self.assertIs(served.health.is_full, False)
         for _ in range(2):
             Keeper.full(keeper, Mock(), "shop", 3)
         await self.done(lambda: prepared.called)

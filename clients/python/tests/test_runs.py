@@ -277,7 +277,7 @@ class Runs(unittest.TestCase):
         with self.assertRaises((OlderEpoch, TableRow)):
             writer.commit()
         served.look()
-        self.assertEqual((served.hard, served.answers), (1, 1))
+        self.assertEqual((served.hard, served.health.answers), (1, 1))
         self.assertEqual([len(served.pulled(0)), served.pulled(1)], [1, []])
 
     def test_what_was_not_archived_when_a_service_was_closed_is_brought_to_the_next_one(
@@ -398,14 +398,15 @@ class Runs(unittest.TestCase):
         os.close(memory)
 
     def test_its_process_remembers_its_database_and_the_newest_table(self) -> None:
-        served = Served("shop", "r", WIDE_TABLE, SECRET, timeout=PATIENCE)
-        served.identity, served.ancestor = "i", "ship"
+        served = Served(
+            "shop", "r", WIDE_TABLE, SECRET, timeout=PATIENCE, identity="i", ancestor="ship"
+        )
         served.start(self.program)
         self.addCleanup(served.end)
         adopted = Run.adopt(self.folder, "shop", "r")
         assert adopted is not None and served.acknowledged is not None
         self.addCleanup(adopted.leave)
-        served.reached = 7
+        served.reach(7, b"")
         for text in (WIDE_TABLE, *(f"# {number}\n{WIDE_TABLE}" for number in range(2, 5))):
             self.assertEqual(adopted.definition, Definition("i", text, SECRET, "ship"))
             served.renew(

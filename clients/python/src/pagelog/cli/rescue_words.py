@@ -259,7 +259,7 @@ def _history_by(referee: Referee, row: Row | None, each: dict[str, Any], of: Def
     facts = Facts(each["name"], each["run"], each["pid"], 0, "", each["address"])
     served = Served(facts.name, facts.run, of.text, of.secret, timeout=timeout())
     served.serve(Run(Path(), facts, -1))
-    served.shift, served.images = each["shift"], each["images"]
+    served.lie(each["shift"], each["images"])
     return History(
         each["keeper"],
         facts,

@@ -73,7 +73,7 @@ class Archiver:
         """One whose last batch was not kept: it is tried again, and the service is asked for nothing."""
         self._pauses, self._not_before = Backoff(0.05, _LONGEST), 0.0
         """How long it waits after a try that failed, and until when."""
-        self._was_full = served.is_full
+        self._was_full = served.health.is_full
         self.recorder: Recorder | None = None
         """Who keeps the lines of its audit list, if they are kept."""
         self._is_suspect = False
@@ -272,12 +272,12 @@ class Archiver:
         try:
             await asyncio.to_thread(self._served.ask_for_more)
         except (AuditListFull, TurnsSpent):
-            self._served.is_broken = True
+            self._served.fail()
             return False
         except PagelogError as error:
             self._say(self._row.name, f"a pull failed: {error}")
         if (
-            self._served.is_full and not self._was_full
+            self._served.health.is_full and not self._was_full
         ):  # another follows it, as where it had none for a writer
             self._was_full = True
             self._changed()
@@ -322,14 +322,16 @@ class Archiver:
                 self._row.name,
                 f"the archive went back, to position {kept.archived}, and has other blocks there: the service is quarantined",
             )
-            self.is_stuck = served.went_back = served.is_apart = True
+            self.is_stuck = True
+            served.be_lacked(True)
+            served.be_apart(True)
             return False
         if kept.archived < served.reached:
             self._say(
                 self._row.name,
                 f"the archive went back, to position {kept.archived}: what the service has after it is archived again",
             )
-        served.reached, served.chain = kept.archived, kept.chain
+        served.reach(kept.archived, kept.chain)
         self._tell()
         if served.hard > served.reached or len(self._waits):
             self.ring()
@@ -388,7 +390,7 @@ class Archiver:
         served = self._served
         reached, chain = way.reached
         if reached > served.reached:
-            served.reached, served.chain, served.hard = reached, chain, max(served.hard, reached)
+            served.reach(reached, chain)
             self._tell()
 
     # The end of the run's log.

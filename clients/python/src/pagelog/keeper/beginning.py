@@ -81,8 +81,10 @@ class Beginning:
             return False
         self._shared.numbers.note(row.identity, taken.generation)
         self._shared.session.woken.set()  # the next look reports its run
-        served.kind, served.generation, database.served = Kind.HOLDER, taken.generation, served
-        served.is_after_release = row.run is None and row.generation not in (0, database.let_go)
+        served.hold(taken.generation)
+        if row.run is None and row.generation not in (0, database.let_go):
+            served.follow_release()
+        database.served = served
         database.has_changed(taken)
         return True
 
@@ -99,7 +101,7 @@ class Beginning:
         """Fills the service of the generation that was taken, opens it, and publishes where it is."""
         database = self._database
         served, row = database.own, database.row
-        served.kind, served.generation = Kind.HOLDER, row.generation
+        served.hold(row.generation)
         is_fresh = served.process is None
         try:
             if is_fresh:
@@ -116,7 +118,7 @@ class Beginning:
             if is_away and not self._is_stuck(served):
                 raise  # it goes on from there
             self._shared.repeats.say(row.name, f"it could not be filled: {error}")
-            served.is_broken = True
+            served.fail()
             if is_fresh or is_away:  # else it was a standby, and a fresh one may do better
                 database.has_failed()
             return True
@@ -161,7 +163,7 @@ class Beginning:
         except PagelogError as error:
             self._say(f"the service does not answer its keeper: {error}")
             return False
-        served.is_apart = start is None
+        served.be_apart(start is None)
         if start is None:
             return True
         least = max(served.generation + 1, self._shared.numbers.least(row))
@@ -170,13 +172,7 @@ class Beginning:
             return False  # the next look shows by whom
         self._shared.numbers.note(row.identity, taken.generation)
         database.work.stop()  # what was archived of it before is known no more
-        served.kind, served.generation, served.went_back, served.back_since = (
-            Kind.HOLDER,
-            taken.generation,
-            False,
-            None,
-        )
-        served.reached, served.chain = taken.archived, taken.chain
+        served.begin_again(taken.generation, taken.archived, taken.chain)
         database.has_changed(taken)
         return await self.fill()
 
@@ -220,13 +216,13 @@ class Beginning:
         process = await asyncio.to_thread(
             Run.adopt, settings.program.folder, row.name, row.run
         )  # last: it opens a descriptor
-        shift, images = row.shift, row.images
+        shift, images, is_open = row.shift, row.images, False
         if process is not None and row.address is None:
             if not await self._is_lost(served, process):
                 await self._put_away(served, process)
                 process = None
             else:  # PostgreSQL has lost where it is, and where positions are there
-                shift, images, served.is_open = process.facts.shift, process.facts.images, True
+                shift, images, is_open = process.facts.shift, process.facts.images, True
         if process is None:
             database.let_go = row.generation
             released = await self._shared.ask(self._shared.referee.release, row.id, row.run)
@@ -234,8 +230,16 @@ class Beginning:
                 database.has_changed(released)
             return released is not None
         archived, chain = (row.archived, row.chain) if kept is None else (kept.archived, kept.chain)
-        served.adopt(process, archived, chain, shift=shift, images=images)
-        served.generation, served.table_number = row.generation, row.run_table
+        served.adopt(
+            process,
+            archived,
+            chain,
+            shift=shift,
+            images=images,
+            generation=row.generation,
+            table_number=row.run_table,
+            is_open=is_open,
+        )
         await database.lead(served)
         database.served = served
         database.watch(served)
@@ -248,7 +252,7 @@ class Beginning:
             await asyncio.to_thread(served.open)  # it may have been closed in its previous instance
         except PagelogError as error:
             self._shared.say(row.name, f"it could not be adopted: {error}")
-            served.is_broken = True
+            served.fail()
             return True
         database.work.begin(database.row, served)
         return True
@@ -260,9 +264,7 @@ class Beginning:
             return await asyncio.to_thread(served.was_written)
         except PagelogError as error:
             self._say(f"the service does not answer its keeper: {error}")
-            served.went_back = (
-                process.seen.generation > 0
-            )  # PostgreSQL had it: it may be the only copy
+            served.be_lacked(process.seen.generation > 0)  # which had it: it may be the only copy
             return False
 
     async def _put_away(self, served: Served, process: Run) -> None:

@@ -31,7 +31,7 @@ from pagelog.keeper.referee import Away, Doubt, KeeperError, Refused
 from pagelog.keeper.rows import Row, StandbyRow
 from pagelog.keeper.run import Seen, is_there
 from pagelog.keeper.runner import RunnerError
-from pagelog.keeper.served import Served, seconds
+from pagelog.keeper.served import Access, Served, seconds
 from pagelog.keeper.shared import LONGEST_REST, Shared
 from pagelog.keeper.standing import Standing
 from pagelog.keeper.succession import Succession
@@ -136,7 +136,7 @@ class Database:
         self._reports, self._rose = reports, rose
         self._confirmed = row.archived
         if self.served is not None and not is_noted:
-            self.served.is_noted = False  # PostgreSQL has lost that
+            self.served.note_standby(False)  # PostgreSQL has lost that
         self.still_for = self._still.see(
             (row.generation, row.run, row.archived, row.wanted, beat), seconds()
         )
@@ -151,7 +151,7 @@ class Database:
             and 0 < self.served.generation <= row.doubted
             and self.served.is_told_by_number
         ):
-            self.served.is_told_by_number = False
+            self.served.doubt_number()
             self.work.leave_fast_path()
             self.shared.say(
                 row.name,
@@ -240,14 +240,14 @@ class Database:
         own, served, row, archiver = self._own(), self.served, self.row, self.work.archiver
         if own is None or served is None:
             return
-        if not served.is_apart and (archiver is None or not archiver.is_stuck):
+        if not served.lack.is_apart and (archiver is None or not archiver.is_stuck):
             if self.is_known and (
                 row.run == own.run or (row.archived, row.chain) == (served.reached, served.chain)
             ):
-                served.went_back = False
+                served.be_lacked(False)
             elif went_back(row if self.is_known else None, own):
-                served.went_back = True
-        served.back_since = (served.back_since or seconds()) if is_only_copy(self.facts()) else None
+                served.be_lacked(True)
+        served.be_only_copy(is_only_copy(self.facts()), seconds())
 
     def _own(self) -> Own | None:
         settings, served = self.shared.settings, self.served
@@ -259,21 +259,22 @@ class Database:
             if self._known is not None and self._known[:2] == (served.run, self.row.run)
             else None
         )
-        back_for = 0.0 if served.back_since is None else seconds() - served.back_since
+        lack = served.lack
+        back_for = 0.0 if lack.since is None else seconds() - lack.since
         return Own(
             run=served.run,
             kind=served.kind,
             generation=served.generation,
             reached=served.reached,
             alive=served.is_alive,
-            silent=served.silent,
+            silent=served.health.silent,
             share=share,
-            went_back=served.went_back,
+            went_back=lack.went_back,
             is_open=served.is_open,
-            was_closed=served.was_closed,
-            is_full=served.is_full and self._may_be_asked_for_more,
+            was_closed=served.access is Access.SHUT,
+            is_full=served.health.is_full and self._may_be_asked_for_more,
             is_known=is_known,
-            is_apart=served.is_apart,
+            is_apart=lack.is_apart,
             back_for=back_for,
             table_number=served.table_number,
             unreached=served.unreached,
@@ -328,8 +329,8 @@ class Database:
         # What a PostgreSQL that went back has of a report is of before: who lives says so again.
         if (
             self.served is None
-            or self.served.back_since is None
-            or self._rose <= self.served.back_since
+            or self.served.lack.since is None
+            or self._rose <= self.served.lack.since
         ):
             return Rival.SILENT
         return (
@@ -356,7 +357,7 @@ class Database:
         """Whether PostgreSQL went back just now, so that another keeper that is alive may have more than this one, and say so."""
         since = max(
             self._seen_back_at,
-            (self.served.back_since if self.served is not None else None) or float("-inf"),
+            (self.served.lack.since if self.served is not None else None) or float("-inf"),
         )
         return bool(self._reports) and seconds() - since < self.shared.settings.ttl
 
@@ -365,7 +366,7 @@ class Database:
         """The end of the log of a run that went back with nothing: of a service that is here and may be the only copy of something."""
         return (
             self.served.hard
-            if self.served is not None and self.served.back_since is not None
+            if self.served is not None and self.served.lack.since is not None
             else None
         )
 
@@ -502,7 +503,7 @@ class Database:
                 return await self.ending.release()
             case Action.END | Action.SET_ASIDE:
                 if self.served is not None:
-                    self.served.went_back = action is Action.SET_ASIDE
+                    self.served.be_lacked(action is Action.SET_ASIDE)
                 return await self.ending.end()
             case Action.STAND_BY:
                 return await self.standing.stand_by()
@@ -540,7 +541,7 @@ class Database:
     async def new_served(self, run: str) -> Served:
         """What is to be the service of this run."""
         text, secret, number, _ = await self.shared.ask(self.shared.referee.table, self.row.id)
-        made = Served(
+        return Served(
             self.row.name,
             run,
             text,
@@ -548,13 +549,10 @@ class Database:
             timeout=self.shared.settings.ttl,
             is_read_only=self.row.read_only,
             table_number=number,
+            identity=self.row.identity,
+            ancestor=self.row.ancestor,
+            front=self.shared.front,
         )
-        made.identity, made.ancestor, made.front = (
-            self.row.identity,
-            self.row.ancestor,
-            self.shared.front,
-        )
-        return made
 
     async def lead(self, served: Served) -> None:
         """Has the front lead to a service that was adopted. Where it cannot, it does as soon as it can, and a look publishes it then."""
@@ -609,7 +607,8 @@ class Database:
         self._switched_at = seconds()
         self.leaving.add(before.run)
         self.work.stop()
-        successor.kind, successor.generation, self.served = Kind.HOLDER, generation, successor
+        successor.hold(generation)
+        self.served = successor
         self.has_changed(row)
         self.after, self.before = (generation, before.run), (before.generation, before.run)
         self.has_ended(before.run, row.base)

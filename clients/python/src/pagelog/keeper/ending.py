@@ -115,8 +115,8 @@ class Ending:
 
     async def end_process(self, served: Served) -> None:
         """Kills its process, once, unless it may be the only copy of something: that is quarantined."""
-        process, served.process = served.process, None
-        served.is_broken = True
+        process = served.take_process()
+        served.fail()
         self._database.leaving.add(served.run)
         try:
             await self._end_process(served, process)
@@ -128,7 +128,7 @@ class Ending:
             return
         asyncio.get_running_loop().remove_reader(process.descriptor)
         await asyncio.to_thread(served.lead_away)
-        if not served.went_back:
+        if not served.lack.went_back:
             if not await asyncio.to_thread(process.end):
                 self._say(f"process {process.facts.pid} was killed, and does not end")
             return

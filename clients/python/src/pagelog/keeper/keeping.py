@@ -333,7 +333,7 @@ class Keeper:
             if fate is Fate.END:
                 await asyncio.to_thread(process.end)
             elif goes_on and orphan.served is not None:
-                orphan.served.front, orphan.served.identity = self._shared.front, orphan.database
+                orphan.served.take_front(self._shared.front)
                 await self._lead(orphan.served)
                 self._orphans[orphan.database] = orphan.served
             else:
@@ -417,8 +417,7 @@ class Keeper:
         for database in self.databases.values():
             if (served := database.served) is None or served.process is None:
                 continue
-            if database.may_be_only_copy:
-                process, served.process = served.process, None
+            if database.may_be_only_copy and (process := served.take_process()) is not None:
                 await asyncio.to_thread(process.set_aside, served.shift, served.images)
             else:
                 ended.add(served.run)
@@ -841,10 +840,10 @@ class Keeper:
         if (
             database is not None
             and is_meant
-            and not database.own.is_full
+            and not database.own.health.is_full
             and self._may(line, database)
         ):
-            database.own.is_full = True
+            database.own.lack_memory()
             database.kick()
 
     def block(self, line: Line, name: str, position: int, of: Of | None = None) -> None:
@@ -939,7 +938,7 @@ class Keeper:
             return {"list_share": None, "memory_share": None}
         return {
             "list_share": served.entries / audit,
-            "memory_share": served.held / limit if limit else None,
+            "memory_share": served.health.held / limit if limit else None,
         }
 
     def _stored(self, database: Database) -> dict[str, float | None]:

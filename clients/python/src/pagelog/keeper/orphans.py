@@ -96,17 +96,25 @@ def seen_to(
     if row is None or (origin is not None and (origin.dropped or origin.ended is not None)):
         return Orphan(process, *fate_of(found))
     text, secret, *_ = referee.table(row.id)
-    served = Served(name, process.name, text, secret, timeout=timeout, is_read_only=row.read_only)
+    served = Served(
+        name,
+        process.name,
+        text,
+        secret,
+        timeout=timeout,
+        is_read_only=row.read_only,
+        identity=row.identity,
+        ancestor=row.ancestor,
+    )
     shift, images = process.facts.shift, process.facts.images
     chain = referee.chain_of_base(row.id, images) if images else b""
-    served.kind, served.generation, served.identity, served.ancestor = (
-        Kind.HOLDER,
-        seen.generation,
-        row.identity,
-        row.ancestor,
-    )
     served.adopt(
-        process, images, _NO_DIGEST if chain is None else chain, shift=shift, images=images
+        process,
+        images,
+        _NO_DIGEST if chain is None else chain,
+        shift=shift,
+        images=images,
+        generation=seen.generation,
     )
     try:
         was_written, is_behind = served.was_written(), chain is not None and _is_behind(
@@ -139,7 +147,7 @@ def _is_of(row: Row, name: str, definition: Definition | None) -> bool:
 
 def _is_behind(referee: Referee, row: Row, served: Served) -> bool:
     """Whether the archive has its log, as far as the last blocks show."""
-    end = served.hard = served.end_of_log()
+    end = served.end_of_log()
     if end > row.archived:
         return False
     first = max(end - _LAST, served.images)

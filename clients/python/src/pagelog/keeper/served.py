@@ -6,6 +6,8 @@ import asyncio
 import socket
 import time
 from contextlib import suppress
+from dataclasses import dataclass, field
+from enum import Enum
 from itertools import islice
 from typing import Iterable, Iterator, Sequence
 
@@ -38,11 +40,61 @@ PULLS = 64
 """Pulls of one batch: 1,024 blocks at most, 32 MiB."""
 
 
+class Access(Enum):
+    """Who may write to a service: nobody yet, clients, or nobody any more, where that may be in doubt."""
+
+    CLOSED = "closed"
+    OPEN = "open"
+    SHUT = "shut"
+
+
+@dataclass
+class RunLog:
+    """The log of a run. `reached` and `chain` are of the blocks that it was filled with, or that are archived of it, and `hard` is its end.
+    All positions are the archive's: an LSN of the service is a position less `shift`."""
+
+    shift: int = 0
+    images: int = 0
+    """The position whose images it began with; 0: with the first block."""
+    reached: int = 0
+    chain: bytes = field(default=b"", repr=False)
+    hard: int = 0
+
+
+@dataclass
+class Health:
+    """How a service is."""
+
+    answers: int = 0
+    """How many looks it has answered."""
+    silent: float = 0.0
+    """For how many seconds it has answered none, in an unbroken series of the keeper's looks."""
+    begun: int = 0
+    """Bytes of memory that it held when it was filled, or opened."""
+    held: int = 0
+    """Those that it held when they were last measured: once in a look, and all that is decided until the next one rests on it."""
+    is_full: bool = False
+    """Whether it had no memory for a writer, as that has said, or for a pull of its keeper."""
+    is_broken: bool = False
+    """Whether it refuses its keeper for good."""
+
+
+@dataclass
+class Lack:
+    """What PostgreSQL is known to lack of a run."""
+
+    went_back: bool = False
+    """Whether it was seen to lack what it once had: the service may be the only copy."""
+    since: float | None = None
+    """Since when that has been known."""
+    is_apart: bool = False
+    """Whether the archive is known to have something else than the log."""
+
+
 class Served:
-    """The service of one run of a database. `reached` and `chain` are of the blocks that it was filled with, or that are
-    archived of it. All blocks and positions here are the archive's: an LSN of the service is a position less `shift`. One
-    thread at a time calls each of its methods; `look`, `pulled` and the others may run side by side, and what is done
-    `at_once` is the event loop's."""
+    """The service of one run of a database: its log, its health, what PostgreSQL lacks of it, and who may write to it, which its methods
+    alone change. All blocks and positions here are the archive's. One thread at a time calls each of its methods; `look`, `pulled` and
+    the others may run side by side, and what is done `at_once` is the event loop's."""
 
     def __init__(
         self,
@@ -54,59 +106,32 @@ class Served:
         timeout: float,
         is_read_only: bool = False,
         table_number: int = 1,
+        identity: str = "",
+        ancestor: str | None = None,
+        front: Front | None = None,
     ) -> None:
+        """`table_number` is that of the table that it is started with; of a run of which nothing is known the first. `identity` is of the
+        database, and of a copy `ancestor` is the name of what it was made of. `front` is its keeper's.
+        """
         self.database = name
         self.run = run
         self.kind = Kind.HOLDER
         self.generation = 0
         self.acknowledged: Acknowledged | None = None
         """Where it is noted how far it was acknowledged."""
-        self._reached = 0
-        self.chain = b""
-        self.shift = 0
-        self.images = 0
-        """The position whose images it began with; 0: with the first block."""
-        self.hard = 0
-        self.answers = 0
-        """How many looks it has answered."""
-        self.silent = 0.0
-        """For how many seconds it has answered none, in an unbroken series of the keeper's looks."""
-        self.is_broken = False
-        """Whether it refuses its keeper for good."""
-        self.is_open = False
-        """Whether clients have been let in."""
-        self.was_closed = False
-        """Whether nobody may write any more, or it is in doubt, since it was closed."""
-        self.is_full = False
-        """Whether it had no memory for a writer, as that has said, or for a pull of its keeper."""
-        self.went_back = False
-        """Whether PostgreSQL was seen to lack what it once had of this run: the service may be the only copy."""
-        self.back_since: float | None = None
-        """Since when that has been known."""
-        self.is_apart = False
-        """Whether the archive is known to have something else than its log."""
+        self.log, self.health, self.lack, self.access = RunLog(), Health(), Lack(), Access.CLOSED
         self.is_told_by_number = True
         """Whether no other run was given the number of its generation, so that older clients, who name no run, can be answered."""
         self.is_after_release = False
         """Whether another keeper has released the generation before: it may be ending its audit list still."""
-        self.begun = 0
-        """Bytes of memory that it held when it was filled, or opened."""
-        self.held = 0
-        """Those that it held when they were last measured: once in a look, and all that is decided until the next one rests on it."""
         self._is_read_only = is_read_only
         self.is_noted = False
         """Whether the referee is known to have noted it as a standby."""
         self.process: Run | None = None
         self._quick_looker: Looker | None = None
         self._text, self._secret = text, secret
-        self.table_number = table_number
-        """That of the table that it was started with; of a run of which nothing is known the first."""
-        self.identity = ""
-        """Of the database that it was made for."""
-        self.ancestor: str | None = None
-        """Of a copy the name of what that was made of."""
-        self.front: Front | None = None
-        """That of its keeper."""
+        self.table_number, self.identity, self.ancestor = table_number, identity, ancestor
+        self._front = front
         self.timeout = timeout
         """Seconds for which an answer is waited for."""
         self._entries, self._step = 0, FEW
@@ -120,7 +145,7 @@ class Served:
     @property
     def is_alive(self) -> bool:
         """Whether there is no reason to end it: it runs, or was not started yet."""
-        return not self.is_broken and (self.process is None or self.process.is_alive)
+        return not self.health.is_broken and (self.process is None or self.process.is_alive)
 
     @property
     def secret(self) -> bytes:
@@ -136,9 +161,9 @@ class Served:
     @property
     def _secure(self) -> str | None:
         """The way to it by TLS, as the column has it."""
-        if self.front is None:
+        if self._front is None:
             return None
-        place, is_only = self.front.place(self.run), not self.front.tls.plain
+        place, is_only = self._front.place(self.run), not self._front.tls.plain
         return (
             Way(place or NOWHERE, is_only).text(self.run) if place is not None or is_only else None
         )
@@ -146,18 +171,115 @@ class Served:
     @property
     def hangs(self) -> bool:
         """Whether it has answered no look for as long as it may."""
-        return self.silent >= self.timeout
+        return self.health.silent >= self.timeout
+
+    @property
+    def is_open(self) -> bool:
+        """Whether clients have been let in."""
+        return self.access is not Access.CLOSED
 
     @property
     def reached(self) -> int:
         """Up to where it was filled, or is archived."""
-        return self._reached
+        return self.log.reached
 
-    @reached.setter
-    def reached(self, position: int) -> None:
-        self._reached = position
+    @property
+    def chain(self) -> bytes:
+        """The digest of all blocks up to there."""
+        return self.log.chain
+
+    @property
+    def shift(self) -> int:
+        """What a position here is above an LSN of the service."""
+        return self.log.shift
+
+    @property
+    def images(self) -> int:
+        """The position whose images it began with."""
+        return self.log.images
+
+    @property
+    def hard(self) -> int:
+        """The end of its log."""
+        return self.log.hard
+
+    # What becomes known of it.
+
+    def hold(self, generation: int) -> None:
+        """It is the service of this generation."""
+        self.kind, self.generation = Kind.HOLDER, generation
+
+    def follow_release(self) -> None:
+        """Another keeper has released the generation before."""
+        self.is_after_release = True
+
+    def stand_by(self) -> None:
+        """It is a standby's."""
+        self.kind = Kind.STANDBY
+
+    def note_standby(self, is_noted: bool) -> None:
+        """The referee has noted it as a standby, or has lost that."""
+        self.is_noted = is_noted
+
+    def doubt_number(self) -> None:
+        """Another run was given the number of its generation."""
+        self.is_told_by_number = False
+
+    def reach(self, position: int, chain: bytes) -> None:
+        """Up to there it was filled, or is archived."""
+        self.log.chain, self.log.hard = chain, max(self.log.hard, position)
+        self.log.reached = position
         if self.acknowledged is not None:
             self.acknowledged.note(position)  # before it is acknowledged
+
+    def lie(self, shift: int, images: int) -> None:
+        """So positions are in it."""
+        self.log.shift, self.log.images = shift, images
+
+    def fail(self) -> None:
+        """It is of no use any more."""
+        self.health.is_broken = True
+
+    def lack_memory(self) -> None:
+        """A writer had none there."""
+        self.health.is_full = True
+
+    def be_silent(self, seconds: float) -> None:
+        """For so long it has answered no look."""
+        self.health.silent = seconds
+
+    def weigh(self) -> None:
+        """Notes how much memory it has begun with, once."""
+        self.health.begun = self.health.begun or (
+            0 if self.process is None else self.process.memory
+        )
+
+    def be_lacked(self, went_back: bool) -> None:
+        """Whether PostgreSQL lacks what it once had of it."""
+        self.lack.went_back = went_back
+
+    def be_only_copy(self, is_only: bool, now: float) -> None:
+        """Whether it may be that of something, which is known from now on, if it was not before."""
+        self.lack.since = (self.lack.since or now) if is_only else None
+
+    def be_apart(self, is_apart: bool) -> None:
+        """Whether the archive has something else than its log."""
+        self.lack.is_apart = is_apart
+
+    def begin_again(self, generation: int, start: int, chain: bytes) -> None:
+        """It holds the database again, in this generation, and is archived from there on."""
+        self.hold(generation)
+        self.lack.went_back, self.lack.since = False, None
+        self.reach(start, chain)
+
+    def take_process(self) -> Run | None:
+        """Its process, which is the caller's from now on."""
+        process, self.process = self.process, None
+        return process
+
+    def take_front(self, front: Front | None) -> None:
+        """Its keeper's, of a service that was found."""
+        self._front = front
 
     # Its beginning and its end.
 
@@ -184,23 +306,23 @@ class Served:
     def lead(self) -> None:
         """Has its keeper's front lead to it, if there is one. Raises `FrontError` where that is the only way to it, and does not now: it
         will as soon as it can."""
-        if self.front is None or self.process is None:
+        if self._front is None or self.process is None:
             return
         try:
-            self.front.serve(self.run, self.process.address, self.identity)
+            self._front.serve(self.run, self.process.address, self.identity)
         except FrontError:
-            if not self.front.tls.plain:
+            if not self._front.tls.plain:
                 raise
 
     @property
     def unreached(self) -> float:
         """For how many seconds no client has reached it, as its only way is a front that is not there."""
-        return 0.0 if self.front is None or self.front.tls.plain else self.front.away
+        return 0.0 if self._front is None or self._front.tls.plain else self._front.away
 
     def lead_away(self) -> None:
         """Nobody comes to it any more through the front."""
-        if self.front is not None:
-            self.front.drop(self.run)
+        if self._front is not None:
+            self._front.drop(self.run)
 
     def serve(self, process: Run) -> None:
         """Takes this process for its own."""
@@ -253,8 +375,8 @@ class Served:
                 self._begin(Bases(referee, log), archived, loader)
             with ahead(pieces_of(referee, log, self.loaded + 1, archived), referee.cut) as pieces:
                 self.load(loader, pieces, archived, wanted)
-        if is_fresh and self.process is not None:
-            self.begun = self.process.memory
+        if is_fresh:
+            self.weigh()
 
     def begin(self, referee: Referee, log: int, archived: int) -> None:
         """Begins with the images of the newest base, if it has nothing yet."""
@@ -286,8 +408,8 @@ class Served:
             self._has_part = True
             last = loader.load(1, _pieces(blocks_of(bases.images(base))))
             self._has_part = False
-            self.shift, self.images = base.position - last, base.position
-            self.reached, self.chain, self.hard = base.position, base.chain, base.position
+            self.lie(base.position - last, base.position)
+            self.reach(base.position, base.chain)
             self._began = self.reached, self.chain
 
     @property
@@ -313,7 +435,8 @@ class Served:
             raise BrokenArchive(
                 f"{self.database}: the blocks up to {archived} are not those that were archived"
             )
-        self.reached, self.chain, self.hard, self._ahead = archived, chain, archived, None
+        self.reach(archived, chain)
+        self._ahead = None
 
     def check(self, archived: int, chain: bytes) -> None:
         """Raises `BrokenArchive` where it does not have exactly what is archived."""
@@ -327,11 +450,25 @@ class Served:
                 f"{self.database}: the service has {hard} blocks where {archived} are archived"
             )
 
-    def adopt(self, process: Run, reached: int, chain: bytes, *, shift: int, images: int) -> None:
+    def adopt(
+        self,
+        process: Run,
+        reached: int,
+        chain: bytes,
+        *,
+        shift: int,
+        images: int,
+        generation: int,
+        table_number: int = 1,
+        is_open: bool = False,
+    ) -> None:
         """Takes a process that a previous instance of the keeper has started; so much is archived of it."""
         self.serve(process)
-        self.shift, self.images = shift, images
-        self.reached, self.chain = reached, chain
+        self.hold(generation)
+        self.table_number = table_number
+        self.access = Access.OPEN if is_open else self.access
+        self.lie(shift, images)
+        self.reach(reached, chain)
         self._began = (reached, chain) if images else (0, b"")
 
     def note_place(self) -> None:
@@ -359,7 +496,8 @@ class Served:
 
     def end_of_log(self) -> int:
         """The position of its last hardened block."""
-        return self._operator.status().hard + self.shift
+        self.log.hard = self._operator.status().hard + self.shift
+        return self.hard
 
     def was_written(self) -> bool:
         """Whether a client has: each begins with an epoch of its own."""
@@ -368,8 +506,8 @@ class Served:
     def open(self) -> None:
         """From now on its table is that of the database, or lets clients read alone."""
         self._operator.set_table(self._table(Form.READING if self._is_read_only else Form.OPEN))
-        self.is_open, self.was_closed = True, False
-        self.begun = self.begun or (0 if self.process is None else self.process.memory)
+        self.access = Access.OPEN
+        self.weigh()
 
     @property
     def table(self) -> TableOf:
@@ -378,16 +516,22 @@ class Served:
 
     def renew(self, newest: TableOf) -> None:
         """Gives it the newest table, closed: from now on it knows no older token."""
-        self._text, self.was_closed = newest.text, True
+        self._text = newest.text
+        self._shut()
         self._operator.set_table(self._table(Form.READING))
         self.table_number = newest.number
         self.remember()
 
     def close(self) -> int:
         """Lets nobody write any more, and returns the position of its end."""
-        self.was_closed = True
-        self.hard = self._operator.fence(self._table(Form.READING), KEEPER).hard + self.shift
+        self._shut()
+        self.log.hard = self._operator.fence(self._table(Form.READING), KEEPER).hard + self.shift
         return self.hard
+
+    def _shut(self) -> None:
+        """Before it is asked: whether it was done may be in doubt."""
+        if self.is_open:
+            self.access = Access.SHUT
 
     # Looking.
 
@@ -414,12 +558,12 @@ class Served:
 
     def _has_more(self, state: State, entries: Entries) -> bool:
         """Takes an answer. Whether the list may have many more entries than are known."""
-        self.hard = state.hard + self.shift
+        self.log.hard = state.hard + self.shift
         has_more = bool(entries.entries)
         if has_more:
             self._entries = self._probe
         else:
-            self.answers += 1
+            self.health.answers += 1
         self._step = 2 * self._step if has_more else max(FEW, self._step // 2)
         return has_more
 
@@ -430,8 +574,8 @@ class Served:
 
     def measure(self) -> int:
         """How many bytes of memory it holds."""
-        self.held = 0 if self.process is None else self.process.memory
-        return self.held
+        self.health.held = 0 if self.process is None else self.process.memory
+        return self.health.held
 
     def share(self, audit: int, memory: int) -> float:
         """How full its audit list or its memory is, the greater of the two: 0 to 1.
@@ -439,8 +583,8 @@ class Served:
         Where it began with much, it is the growth since then that counts: a fresh service would hold as much again. Twice of
         what it began with counts as half.
         """
-        held = self.held if memory else 0
-        grown = (held / self.begun - 1) / 2 if self.begun else 1.0
+        held, begun = self.health.held if memory else 0, self.health.begun
+        grown = (held / begun - 1) / 2 if begun else 1.0
         return max(self._entries / audit, min(held / memory, grown) if held else 0.0)
 
     @property
@@ -478,7 +622,7 @@ class Served:
         try:
             self._reader.span(self.reached + 1 - self.shift, pulls=1)
         finally:
-            self.is_full |= self._reader.has_lacked_memory
+            self.health.is_full |= self._reader.has_lacked_memory
 
     def began_with(self) -> Iterator[list[bytes]]:
         """The blocks that make the images with which it began, as they are there."""
@@ -494,8 +638,8 @@ class Served:
         try:
             span = self._reader.span(position + 1 - self.shift, pulls=PULLS)
         finally:
-            self.is_full |= self._reader.has_lacked_memory
-        self.hard = max(self.hard, span.last + self.shift)
+            self.health.is_full |= self._reader.has_lacked_memory
+        self.log.hard = max(self.hard, span.last + self.shift)
         return self._blocks_of(span)
 
     def logged(self, position: int, end: int) -> Iterator[list[bytes]]:

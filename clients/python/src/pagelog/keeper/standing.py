@@ -34,7 +34,7 @@ class Standing:
             return False
         self._not_before = seconds() + self._rests.next()
         served = await database.new_served(new_run())
-        served.kind = Kind.STANDBY
+        served.stand_by()
         try:
             await asyncio.to_thread(served.start, self._shared.settings.program)
         except PagelogError as error:
@@ -78,7 +78,8 @@ class Standing:
             where.secure,
         )
         await self._shared.ask(self._shared.referee.stand_by, self._database.row.id, *place)
-        served.is_noted = self._database.is_noted = True
+        served.note_standby(True)
+        self._database.is_noted = True
         served.note_place()
         await self._shared.ask(
             self._shared.referee.take, Row(0, ""), ""
@@ -107,7 +108,7 @@ class Standing:
             return False
         lacks = served.reached < database.row.archived
         if (lacks or not served.is_noted) and await self._catch_up(served) and lacks:
-            served.went_back = False  # what it had is archived again
+            served.be_lacked(False)  # what it had is archived again
         return False
 
     async def give_up(self, served: Served, error: PagelogError) -> bool:
@@ -115,7 +116,7 @@ class Standing:
         self._say(f"the standby was given up: {error}")
         if seconds() >= self._not_before:
             self._not_before = seconds() + self._rests.next()
-        served.is_broken = True
+        served.fail()
         return await self._database.ending.end()
 
     def _say(self, sentence: str) -> None:

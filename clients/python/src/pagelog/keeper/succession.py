@@ -158,7 +158,7 @@ class Succession:
             if served.reached - successor.reached <= NEAR:
                 if (
                     left <= 0
-                    or served.is_full
+                    or served.health.is_full
                     or served.share(settings.program.audit, settings.memory) >= HURRY_AT
                 ):
                     return
@@ -194,9 +194,7 @@ class Succession:
         successor.begin(self._referee, self._database.row.id, reached)
         if successor.reached < reached:
             successor.fill(served.logged(successor.loaded, reached), reached, chain)
-        successor.begun = successor.begun or (
-            0 if successor.process is None else successor.process.memory
-        )
+        successor.weigh()
 
     async def give_up(self) -> None:
         """Ends what was made. The present generation is as it was."""
@@ -329,13 +327,13 @@ class Succession:
 
     async def _open_again(self, served: Served) -> None:
         """The present generation goes on, if its service lives."""
-        if served.is_broken:
+        if served.health.is_broken:
             return
         try:
             await asyncio.to_thread(served.open)
         except PagelogError as error:
             self._say(f"it could not be opened again: {error}")
-            served.is_broken = True
+            served.fail()
 
 
 def patiently(served: Served, call: Callable[[], Result]) -> Result:
@@ -356,9 +354,7 @@ def _closed(log: int, number: int, served: Served, successor: Served, loader: Lo
     try:
         end = patiently(served, served.close)
     except OutOfMemory:
-        served.is_broken = (
-            True  # it can be fenced by its end alone, after which another is filled in its place
-        )
+        served.fail()  # it can be fenced by its end alone, after which another is filled in its place
         raise
     blocks = _pulled(served, successor.reached, end)
     known = served.reached - successor.reached

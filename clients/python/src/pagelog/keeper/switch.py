@@ -93,7 +93,7 @@ def release(referee: Referee, last: Batch) -> Row | None:
 
 def begun(referee: Referee, switch: Switch) -> Row | None:
     """The row where a switch in doubt was carried out, by statements that write. The first of them waits for the switch itself, if that
-    still runs, and would not see all of it."""
+    still runs; the other one would not see it."""
     if referee.kept(switch.log, switch.next_run) is None:
         return None
     return referee.held(switch.log, switch.next_run)

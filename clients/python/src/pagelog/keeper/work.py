@@ -41,7 +41,7 @@ class Work:
         """Whether a service that was started still answers is asked with each look."""
         self._served = served
         self.refresh()
-        served.silent = self._silent.see((served.run, served.answers), seconds())
+        served.be_silent(self._silent.see((served.run, served.health.answers), seconds()))
         if self.archiver is not None and served.hangs:
             self.archiver.stir()
         if self._looking is None or self._looking.done():
@@ -52,7 +52,7 @@ class Work:
             if not await served.looked_at_once():
                 await asyncio.to_thread(served.look)
         except (AuditListFull, TurnsSpent):
-            served.is_broken = True
+            served.fail()
             self._kick()
         except PagelogError as error:
             if served is self._served:
