@@ -5,7 +5,7 @@ block is the model's, what writes it is wire.py; both ways of a reply and a fram
 """
 
 import wire
-from model import OPS, ROLES, Malformed, Reader, read_block, read_request
+from model import OPS, ROLES, MalformedBody, BodyReader, read_block, read_request
 from wire import frame, number
 
 REPLIES = [
@@ -158,11 +158,11 @@ def reply_bytes(fields):
 
 def reply_fields(data):
     if not data:
-        raise Malformed(1)
-    reader = Reader(data, 4)
+        raise MalformedBody(1)
+    reader = BodyReader(data, 4)
     kind = reader.number(1)
     if kind >= len(REPLIES):
-        raise Malformed(3)
+        raise MalformedBody(3)
     fields = {"reply": REPLIES[kind]}
     if kind == 1:
         fields["next"] = reader.number(8)
@@ -179,14 +179,14 @@ def reply_fields(data):
     elif kind == 10:
         fields["code"] = reader.number(1)
     if reader.left():
-        raise Malformed(5)
+        raise MalformedBody(5)
     return fields
 
 
 def count(reader, most):
     found = reader.number(2)
     if found > most:
-        raise Malformed(6)
+        raise MalformedBody(6)
     return found
 
 
@@ -198,10 +198,10 @@ def frame_bytes(fields):
 
 
 def frame_fields(data):
-    reader = Reader(data, 4)
+    reader = BodyReader(data, 4)
     body = reader.take(reader.number(4))
     if reader.left():
-        raise Malformed(5)
+        raise MalformedBody(5)
     return {"body": body.hex()}
 
 

@@ -15,7 +15,7 @@ import sys
 import threading
 
 sys.dont_write_bytecode = True
-from model import Malformed, Model, read_request
+from model import MalformedBody, Model, read_request
 from table_text import Texts
 from wire import frame
 
@@ -33,7 +33,7 @@ class Databases:
     def reply(self, body, under):
         try:
             q = read_request(body)
-        except Malformed as fault:
+        except MalformedBody as fault:
             return bytes([10, fault.code])
         if q["database"] >= len(self.found):
             return NO_DATABASE

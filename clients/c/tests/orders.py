@@ -19,7 +19,7 @@ from generations import opened_in
 from service import HOST, wire
 from stub_keeper import Generation, StubKeeper
 
-from model import Malformed, Model, read_request
+from model import MalformedBody, Model, read_request
 from table_text import Texts
 
 SEEDS = 5_000 if LONG else 100
@@ -61,7 +61,7 @@ class Modelled(socketserver.ThreadingTCPServer):
                 raise ConnectionError
             try:
                 return self.model.answer(read_request(body), 1)[1]
-            except Malformed as fault:
+            except MalformedBody as fault:
                 return bytes([10, fault.code])
 
     def end(self):

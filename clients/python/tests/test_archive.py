@@ -17,7 +17,7 @@ from unittest import mock
 
 import pagelog
 from pagelog import Block, Credentials, Reader
-from pagelog.archive import Archive, BrokenArchive, NoArchive, OtherArchiver
+from pagelog.archive import Archive, DamagedArchive, NoArchive, OtherArchiver
 from pagelog.keeping import Archiver, OtherLog, all_blocks, restore, whole
 from pagelog.trail import Trail
 from postgres import postgres
@@ -126,7 +126,7 @@ class Keeping(Folder):
         self.assertEqual(
             (archive.archived, [block.lsn for block in archive.blocks()]), (4, [1, 2, 3, 4])
         )
-        with self.assertRaises(BrokenArchive):
+        with self.assertRaises(DamagedArchive):
             archive.check()
         change(archive, "DELETE FROM pagelog_block WHERE lsn = 7")
         self.assertEqual(
@@ -186,24 +186,24 @@ class Keeping(Folder):
             )
 
         put_in(9, good[9].data[:-1] + b"\0\0")
-        with self.assertRaisesRegex(BrokenArchive, "LSN 9: its bytes"):
+        with self.assertRaisesRegex(DamagedArchive, "LSN 9: its bytes"):
             archive.check()
         for value in ("'text'", "CAST(x'ff' AS TEXT)", "0.5", "-1", "9223372036854775807"):
             change(archive, f"UPDATE pagelog_block SET data = {value} WHERE lsn = 9")
-            with self.assertRaisesRegex(BrokenArchive, "LSN 9: it is no bytes"):
+            with self.assertRaisesRegex(DamagedArchive, "LSN 9: it is no bytes"):
                 archive.check()
         put_in(9, good[9].data)
         put_in(12, good[11].data, zlib.crc32(good[11].data))
-        with self.assertRaisesRegex(BrokenArchive, "says that it has LSN 11"):
+        with self.assertRaisesRegex(DamagedArchive, "says that it has LSN 11"):
             list(archive.blocks())
         put_in(12, b"short", zlib.crc32(b"short"))
-        with self.assertRaisesRegex(BrokenArchive, "LSN 12: block fault 1"):
+        with self.assertRaisesRegex(DamagedArchive, "LSN 12: block fault 1"):
             list(archive.blocks())
         change(archive, "DELETE FROM pagelog_block WHERE lsn = 12")
-        with self.assertRaisesRegex(BrokenArchive, "LSN 12: it is missing"):
+        with self.assertRaisesRegex(DamagedArchive, "LSN 12: it is missing"):
             archive.check()
         change(archive, "DELETE FROM pagelog_block WHERE lsn > 12")
-        with self.assertRaisesRegex(BrokenArchive, "LSN 12: it is missing"):
+        with self.assertRaisesRegex(DamagedArchive, "LSN 12: it is missing"):
             archive.check()
 
     def test_damage_of_the_file_is_told_in_a_line(self) -> None:
@@ -214,7 +214,7 @@ class Keeping(Folder):
                 archive,
                 "INSERT INTO pagelog_block SELECT log, 'z', crc, data FROM pagelog_block WHERE lsn = 8",
             )
-        self.offline("BrokenArchive: the archive is broken at LSN z: a block is kept above")
+        self.offline("DamagedArchive: the archive is broken at LSN z: a block is kept above")
         with self.archive() as archive:
             change(archive, "UPDATE pagelog_log SET archived = 'abc'")
         self.offline("ArchiveError: the archived LSN is 'abc'")

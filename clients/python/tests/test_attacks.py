@@ -41,11 +41,11 @@ from pagelog.keeper.bases import Base, Bases
 from pagelog.keeper.doubts import Doubts, Fenced
 from pagelog.keeper.referee import Doubt, Referee, digest
 from pagelog.keeper.rows import Batch, Kept as KeptBatch
-from pagelog.keeper.run import Facts, Run
+from pagelog.keeper.run import ProcessFacts, Run
 from pagelog.keeper.session import Session
 from pagelog.keeper.shared import Shared
 from pagelog.keeper.table import KEEPER, keeper_of
-from pagelog.place import Fate, Keepers, Place
+from pagelog.place import GenerationFate, Keepers, Place
 from pagelog.reply import State
 from service import PATIENCE, PROGRAM, SOURCE, accept_each, stand_still
 from test_referee import Referees
@@ -315,7 +315,7 @@ class Interrupted(unittest.TestCase):
         with self.assertRaises(KeyboardInterrupt):
             self.keepers.fate(self.place(1), 6)
         self.late.set()
-        self.assertEqual(self.keepers.fate(self.place(2), 7), Fate(7, False))
+        self.assertEqual(self.keepers.fate(self.place(2), 7), GenerationFate(7, False))
 
     def test_a_child_has_lines_of_its_own(self) -> None:
         self.keepers.where()
@@ -342,7 +342,7 @@ class ManyFiles(unittest.TestCase):
         high = fcntl.fcntl(opened, fcntl.F_DUPFD_CLOEXEC, 2000)
         os.close(opened)
         with tempfile.TemporaryDirectory() as folder:
-            run = Run(Path(folder), Facts("shop", "r", child.pid, 0, ""), high, child)
+            run = Run(Path(folder), ProcessFacts("shop", "r", child.pid, 0, ""), high, child)
             self.assertTrue(run.is_alive)
             run.end()
         self.assertEqual(child.poll(), -signal.SIGKILL)

@@ -19,7 +19,7 @@ from pagelog.errors import PagelogError
 from pagelog.keeper.ahead import ahead
 from pagelog.keeper.database import Database
 from pagelog.keeper.ending import Ending
-from pagelog.keeper.machine import Kind
+from pagelog.keeper.machine import RunKind
 from pagelog.keeper.referee import Away, Doubt
 from pagelog.keeper.rows import Kept, TableOf
 from pagelog.keeper.run import NotStarted, _facts_of
@@ -303,7 +303,7 @@ class StandsBy(Meanwhile):
     ) -> None:
         for error in (NotStarted("no"), RuntimeError("can't start new thread")):
             self.setUp()
-            made = service(run="new", kind=Kind.HOLDER, process=None, reached=0)
+            made = service(run="new", kind=RunKind.HOLDER, process=None, reached=0)
             made.start.side_effect = error
             with patch.object(Database, "new_served", new=AsyncMock(return_value=made)) as new:
                 await self.is_tried(new)
@@ -329,7 +329,7 @@ class StandsBy(Meanwhile):
     async def test_one_that_lacks_blocks_while_postgresql_is_away_goes_on_with_them(self) -> None:
         for fresh in (
             service(run="new", reached=0),
-            service(run="new", kind=Kind.STANDBY, reached=2, is_noted=True),
+            service(run="new", kind=RunKind.STANDBY, reached=2, is_noted=True),
         ):
             for away in (Away("gone"), Doubt("cut")):
                 self.setUp()
@@ -353,7 +353,7 @@ class StandsBy(Meanwhile):
         for has_gone_back in (True, False):
             self.setUp()
             self.database.served = served = service(
-                run="new", kind=Kind.STANDBY, reached=2, is_noted=True
+                run="new", kind=RunKind.STANDBY, reached=2, is_noted=True
             )
             self.session.ask = AsyncMock(
                 side_effect=lambda call, *_, gone=has_gone_back: gone
@@ -375,7 +375,7 @@ class StandsBy(Meanwhile):
             )
 
     async def test_one_whose_note_is_gone_is_noted_again(self) -> None:
-        self.database.served = service(run="new", kind=Kind.STANDBY, is_noted=True)
+        self.database.served = service(run="new", kind=RunKind.STANDBY, is_noted=True)
         self.see(self.OTHER, is_noted=False)
         await self.done(lambda: self.session.ask.await_count)
         self.assertIs(self.session.ask.await_args_list[0].args[0], self.session.referee.stand_by)

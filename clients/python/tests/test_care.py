@@ -217,7 +217,7 @@ class Words(unittest.TestCase):
             "principal 3 pull " + "9" * 3000,
         ):
             with self.assertRaises(explain.ExplainError):
-                explain.Question.parse(words_).act(b"")
+                explain.RequestQuestion.parse(words_).act(b"")
 
     def test_a_package_in_a_folder_near_the_root(self) -> None:
         """`explain` looks for the program of a checkout beside the package, where there may be none."""

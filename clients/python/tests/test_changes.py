@@ -24,18 +24,18 @@ from click.testing import CliRunner
 
 from keepers import Gate, Kept, eventually
 from pagelog import Connection, Credentials, NamedPrimary, Primary, Reader
-from pagelog.cli.table_changes import Change
+from pagelog.cli.table_changes import TableChange
 from pagelog.cli.words import pagelogctl
-from pagelog.errors import PagelogError
+from pagelog.errors import PagelogError, TableError
 from pagelog.keeper.keeping import Keeper
-from pagelog.keeper.machine import State
+from pagelog.keeper.machine import DatabaseState
 from pagelog.keeper.referee import Away, Doubt, Referee
 from pagelog.keeper.rows import Look, Row, TableOf, Where
 from pagelog.keeper.schema import NUMBERS
 from pagelog.keeper.served import Served
 from pagelog.keeper.settings import Settings
 from pagelog.keeper.switch import Switch, begun, may_begin, number, succeed
-from pagelog.keeper.table import TableError, token_of
+from pagelog.keeper.table import token_of
 from pagelog.place import WrongToken
 from pagelog.rules import UnknownPrincipal
 from pagelog.table_editing import (
@@ -795,7 +795,7 @@ class OneKeeper(Changing):
         row = replace(self.keeping.row(), table_number=1, run=None)
         looks = iter((Look((row,)), Look((replace(row, table_number=2),))))
         referee = Mock(everything=lambda: next(looks), newest_table=Mock(return_value=(2, None)))
-        self.assertEqual(Change(referee, row, 1.5, 10).carry_out(), [])
+        self.assertEqual(TableChange(referee, row, 1.5, 10).carry_out(), [])
         self.assertIsNone(next(looks, None))
 
     def test_a_postgresql_that_is_away_meanwhile_is_asked_again_until_it_is_late(self) -> None:
@@ -805,9 +805,10 @@ class OneKeeper(Changing):
                 everything=Mock(side_effect=[error, Look((row,))]),
                 newest_table=Mock(return_value=(2, None)),
             )
-            self.assertEqual(Change(referee, row, 1.5, PATIENCE).carry_out(), [])
+            self.assertEqual(TableChange(referee, row, 1.5, PATIENCE).carry_out(), [])
             self.assertRaises(
-                type(error), Change(Mock(everything=Mock(side_effect=error)), row, 1.5, 0).carry_out
+                type(error),
+                TableChange(Mock(everything=Mock(side_effect=error)), row, 1.5, 0).carry_out,
             )
 
     def test_nothing_is_changed_while_an_older_keeper_lives(self) -> None:
@@ -845,7 +846,7 @@ class OneKeeper(Changing):
                 row=replace(row, holder="b"),
                 served=one,
                 leaving=leaving,
-                state=State.AWAY,
+                state=DatabaseState.AWAY,
                 decision=None,
                 back=None,
             )

@@ -18,21 +18,21 @@ from consoles import Rows
 from pagelog.console.board import Board, Limits
 from pagelog.console.door import Door
 from pagelog.console.events import Known, of_databases
-from pagelog.console.history import History, Sample
+from pagelog.console.history import SampleHistory, Sample
 from pagelog.console.outlook import (
     Forecast,
     Scene,
     Spare,
-    State,
+    ClientState,
     Use,
     forecast_of,
     sentence,
     state_of,
 )
 from pagelog.console.running import begin
-from pagelog.console.source import Look, NoLook, Seen, Source
+from pagelog.console.source import Look, NoLook, SourceLook, Source
 from pagelog.console.watcher import Watcher
-from pagelog.console.web import Pages
+from pagelog.console.web import WebPages
 from pagelog.keeper.aside import ASIDE
 from pagelog.keeper.rows import KeeperRow, Row
 from service import PATIENCE
@@ -52,7 +52,7 @@ class Watchers(unittest.TestCase):
                 side_effect=[
                     TypeError("of another version"),
                     NoLook("away"),
-                    Seen(Look()),
+                    SourceLook(Look()),
                     SystemExit,
                 ]
             ),
@@ -98,7 +98,7 @@ class Sentences(unittest.TestCase):
     def said(
         self,
         row: Row,
-        state: State = State.SERVING,
+        state: ClientState = ClientState.SERVING,
         spares: tuple[Spare, ...] = (),
         living: str = "ab",
         forecast: Forecast = Forecast(),
@@ -107,11 +107,11 @@ class Sentences(unittest.TestCase):
 
     def test_the_state(self) -> None:
         for row, report, is_silent, state in (
-            (FREE, {}, True, State.NOBODY),
-            (ROW, {"state": "closing"}, True, State.SILENT),
-            (ROW, {"state": "closing"}, False, State.CLOSING),
-            (ROW, {}, False, State.SERVING),
-            (Row(1, "shop", 3, "run", "a"), {"state": "serving"}, False, State.TAKING),
+            (FREE, {}, True, ClientState.NOBODY),
+            (ROW, {"state": "closing"}, True, ClientState.SILENT),
+            (ROW, {"state": "closing"}, False, ClientState.CLOSING),
+            (ROW, {}, False, ClientState.SERVING),
+            (Row(1, "shop", 3, "run", "a"), {"state": "serving"}, False, ClientState.TAKING),
         ):
             self.assertEqual(state_of(row, report, is_silent), state)
 
@@ -126,7 +126,7 @@ class Sentences(unittest.TestCase):
         under_way = (
             "A succession is under way: the service of the next generation is made beside this one."
         )
-        self.assertEqual(sentence(Scene(ROW, State.SERVING, is_succeeding=True)), under_way)
+        self.assertEqual(sentence(Scene(ROW, ClientState.SERVING, is_succeeding=True)), under_way)
         self.assertEqual(self.said(replace(ROW, succeed=True)), under_way)
         self.assertEqual(
             self.said(ROW, forecast=Forecast(is_early=True)),
@@ -167,23 +167,26 @@ class Sentences(unittest.TestCase):
             (Row(1, "shop", wanted="b"), (), "ab", "b takes it, as was asked."),
             (Row(1, "shop", paused=True), spare, "ab", "Nobody takes it until it is resumed."),
         ):
-            self.assertEqual(self.said(row, State.NOBODY, spares, living), words)
+            self.assertEqual(self.said(row, ClientState.NOBODY, spares, living), words)
         self.assertEqual(
-            self.said(ROW, State.SILENT, spare, "b"), "The heartbeat of a stalled: b takes it over."
+            self.said(ROW, ClientState.SILENT, spare, "b"),
+            "The heartbeat of a stalled: b takes it over.",
         )
         self.assertEqual(
-            self.said(ROW, State.SILENT, (), "c"),
+            self.said(ROW, ClientState.SILENT, (), "c"),
             "The heartbeat of a stalled: another keeper takes it over.",
         )
         self.assertEqual(
-            self.said(ROW, State.SILENT, spare, ""),
+            self.said(ROW, ClientState.SILENT, spare, ""),
             "The heartbeat of a stalled, and no other keeper is up.",
         )
         self.assertEqual(
-            self.said(ROW, State.TAKING),
+            self.said(ROW, ClientState.TAKING),
             "It serves once the service of a has all blocks up to 600.",
         )
-        self.assertEqual(self.said(ROW, State.CLOSING), "a archives what is left, and releases it.")
+        self.assertEqual(
+            self.said(ROW, ClientState.CLOSING), "a archives what is left, and releases it."
+        )
 
     def test_a_forecast(self) -> None:
         still = Use(None, 0, None)
@@ -207,7 +210,7 @@ class Sentences(unittest.TestCase):
 class Events(unittest.TestCase):
     def told(self, before: list[Row], now: list[Row], standbys: str = "") -> list[str]:
         looks = [
-            {row.id: Known(row, State.SERVING, frozenset(names)) for row in rows}
+            {row.id: Known(row, ClientState.SERVING, frozenset(names)) for row in rows}
             for rows, names in ((before, ""), (now, standbys))
         ]
         return [
@@ -275,7 +278,7 @@ class Asides(unittest.TestCase):
             before = len(board.state()["events"])
             report = {ASIDE: asides} if asides else {}
             board.take(
-                Seen(Look((ROW,), (KeeperRow("a", "life", "a:2", board.number, report),))),
+                SourceLook(Look((ROW,), (KeeperRow("a", "life", "a:2", board.number, report),))),
                 1000.0 + board.number,
             )
             return [
@@ -321,7 +324,7 @@ class Asides(unittest.TestCase):
 
 class Histories(unittest.TestCase):
     def test_rates_lag_and_falls(self) -> None:
-        history = History()
+        history = SampleHistory()
         for second in range(41):
             history.add(
                 Sample(
@@ -348,7 +351,7 @@ class Histories(unittest.TestCase):
         )  # it is another service
 
     def test_memory_does_not_grow_with_time(self) -> None:
-        history = History()
+        history = SampleHistory()
         for second in range(5000):
             history.add(Sample(float(second), "run", second, second, 1, 1))
         self.assertEqual((len(history.points()), len(history._recent) <= 12), (180, True))
@@ -362,7 +365,7 @@ class Unread(unittest.IsolatedAsyncioTestCase):
         self.source, self.board, self.watched = Source(self.rows.url), Board(Limits()), []  # type: ignore[var-annotated]
         self.addCleanup(self.source.close)
         runner = web.AppRunner(
-            Pages(self.board, Door(None), self.watched.append).application(), access_log=None
+            WebPages(self.board, Door(None), self.watched.append).application(), access_log=None
         )
         await runner.setup()
         self.addAsyncCleanup(runner.cleanup)

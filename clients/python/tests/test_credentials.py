@@ -8,7 +8,8 @@ import unittest
 from pathlib import Path
 
 from pagelog import Address, Credentials, CredentialsError, Role, load
-from pagelog.tables import TableError, TableText
+from pagelog.errors import TableError
+from pagelog.tables import TableText
 from service import token
 
 GOOD = f'[primary]\nto = "127.0.0.1:7400"\nid = 2\ntoken = "{token(2)}"\n'

@@ -20,7 +20,7 @@ from pagelog.keeper.referee import Doubt, OneDisk, Referee, Superseded
 from pagelog.keeper.rows import Look, Synchronous
 from pagelog.keeper.session import Session
 from pagelog.keeper.switch import Switch, begun, number, succeed
-from pagelog.place import Fate
+from pagelog.place import GenerationFate
 from replicated import Pair, Server
 from service import PATIENCE
 from small_disk import SmallDisks
@@ -456,7 +456,7 @@ class AStandbyLeads(Durable):
             keepers, second = self.keeping.keepers(), self.keeping.place()
             self.addCleanup(keepers.close)
 
-            def fates() -> list[Fate]:
+            def fates() -> list[GenerationFate]:
                 return [
                     keepers.fate(place, position)
                     for place, position in ((first, 1), (first, 2), (second, 2))
@@ -480,7 +480,9 @@ class AStandbyLeads(Durable):
             _pairs[0].standby.crash()  # it leads later without what it missed
             self.fail_over_amid(primary, 4)
             self.assertEqual(self.commit(primary, "5", durable=True), 5)
-            self.assertEqual([*fates()[:2], keepers.fate(second, 5)], [*told[:2], Fate(5, False)])
+            self.assertEqual(
+                [*fates()[:2], keepers.fate(second, 5)], [*told[:2], GenerationFate(5, False)]
+            )
             self.assertEqual(
                 (self.keeping.place().generation, self.texts()),
                 (second.generation, [b"1", b"2", b"3", b"4", b"5"]),

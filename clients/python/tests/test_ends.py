@@ -27,7 +27,7 @@ from pagelog.archive.engine import engine_of
 from pagelog.archive.archiving import Archiver
 from pagelog.audit_list import AuditFollower, AuditRoom
 from pagelog.cli import archive_words
-from pagelog.cli.archive_words import Follower
+from pagelog.cli.archive_words import ArchiveFollower
 from pagelog.fencing import ListGuard
 from pagelog.request import Pull, Write
 from pagelog.tables import TableText
@@ -188,7 +188,7 @@ class Lists(Folder):
             },
         )
         with mock.patch("time.sleep"), contextlib.redirect_stderr(io.StringIO()):
-            Follower(archiver, 0.1, lambda: False, guard).run()
+            ArchiveFollower(archiver, 0.1, lambda: False, guard).run()
         self.assertEqual([call.kwargs["follow"] for call in archiver.run.mock_calls], [False] * 3)
 
     def test_it_warns_once_a_minute(self) -> None:
@@ -288,7 +288,7 @@ class Rates(Folder):
 
     def test_one_line_a_second_at_most(self) -> None:
         seconds, lines = [100.0], []
-        follower = Follower(mock.Mock(), 0.1, lambda: False)
+        follower = ArchiveFollower(mock.Mock(), 0.1, lambda: False)
         with mock.patch.object(
             archive_words.time, "monotonic", lambda: seconds[0]
         ), mock.patch.object(

@@ -10,7 +10,7 @@ import unittest
 from pathlib import Path
 
 import pagelog
-from pagelog.cli.explain import ExplainError, Question, Table, differences, explain
+from pagelog.cli.explain import ExplainError, RequestQuestion, Table, differences, explain
 from pagelog.cli.explain_all import all_differences
 from service import SOURCE, TABLE, Service, token
 from test_archive import words
@@ -49,7 +49,7 @@ class Explaining(unittest.TestCase):
             "principal 3 as secondary write": "A5",
         }
         for words_, place in cases.items():
-            decision = explain(table, Question.parse(words_))
+            decision = explain(table, RequestQuestion.parse(words_))
             self.assertEqual(
                 (decision.place, decision.is_allowed), (place, place.startswith("row")), words_
             )
@@ -71,7 +71,7 @@ class Explaining(unittest.TestCase):
                     ("operator", "status", ""),
                     ("operator", "audit", ""),
                 ):
-                    question = Question.parse(
+                    question = RequestQuestion.parse(
                         f"principal {principal} as {role} {operation} {argument}".strip()
                     )
                     head = pagelog.request.Head(
@@ -114,10 +114,12 @@ class Explaining(unittest.TestCase):
         table = self.table(one + '[[row]]\nverdict = "allow"\nrole = "operator"\n' + rows)
         for partition in (0, 59):
             self.assertEqual(
-                explain(table, Question.parse(f"principal 0 advance {partition}")).place,
+                explain(table, RequestQuestion.parse(f"principal 0 advance {partition}")).place,
                 f"row {partition + 2}",
             )
-        self.assertEqual(explain(table, Question.parse("principal 0 advance 60")).place, "B0")
+        self.assertEqual(
+            explain(table, RequestQuestion.parse("principal 0 advance 60")).place, "B0"
+        )
 
     def test_what_differs(self) -> None:
         new = self.table(
@@ -133,7 +135,7 @@ class Explaining(unittest.TestCase):
             "principal 2 write 1",
             "principal 9 tidy",
         ]
-        found = differences(Table(TABLE), new, [Question.parse(words_) for words_ in asked])
+        found = differences(Table(TABLE), new, [RequestQuestion.parse(words_) for words_ in asked])
         self.assertEqual(
             [(one.question.words, one.old.place, one.new.place) for one in found],
             [("principal 3 get 393216", "row 4", "B3"), ("principal 4 advance 4", "B0", "row 5")],
@@ -198,15 +200,15 @@ class Explaining(unittest.TestCase):
             "principal 3 get 4294967296",
         ):
             with self.subTest(words_), self.assertRaises(ExplainError):
-                explain(Table(TABLE), Question.parse(words_))
+                explain(Table(TABLE), RequestQuestion.parse(words_))
         with self.assertRaisesRegex(ExplainError, "fault 12, nobody may set the table"):
             explain(
                 self.table(TABLE.read_text().replace('role = "operator"', 'role = "primary"', 1)),
-                Question.parse("principal 1 tidy"),
+                RequestQuestion.parse("principal 1 tidy"),
             )
         for text in ("[[principal", "principal = 1\n", "[[principal]]\nid = 'x'\n"):
             with self.assertRaises(ExplainError):
-                explain(self.table(text), Question.parse("principal 1 tidy"))
+                explain(self.table(text), RequestQuestion.parse("principal 1 tidy"))
         out = ends(words("explain", TABLE, "principal 3 pull 0..3"))
         self.assertEqual(
             out,

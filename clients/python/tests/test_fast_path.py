@@ -25,7 +25,7 @@ import psycopg
 from keepers import Gate, Kept as KeptService, Line, Trigger, blocks, eventually
 from pagelog import Block, Put
 from pagelog.keeper import fast_calls, fast_plane, statements
-from pagelog.keeper.archiver import Archiver
+from pagelog.keeper.archiver import RunArchiver
 from pagelog.keeper.doubts import Doubts
 from pagelog.keeper.database import Database
 from pagelog.keeper.keeping import Keeper
@@ -113,7 +113,7 @@ class Hot(Referees, unittest.IsolatedAsyncioTestCase):
         asyncio.get_running_loop().slow_callback_duration = PATIENCE
         asyncio.get_running_loop().set_debug(False)
         self.folder = Path(self.enterContext(tempfile.TemporaryDirectory()))
-        self.enterContext(patch("pagelog.keeper.keeping.Folder"))
+        self.enterContext(patch("pagelog.keeper.keeping.KeeperFolder"))
         section = {"standby": False, "ttl": PATIENCE, **self.section}
         self.keeper = Keeper(
             Settings.of("one", "127.0.0.1:0", "127.0.0.1", self.folder, PROGRAM, self.url, section)
@@ -165,7 +165,7 @@ class Hot(Referees, unittest.IsolatedAsyncioTestCase):
             process.end()
 
     @property
-    def archiver(self) -> Archiver:
+    def archiver(self) -> RunArchiver:
         assert self.database.work.archiver is not None
         return self.database.work.archiver
 
@@ -1616,7 +1616,7 @@ class Without(unittest.TestCase):
     """There is no keeper without the compiled part."""
 
     def keeper(self, **section: object) -> Keeper:
-        with patch("pagelog.keeper.keeping.Folder"):
+        with patch("pagelog.keeper.keeping.KeeperFolder"):
             return Keeper(
                 Settings.of("one", "", "", Path("."), PROGRAM, "postgresql://nobody@/none", section)
             )

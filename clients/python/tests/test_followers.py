@@ -16,7 +16,7 @@ from unittest import mock
 import psycopg
 
 from pagelog.archive import Archive
-from pagelog.cli.archive_words import Follower
+from pagelog.cli.archive_words import ArchiveFollower
 from pagelog.keeping import Archiver
 from postgres import postgres
 from service import IS_LONG, PATIENCE, CuttingProxy, Service, fill
@@ -139,7 +139,7 @@ class Followers(Folder):
         ), psycopg.errors.UndefinedTable("the table is not there")
         archiver, said = mock.Mock(**{"resume.side_effect": [lost, fault]}), io.StringIO()
         with contextlib.redirect_stderr(said), mock.patch("time.sleep"):
-            follower = Follower(archiver, 0, lambda: False)
+            follower = ArchiveFollower(archiver, 0, lambda: False)
             follower.follow()
             self.assertRaises(psycopg.errors.UndefinedTable, follower.follow)
         self.assertEqual(

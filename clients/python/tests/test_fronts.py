@@ -25,7 +25,7 @@ from pagelog.keeper.certificate import CertificateError, Pair
 from pagelog.keeper.front import Front, Tls, end_fronts
 from pagelog.keeper.haproxy import FrontError
 from pagelog.keeper.unix import private_socket
-from pagelog.keeper.run import Facts, fronts_of, has_services, orphans_of
+from pagelog.keeper.run import ProcessFacts, fronts_of, has_services, orphans_of
 from pagelog.secure import SecurityError, Trust
 from secured import Certificates
 from service import IS_LONG, PATIENCE, TOP, Port
@@ -346,7 +346,7 @@ class Coming(Fronts):
         places, before = (front.place("run1"), front.place("run2")), front.process
         assert before is not None
         front.leave()
-        facts = Facts("shop", "run1", 0, 0, "", shop.address)
+        facts = ProcessFacts("shop", "run1", 0, 0, "", shop.address)
         with patch("pagelog.keeper.front.services_of", return_value=[facts]):
             after = self.begun()
         assert after.process is not None

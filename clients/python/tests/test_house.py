@@ -1,9 +1,10 @@
-"""What the source keeps to, whatever it does: who writes what of a service."""
+"""What the source keeps to, whatever it does: names of classes, and who writes what of a service."""
 
 from __future__ import annotations
 
 import ast
 import unittest
+from collections import defaultdict
 from dataclasses import fields
 from pathlib import Path
 from typing import Iterator
@@ -28,6 +29,18 @@ def written(module: ast.Module) -> Iterator[ast.Attribute]:
         if isinstance(node, ast.Attribute) and isinstance(node.ctx, ast.Store):
             if ast.unparse(node.value) != "self":
                 yield node
+
+
+class Names(unittest.TestCase):
+    def test_no_class_has_the_name_of_another(self) -> None:
+        """Also where they are in two packages: whoever reads of one, or looks for it, finds that one."""
+        found = defaultdict(list)
+        for module, source in sources().items():
+            for node in ast.walk(source):
+                if isinstance(node, ast.ClassDef):
+                    found[node.name].append(module)
+        self.assertGreater(len(found), 400)
+        self.assertEqual({name: of for name, of in found.items() if len(of) > 1}, {})
 
 
 class States(unittest.TestCase):

@@ -15,16 +15,16 @@ from pagelog.keeper.machine import (
     PATIENCE,
     Action,
     Facts,
-    Kind,
+    RunKind,
     Own,
     Rival,
     Stage,
-    State,
+    DatabaseState,
     Stillness,
     decide,
     state_of,
 )
-from pagelog.keeper.orphans import Fate, Found, fate_of
+from pagelog.keeper.orphans import OrphanFate, FoundOrphan, fate_of
 from pagelog.keeper.referee import Referee
 from pagelog.keeper.rows import Row, StandbyRow, TableOf
 from pagelog.keeper.run import Seen
@@ -35,8 +35,8 @@ TTL = 4.0
 ROW = Row(1, "shop", generation=3, run="r3", holder="b", address="b:1", archived=5000)
 OURS = replace(ROW, run="mine", holder="a")
 RELEASED = replace(ROW, run=None, holder=None, address=None)
-HOLDS = Own("mine", Kind.HOLDER, generation=3)
-STANDBY = Own("s", Kind.STANDBY, reached=4990)
+HOLDS = Own("mine", RunKind.HOLDER, generation=3)
+STANDBY = Own("s", RunKind.STANDBY, reached=4990)
 OF_C = StandbyRow(1, "c", "c:1", "sc", 4990)
 
 
@@ -134,7 +134,9 @@ class Cases(unittest.TestCase):
             Action.CLOSE, replace(OURS, wanted="c"), HOLDS, others=(OF_C,), successor=Stage.MAKING
         )
         self.check(Action.NOTHING, replace(OURS, paused=True), HOLDS, successor=Stage.READY)
-        self.assertIs(state_of(Facts("a", TTL, OURS, HOLDS), Action.SUCCEED), State.SUCCEEDING)
+        self.assertIs(
+            state_of(Facts("a", TTL, OURS, HOLDS), Action.SUCCEED), DatabaseState.SUCCEEDING
+        )
 
     def test_of_a_service_that_had_no_memory_for_a_writer(self) -> None:
         full = replace(HOLDS, is_full=True)
@@ -275,9 +277,9 @@ class Cases(unittest.TestCase):
     def test_a_database_whose_run_was_lost_is_not_said_to_be_served(self) -> None:
         lost = replace(HOLDS, is_known=False)
         for row in (None, ROW, RELEASED):
-            self.assertIs(state_of(Facts("a", TTL, row, lost)), State.WENT_BACK)
+            self.assertIs(state_of(Facts("a", TTL, row, lost)), DatabaseState.WENT_BACK)
         self.assertIs(
-            state_of(Facts("a", TTL, ROW, replace(STANDBY, reached=5001))), State.WENT_BACK
+            state_of(Facts("a", TTL, ROW, replace(STANDBY, reached=5001))), DatabaseState.WENT_BACK
         )
 
     def test_no_service_that_may_be_the_only_copy_of_what_postgresql_has_lost_is_ended(
@@ -356,14 +358,15 @@ class Cases(unittest.TestCase):
         self.check(Action.FILL, replace(OURS, run="s"), replace(STANDBY, is_open=False))
 
     def test_states(self) -> None:
-        self.assertIs(state_of(Facts("a", TTL, ROW)), State.AWAY)
-        self.assertIs(state_of(Facts("a", TTL, ROW, STANDBY)), State.STANDBY)
-        self.assertIs(state_of(Facts("a", TTL, RELEASED), Action.TAKE), State.TAKING)
+        self.assertIs(state_of(Facts("a", TTL, ROW)), DatabaseState.AWAY)
+        self.assertIs(state_of(Facts("a", TTL, ROW, STANDBY)), DatabaseState.STANDBY)
+        self.assertIs(state_of(Facts("a", TTL, RELEASED), Action.TAKE), DatabaseState.TAKING)
         self.assertIs(
-            state_of(Facts("a", TTL, replace(OURS, address=None), HOLDS), Action.FILL), State.TAKING
+            state_of(Facts("a", TTL, replace(OURS, address=None), HOLDS), Action.FILL),
+            DatabaseState.TAKING,
         )
-        self.assertIs(state_of(Facts("a", TTL, OURS, HOLDS)), State.SERVING)
-        self.assertIs(state_of(Facts("a", TTL, OURS, HOLDS), Action.CLOSE), State.CLOSING)
+        self.assertIs(state_of(Facts("a", TTL, OURS, HOLDS)), DatabaseState.SERVING)
+        self.assertIs(state_of(Facts("a", TTL, OURS, HOLDS), Action.CLOSE), DatabaseState.CLOSING)
 
 
 class Clocks(unittest.TestCase):
@@ -422,5 +425,7 @@ class Orphans(unittest.TestCase):
     def test_one_that_had_a_generation_is_not_ended_where_another_database_of_its_name_was_dropped(
         self,
     ) -> None:
-        self.assertIs(fate_of(Found(Seen(3, 2), was_dropped=True))[0], Fate.SET_ASIDE)
-        self.assertIs(fate_of(Found(Seen(0, 2), was_dropped=True))[0], Fate.END)  # a standby's
+        self.assertIs(fate_of(FoundOrphan(Seen(3, 2), was_dropped=True))[0], OrphanFate.SET_ASIDE)
+        self.assertIs(
+            fate_of(FoundOrphan(Seen(0, 2), was_dropped=True))[0], OrphanFate.END
+        )  # a standby's

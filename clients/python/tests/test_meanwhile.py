@@ -19,16 +19,16 @@ import psycopg
 
 from pagelog.errors import OutOfMemory, Unreachable
 from pagelog.keeper import served as served_module
-from pagelog.keeper.archiver import Archiver, turn_of
+from pagelog.keeper.archiver import RunArchiver, turn_of
 from pagelog.keeper.database import Database
 from pagelog.keeper.doubts import Doubts, Fenced
 from pagelog.keeper.fate import Of
 from pagelog.keeper.fates import Questions, tell_block, tell_fate
 from pagelog.keeper.keeping import Keeper
 from pagelog.keeper.lines import Server
-from pagelog.keeper.machine import Action, Kind, Stage
+from pagelog.keeper.machine import Action, RunKind, Stage
 from pagelog.keeper.fast_path import End
-from pagelog.keeper.recorder import Recorder, Turn
+from pagelog.keeper.recorder import Recorder, RecorderTurn
 from pagelog.keeper.referee import Away, Doubt, Referee, Refused
 from pagelog.keeper.rows import Batch, KeeperRow, Kept, Lines, Look, Row, StandbyRow
 from pagelog.keeper.run import Seen
@@ -88,7 +88,7 @@ def service(
     known = {
         "database": "shop",
         "run": "mine",
-        "kind": Kind.HOLDER,
+        "kind": RunKind.HOLDER,
         "generation": 3,
         "log": RunLog(reached=reached, chain=b"c" * 16, hard=hard),
         "health": Health(is_full=is_full),
@@ -216,7 +216,7 @@ class Archives(Meanwhile):
         recorder = Mock(
             Recorder,
             is_ready=True,
-            turn=Turn(PATIENCE),
+            turn=RecorderTurn(PATIENCE),
             lend=Mock(return_value=Mock()),
             run=AsyncMock(),
         )
@@ -259,8 +259,8 @@ class Archives(Meanwhile):
                 self.assertTrue(waiting.done(), facts)
                 self.assertFalse(await waiting)
 
-    def archiver(self, served: Mock) -> Archiver:
-        return Archiver(ROW, served, Waits("shop"), self.doubts, Mock(), Mock(), self.ways)
+    def archiver(self, served: Mock) -> RunArchiver:
+        return RunArchiver(ROW, served, Waits("shop"), self.doubts, Mock(), Mock(), self.ways)
 
     async def tries(self, served: Mock, count: int) -> list[float]:
         """Archives what the service has until there were so many tries, and returns the seconds between them. Somebody rings all the time."""

@@ -25,7 +25,7 @@ from pagelog.keeper.referee import digest
 from pagelog.keeper.run import Program
 from pagelog.keeper.served import Served
 from pagelog.keeper.table import KEEPER, Form, table_of_run, token_of
-from pagelog.place import Dropped, Fate, Keepers, OlderKeepers, Place, UnknownName, _Line
+from pagelog.place import Dropped, GenerationFate, Keepers, OlderKeepers, Place, UnknownName, _Line
 from service import PATIENCE, PROGRAM, WIDE_TABLE, Service, accept_each, interrupted, put, token
 
 DATABASE = "11111111-2222-4333-8444-555555555555"
@@ -44,7 +44,7 @@ class Named(unittest.TestCase):
         self.keepers.name = "shop"
         self.keepers.has_left.return_value = False
         self.keepers.place.side_effect = self.keepers.after.side_effect = lambda *_: self.places[-1]
-        self.keepers.fate.side_effect = lambda place, position, *_: Fate(
+        self.keepers.fate.side_effect = lambda place, position, *_: GenerationFate(
             position, place.generation != self.places[-1].generation
         )
 
@@ -137,14 +137,18 @@ class Continued(Named):
         writer, position = self.ended()
         later = replace(self.places[0], generation=7)
         self.keepers.fate.side_effect = lambda place, position, *_: (
-            Fate(position, False) if place == later else Fate(position - 1, True, continues=later)
+            GenerationFate(position, False)
+            if place == later
+            else GenerationFate(position - 1, True, continues=later)
         )
         writer.durable(position)
         self.assertEqual((writer.durable_end, self.texts()), (position, [b"1"]))
 
     def test_of_a_run_that_is_over_it_is_lost(self) -> None:
         writer, position = self.ended()
-        self.keepers.fate.side_effect = lambda place, position, *_: Fate(position - 1, True)
+        self.keepers.fate.side_effect = lambda place, position, *_: GenerationFate(
+            position - 1, True
+        )
         with self.assertRaises(Lost) as raised:
             writer.durable(position)
         self.assertEqual(raised.exception.position, position)
@@ -156,9 +160,9 @@ class Overtaken(Named):
     def setUp(self) -> None:
         super().setUp()
         self.keepers.fate.side_effect = lambda place, position, *_: (
-            Fate(self.places[place.generation].kept, True)
+            GenerationFate(self.places[place.generation].kept, True)
             if place.generation < len(self.places)
-            else Fate(position, False)
+            else GenerationFate(position, False)
         )
         self.begin()
         self.overtaken = self.writer()
@@ -226,9 +230,9 @@ class UponOthers(Named):
     def setUp(self) -> None:
         super().setUp()
         self.keepers.fate.side_effect = lambda place, position, *_: (
-            Fate(self.places[place.generation].kept, True)
+            GenerationFate(self.places[place.generation].kept, True)
             if place.generation < len(self.places)
-            else Fate(position, False)
+            else GenerationFate(position, False)
         )
         self.begin()
 
@@ -670,7 +674,7 @@ class Words(Saying):
     def test_what_an_older_keeper_says_is_durable_is_of_its_present_run(self) -> None:
         at = "at shop 1 {} 127.0.0.1:1 5 127.0.0.1:2 0 0 0"
         for run, answer, told in (
-            ("r", "durable shop 1 7", Fate(7, False)),
+            ("r", "durable shop 1 7", GenerationFate(7, False)),
             ("another", "durable shop 1 7", None),
             ("r", "over shop 1 7", None),
         ):
@@ -814,7 +818,7 @@ class Words(Saying):
     def test_what_became_of_another_generation_is_no_answer(self) -> None:
         self.said = lambda _: b"over shop 1 5\n"
         self.assertRaises(pagelog.TimedOut, self.keepers.fate, of_generation(2), 5)
-        self.assertEqual(self.keepers.fate(of_generation(1), 7), Fate(5, True))
+        self.assertEqual(self.keepers.fate(of_generation(1), 7), GenerationFate(5, True))
 
     def test_how_far_its_holder_has_archived_all_that_it_has(self) -> None:
         for told, archived in (
@@ -851,7 +855,7 @@ class Words(Saying):
         self.said = lambda _: b"lost shop 1 superseded by=7\n"
         self.assertEqual(
             self.keepers.fate(of_generation(1), 5),
-            Fate(
+            GenerationFate(
                 0,
                 True,
                 True,

@@ -16,7 +16,7 @@ from unittest.mock import patch
 from pagelog import ConnectionLost, InDoubt, Lost, NamedPrimary, OlderEpoch, Section
 from pagelog.block import Block
 from pagelog.keeper.table import KEEPER
-from pagelog.place import Fate, Place
+from pagelog.place import GenerationFate, Place
 from pagelog.reader import Span
 from pagelog.reply import State
 from pagelog.rules import Denial
@@ -143,19 +143,19 @@ class World:
 
     # The keepers' lines.
 
-    def fate(self, place: Place, position: int, *_: object) -> Fate:
+    def fate(self, place: Place, position: int, *_: object) -> GenerationFate:
         try:
             self.happen(self.at(place))
         except ConnectionLost:
             pass
         if place.run == self.now.run and place.generation < len(self.services):
-            return Fate(len(self.archived), True, continues=self.place())
+            return GenerationFate(len(self.archived), True, continues=self.place())
         if place.run == self.now.run:
             self.archive(all=True)
             if len(self.archived) >= position:
-                return Fate(len(self.archived), False)
+                return GenerationFate(len(self.archived), False)
             self.over()  # nobody will write it here
-        return Fate(self.ends[place.run], True)
+        return GenerationFate(self.ends[place.run], True)
 
     def block(self, position: int) -> str | None:
         if self.chance.random() < 0.03 or position > len(self.archived):
@@ -321,7 +321,7 @@ class Orders(unittest.TestCase):
         world.left = 0  # nothing else happens
         with writer_of(world) as writer:
 
-            def over(place: Place, position: int, *_: object) -> Fate:
+            def over(place: Place, position: int, *_: object) -> GenerationFate:
                 """Meanwhile its keeper hands over, and another writer goes on in the next generation."""
                 writer.keepers.fate = world.fate  # type: ignore[method-assign]
                 world.succeed()

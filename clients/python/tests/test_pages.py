@@ -39,10 +39,10 @@ from pagelog.keeper.rows import PagesRow
 from pagelog.keeper.table import token_of
 from pagelog.pages import following
 from pagelog.pages.bell import Told as Word
-from pagelog.pages.following import Follower, Settings
+from pagelog.pages.following import Follower, PageServerSettings
 from pagelog.pages.process import OtherChain, PagesProcess, StoreFailed
 from pagelog.pages.serving import PageServers
-from pagelog.pages.stores import MOST_ASIDE, SetAside, Store, asides_in
+from pagelog.pages.stores import MOST_ASIDE, SetAside, PageStore, asides_in
 from pagelog.place import BelowBase
 from pagelog.request import Role
 from pagelog.rules import AboveTheEnd, UnknownPrincipal
@@ -542,7 +542,7 @@ class Served(unittest.TestCase):
         return self.keeping.folder / "stores"
 
     def servers(self) -> PageServers:
-        settings = Settings(
+        settings = PageServerSettings(
             pages_program.program(),
             self.folder,
             "127.0.0.1",
@@ -838,7 +838,7 @@ class Told(Served):
             self.assertEqual(reader.page(n % 4, last - 201 + n).data[:8], b"%08d" % n)
 
     def test_what_a_keeper_says_is_taken_where_the_blocks_have_that_digest(self) -> None:
-        settings = Settings(
+        settings = PageServerSettings(
             pages_program.program(),
             self.folder,
             "127.0.0.1",
@@ -873,7 +873,7 @@ class Told(Served):
             self.assertIsNone(referee.descriptor, "another connection comes next")
 
     def test_it_says_where_it_is_while_it_catches_up(self) -> None:
-        settings = Settings(
+        settings = PageServerSettings(
             pages_program.program(),
             self.folder,
             "127.0.0.1",
@@ -1249,17 +1249,17 @@ class WentBack(Served):
         positions, chains = self.written()
         run, _ = self.ended(positions[-1])
         identity = self.keeping.row().identity
-        folder, store = self.folder, Store("shop", identity, run)
+        folder, store = self.folder, PageStore("shop", identity, run)
         (folder / f"{store.stem}.oldest").write_text("0\n")
-        Store("shop", identity, "1" * 16).save(folder)
+        PageStore("shop", identity, "1" * 16).save(folder)
         (folder / "aside").mkdir()
         (folder / f"{store.stem}.oldest").rename(
             folder / "aside" / f"{store.stem}.oldest"
         )  # and was killed then
-        (folder / Store("shop", identity, "2" * 16).stem).mkdir()
-        (folder / "aside" / Store("shop", identity, "3" * 16).stem).mkdir()
+        (folder / PageStore("shop", identity, "2" * 16).stem).mkdir()
+        (folder / "aside" / PageStore("shop", identity, "3" * 16).stem).mkdir()
         self.servers()
-        wanted = [store.stem], [Store("shop", identity, "1" * 16).stem]
+        wanted = [store.stem], [PageStore("shop", identity, "1" * 16).stem]
         eventually(
             lambda: (self.folders(folder / "aside"), self.folders(folder)) == wanted,
             f"that it alone is quarantined: {self.said}",

@@ -29,7 +29,7 @@ from pagelog.cli.words import pagelogctl
 from pagelog.errors import ConnectionLost, TimedOut, Unreachable
 from pagelog.keeper.certificate import Pair
 from pagelog.keeper.referee import Referee
-from pagelog.pages.following import Settings
+from pagelog.pages.following import PageServerSettings
 from pagelog.pages.process import PagesProcess, Serving
 from pagelog.pages.serving import PageServers
 from pagelog.place import Keepers, PageServerPlace
@@ -289,7 +289,7 @@ class Told(unittest.TestCase):
     def servers(
         self, serving: Serving | None, name: str = "stores", names: tuple[str, ...] = ("shop",)
     ) -> PageServers:
-        settings = Settings(
+        settings = PageServerSettings(
             pages_program.program(),
             self.keeping.folder / name,
             "127.0.0.1",

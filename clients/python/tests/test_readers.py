@@ -16,7 +16,7 @@ from keepers import Keeping, eventually, new_database
 from pagelog import NamedReader
 from pagelog.keeper.keeping import Keeper
 from pagelog.keeper.served import seconds
-from pagelog.place import Dropped, Fate, Place, _Line
+from pagelog.place import Dropped, GenerationFate, Place, _Line
 from pagelog.polling import EACH, HolderPoll
 from service import PATIENCE, put, token
 from test_named import Named, Saying
@@ -217,9 +217,9 @@ class Durable(Named):
         self.begin()
         self.commit(9)
 
-        def archive(place: Place, position: int, _: float) -> Fate:
+        def archive(place: Place, position: int, _: float) -> GenerationFate:
             self.archived = position
-            return Fate(position, False)
+            return GenerationFate(position, False)
 
         self.keepers.fate_at_once.side_effect = archive
         reader = self.reader()

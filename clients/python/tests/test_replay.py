@@ -15,7 +15,7 @@ from unittest import mock
 
 import pagelog
 from pagelog import Block, Zero
-from pagelog.archive import Archive, BrokenArchive
+from pagelog.archive import Archive, DamagedArchive
 from pagelog.archive.session import Row
 from pagelog.keeping import Archiver, OtherLog
 from pagelog.reply import LINE_SIZE
@@ -28,7 +28,7 @@ from pagelog.trail.replay import (
     UNARCHIVED_BLOCK,
     Difference,
     NotReplayable,
-    Replay,
+    TrailReplay,
     Replayed,
     lines_of,
     replay,
@@ -36,7 +36,7 @@ from pagelog.trail.replay import (
 from pagelog.trail.seal import seal
 from pagelog.trail.statements import NEW_PIECE
 from pagelog.trail.store import NO_DIGEST
-from pagelog_model.bodies import Malformed, read_request
+from pagelog_model.bodies import MalformedBody, read_request
 from pagelog_model.lines import read_lines
 from service import IS_LONG, PATIENCE, TOP, WIDE_TABLE, Service, fill, put
 from test_archive import change, row_of_piece, words
@@ -146,7 +146,7 @@ def texts_by_line(database: Any) -> dict[int, bytes]:
     for body, reply in zip(database.asked, database.replies):
         try:
             q = read_request(body)
-        except Malformed:
+        except MalformedBody:
             continue
         if reply == b"\7" or reply[:4] == b"\5\1\0\1":
             continue
@@ -374,11 +374,11 @@ class Edits(Written):
             self.change_block(30, data, crc)
 
         store(outside.data, zlib.crc32(kept.data))
-        self.assertRaises(BrokenArchive, self.replay)
+        self.assertRaises(DamagedArchive, self.replay)
         # One who knows how makes the checksum again, and the seal tells.
         like = Block.of(30, (*kept.records, Zero(3)))
         store(like.data, zlib.crc32(like.data))
-        with self.assertRaises(BrokenArchive) as raised:
+        with self.assertRaises(DamagedArchive) as raised:
             self.replay()
         self.assertIn("the trail has sealed", str(raised.exception))
         # Without a seal, a block that the table does not let its writer write.
@@ -394,7 +394,9 @@ class Edits(Written):
     def test_a_block_at_the_place_of_another_is_found(self) -> None:
         blocks = list(ArchivedLog(self.trail, self.archive).blocks())
         for wrong in (blocks[:30] + blocks[31:], blocks[:30] + [blocks[30][:-1]] + blocks[31:]):
-            again = Replay(Start(BY_BLOCKS.encode(), 2), iter(wrong), lambda _, __: [self.text])
+            again = TrailReplay(
+                Start(BY_BLOCKS.encode(), 2), iter(wrong), lambda _, __: [self.text]
+            )
             with self.assertRaises(Difference) as raised:
                 for line in lines_of(self.trail, self.trail.lists()[-1]):
                     again.take(line)
@@ -477,7 +479,7 @@ class Edits(Written):
             fill(primary, 150, seed=5, empties=False)
             Archiver(reader, self.archive).run(follow=False)
         self.keeper.run(follow=False)
-        again = Replay(
+        again = TrailReplay(
             Start(BY_BLOCKS.encode(), 2),
             ArchivedLog(self.trail, self.archive).blocks(),
             lambda _, __: [self.text],

@@ -19,7 +19,7 @@ from unittest import mock
 
 import pagelog
 from pagelog import Block, Operation, Put
-from pagelog.archive import Archive, BrokenArchive
+from pagelog.archive import Archive, DamagedArchive
 from pagelog.cli import options
 from pagelog.keeping import Archiver, OtherLog, OtherService, all_blocks, restore, verify
 from postgres import postgres
@@ -159,7 +159,7 @@ class Restoring(Pair):
     def test_a_broken_archive_is_not_restored(self) -> None:
         self.archived(100)
         change(self.archive, "DELETE FROM pagelog_block WHERE lsn = 77")
-        with self.assertRaises(BrokenArchive):
+        with self.assertRaises(DamagedArchive):
             self.restore()
         with self.target.reader() as reader:
             self.assertEqual(reader.status().hard, 0)
@@ -248,14 +248,14 @@ class Verifying(Pair):
     def test_pages_are_compared(self) -> None:
         """A replay that is wrong is noticed: the sampled pages of the service are those of the log."""
         self.archived(40)
-        taken = pagelog.comparing.Replay.take
+        taken = pagelog.comparing.SampleReplay.take
 
         def skips_some(replay: object, block: Block) -> None:
             if block.lsn % 3:
                 taken(replay, block)  # type: ignore[arg-type]
 
-        pagelog.comparing.Replay.take = skips_some  # type: ignore[method-assign, assignment]
-        self.addCleanup(setattr, pagelog.comparing.Replay, "take", taken)
+        pagelog.comparing.SampleReplay.take = skips_some  # type: ignore[method-assign, assignment]
+        self.addCleanup(setattr, pagelog.comparing.SampleReplay, "take", taken)
         with self.assertRaisesRegex(OtherLog, "page"), self.source.reader() as reader:
             verify(self.archive, reader, seed=1)
 
@@ -276,7 +276,7 @@ class Verifying(Pair):
             verify(self.archive, reader)
 
     def test_the_sample_is_replayed_from_the_first_record(self) -> None:
-        replay = pagelog.comparing.Replay(seed=12345, count=8)
+        replay = pagelog.comparing.SampleReplay(seed=12345, count=8)
         plain: dict[int, bytearray] = {}
         for lsn in range(1, 300):
             records = [

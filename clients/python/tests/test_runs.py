@@ -35,7 +35,8 @@ from pagelog import (
     TableRow,
     UnknownPrincipal,
 )
-from pagelog.keeper.archiver import Archiver
+from pagelog.errors import TableError
+from pagelog.keeper.archiver import RunArchiver
 from pagelog.keeper.doubts import Doubts
 from pagelog.keeper.acknowledged import memory_of, new_memory
 from pagelog.keeper.definition import Definition, Seal
@@ -58,7 +59,6 @@ from pagelog.keeper.succession import _closed
 from pagelog.keeper.table import (
     KEEPER,
     Form,
-    TableError,
     keeper_of,
     quorum_of,
     read_table,
@@ -309,7 +309,7 @@ class Runs(unittest.TestCase):
         self.assertEqual((following.pulled(0), following.reached), ([*known, *switch.blocks], 5))
         self.assertEqual(digest(b"", [*known, *switch.blocks]), switch.chain)
         # The same of a release.
-        archiver = Archiver(Row(7, "shop"), present, Waits("shop"), Doubts(None), print, int, None)  # type: ignore[arg-type]
+        archiver = RunArchiver(Row(7, "shop"), present, Waits("shop"), Doubts(None), print, int, None)  # type: ignore[arg-type]
         last = asyncio.run(archiver.rest(5, None))
         assert last is not None
         self.assertEqual((last.old, last.blocks, last.chain), (2, switch.blocks, switch.chain))

@@ -16,10 +16,10 @@ from click.testing import CliRunner
 from keepers import Keeping, eventually, new_url
 from pagelog import NamedPrimary
 from pagelog.cli.words import pagelogctl
-from pagelog.errors import CredentialsError
+from pagelog.errors import CredentialsError, TableError
 from pagelog.keeper.referee import Referee, Sealed
 from pagelog.keeper.sealed import INSTEAD, Keys, NoKey, Stored, id_of
-from pagelog.keeper.table import TableError, read_table
+from pagelog.keeper.table import read_table
 from postgres import programs
 from service import PATIENCE, WIDE_TABLE, put, token
 from torture_secrets import Secrets, Sought

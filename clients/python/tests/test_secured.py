@@ -34,7 +34,7 @@ from pagelog.keeper.fate import Of
 from pagelog.keeper.fronted import may_ask
 from pagelog.keeper.unix import near
 from pagelog.keeper.hosts import is_loopback, unverified
-from pagelog.keeper.proxied import SIGNATURE, Head, taken
+from pagelog.keeper.proxied import SIGNATURE, ProxyHead, taken
 from pagelog.keeper.referee import Away, Referee, options_of
 from pagelog.keeper.run import fronts_of, has_services
 from pagelog.keeper.settings import Settings
@@ -68,7 +68,7 @@ class Heads(unittest.TestCase):
             (head(), None),
             (head(b"shop", command=0x20), None),
         ):
-            self.assertEqual(taken(text + b"where x\n"), (Head(client), b"where x\n"))
+            self.assertEqual(taken(text + b"where x\n"), (ProxyHead(client), b"where x\n"))
 
     def test_one_that_is_cut_waits_and_one_that_is_none_is_refused(self) -> None:
         whole = head(b"shop")

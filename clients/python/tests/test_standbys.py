@@ -21,7 +21,7 @@ from pagelog.keeper.keeping import LOOKS
 from pagelog.keeper.loading import Loader
 from pagelog.keeper.machine import NEAR
 from pagelog.keeper.table import keeper_of
-from pagelog.place import Fate, Keepers
+from pagelog.place import GenerationFate, Keepers
 from postgres import Postgres, postgres
 from service import PATIENCE, accept_each, stand_still
 
@@ -192,7 +192,7 @@ class TwoKeepers(Two):
             self.keeping.place(least=place.generation + 1)
             self.assertEqual(self.commit(other, "2", durable=True), 2)
             self.keeping.kill(first, signal.SIGCONT)
-            self.assertEqual(zombie.fate(place, 2), Fate(1, True))
+            self.assertEqual(zombie.fate(place, 2), GenerationFate(1, True))
             eventually(
                 lambda: not os.path.exists(f"/proc/{pid}"), "the end of the zombie's service"
             )

@@ -26,7 +26,7 @@ from pagelog import Block, Put
 from pagelog.cli.drop_words import _drop_named
 from pagelog.cli.words import pagelogctl
 from pagelog.keeper.bases import NOTHING, Base, Bases, make_base
-from pagelog.keeper.basing import Wish as BaseWish
+from pagelog.keeper.basing import BaseWish as BaseWish
 from pagelog.keeper.history import begin_again, extent_of, position_at
 from pagelog.keeper.holding import hold, let_go
 from pagelog.keeper.images import MARK, Replay
@@ -48,7 +48,7 @@ from pagelog.store.moving import Moving, Wish, foreign
 from pagelog.store.pack import image_of, read_manifest
 from pagelog.store.packing import PackMover
 from pagelog.store.place import Folder, Missing, Store, StoreAway, StoreError, store_of
-from pagelog.store.segment import BrokenObject, Head, Segment, decode, encode, named
+from pagelog.store.segment import BrokenObject, SegmentHead, Segment, decode, encode, named
 from pagelog.store.settings import StoreSettings
 from pagelog.store.sweeping import sweep
 from test_images import pages
@@ -252,7 +252,7 @@ class Objects(unittest.TestCase):
     def setUp(self) -> None:
         self.folder = Path(self.enterContext(tempfile.TemporaryDirectory()))
         blocks = [Block.of(lsn, [Put(0, 0, b"%d" % lsn * 9)]).data for lsn in range(5, 25)]
-        head = Head(uuid.UUID(int=7 << 96), 5, 24, b"b" * 16, digest(b"b" * 16, blocks), 3)
+        head = SegmentHead(uuid.UUID(int=7 << 96), 5, 24, b"b" * 16, digest(b"b" * 16, blocks), 3)
         self.blocks, self.segment = blocks, Segment(
             head, b"".join(blocks), list(map(len, blocks)), [1_000_000 + at for at in range(20)]
         )

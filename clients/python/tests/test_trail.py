@@ -21,7 +21,7 @@ from pagelog.request import AUDIT_MAX
 from pagelog.trail import OtherKeeper, Start, Trail, TrailKeeper
 from pagelog.times import moment
 from pagelog.trail.keeper import DAY
-from pagelog.trail.question import Question, Seen, answer
+from pagelog.trail.question import Question, SeenLine, answer
 from pagelog.trail.replay import NotReplayable, replay
 from pagelog.trail.texts import TrailError, without_tokens
 from postgres import postgres
@@ -358,7 +358,7 @@ class Words(Folder):
         with patch("pagelog.cli.trail_words.time.sleep", waits), patch(
             "pagelog.cli.trail_words.time.time", lambda: now[0]
         ):
-            found = {line.seen for line in shown if isinstance(line, Seen)}
+            found = {line.seen for line in shown if isinstance(line, SeenLine)}
         self.assertEqual((found, len(looks)), ({MORNING, MORNING + 1_000_000}, 4))
 
     def test_a_recorder_that_is_killed_or_told_to_end(self) -> None:

@@ -19,7 +19,7 @@ from pagelog import Block
 from pagelog.reply import LINE_SIZE
 from pagelog.trail.export import NotExportable, export
 from pagelog.trail.logs import ArchivedLog
-from pagelog.trail.replay import ANNULLED_BLOCK, Difference, NotReplayable, Replay
+from pagelog.trail.replay import ANNULLED_BLOCK, Difference, NotReplayable, TrailReplay
 from pagelog.trail.store import Start, TrailList
 from pagelog_model.lines import read_lines
 from pagelog_model.table import read
@@ -242,7 +242,7 @@ class Changed(Verifies, Written):
         texts = [item[1:] for item in file.kept if item[0] == TEXT]
         blocks = ArchivedLog(self.trail, self.archive).blocks()
         given = {at for at, (brings, _) in enumerate(file.lines, 1) if brings > 80}
-        again = Replay(Start(BY_BLOCKS.encode(), 2), blocks, lambda _, __: texts, given)
+        again = TrailReplay(Start(BY_BLOCKS.encode(), 2), blocks, lambda _, __: texts, given)
         try:
             for line in read_lines(b"".join(line for _, line in file.lines)):
                 again.take(line)

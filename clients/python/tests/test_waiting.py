@@ -19,11 +19,12 @@ from pagelog.archive import Archive
 from pagelog.archive.archiving import Archiver
 from pagelog.audit_list import AuditRoom
 from pagelog.comparing import all_blocks
-from pagelog.cli.archive_words import Follower
+from pagelog.cli.archive_words import ArchiveFollower
 from pagelog.cli.options import NOT_YET
 from pagelog.fencing import ListGuard
 from pagelog.restoring import set_real_table
-from pagelog.tables import TableError, TableText
+from pagelog.errors import TableError
+from pagelog.tables import TableText
 from service import PATIENCE, TABLE, WIDE_TABLE, Service, fill, put, token
 from test_archive import words
 
@@ -215,9 +216,9 @@ class Followers(Archived):
         with self.service.reader() as reader, Archive(self.url) as archive:
             self.assertEqual(list(archive.blocks()), list(all_blocks(reader, 1, 107)))
 
-    def follower(self, archive: Archive, reader: pagelog.Reader, **guard: Any) -> Follower:
+    def follower(self, archive: Archive, reader: pagelog.Reader, **guard: Any) -> ArchiveFollower:
         archiver = Archiver(reader, archive)
-        return Follower(
+        return ArchiveFollower(
             archiver, 0.1, self.ends, ListGuard(archiver=archiver, **guard) if guard else None
         )
 

@@ -10,7 +10,7 @@ from pathlib import Path
 import pagelog
 from pagelog import Primary, Put, rules
 from pagelog.archive import Archive
-from pagelog.cli.explain import ExplainError, Question, Table, explain
+from pagelog.cli.explain import ExplainError, RequestQuestion, Table, explain
 from pagelog.keeping import Archiver, all_blocks
 from pagelog.request import Get, Write
 from service import PATIENCE, PROGRAM, TABLE, WIDE_TABLE, Service, fill, put, token
@@ -149,7 +149,9 @@ class SixCopies(unittest.TestCase):
 
     def test_explain_knows_the_keys(self) -> None:
         table = Table(self.service.table)
-        self.assertEqual(explain(table, Question.parse("principal 2 write 0")).place, "row 2")
+        self.assertEqual(
+            explain(table, RequestQuestion.parse("principal 2 write 0")).place, "row 2"
+        )
         self.assertIn("copies = 6", table.beginning(1, 2))
 
 
@@ -212,25 +214,28 @@ class RowsThatEnd(unittest.TestCase):
         }.items():
             decision = explain(
                 table,
-                Question.parse(
+                RequestQuestion.parse(
                     f"principal 3 {'as secondary ' if question == 'status' else ''}{question}"
                 ),
             )
             self.assertEqual(decision.place, place, question)
-        self.assertIn("through 40", str(explain(table, Question.parse("principal 3 pull at 7"))))
+        self.assertIn(
+            "through 40", str(explain(table, RequestQuestion.parse("principal 3 pull at 7")))
+        )
 
 
 class AtAnLsn(unittest.TestCase):
     """What explain asks of a program that knows nothing of rows that end."""
 
     def test_an_lsn_is_part_of_the_question(self) -> None:
-        question = Question.parse("principal 3 get 7 at 41")
+        question = RequestQuestion.parse("principal 3 get 7 at 41")
         self.assertEqual(question.act(b""), Get(7, 41))
-        act = Question.parse("principal 2 write 1,4 at 9").act(b"")
+        act = RequestQuestion.parse("principal 2 write 1,4 at 9").act(b"")
         self.assertIsInstance(act, Write)
         self.assertEqual((act.block.lsn, act.block.partitions), (9, (1, 4)))  # type: ignore[union-attr]
         self.assertEqual(
-            explain(Table(TABLE), Question.parse("principal 3 pull 0..3 at 500")).place, "row 4"
+            explain(Table(TABLE), RequestQuestion.parse("principal 3 pull 0..3 at 500")).place,
+            "row 4",
         )
         for text in (
             "principal 1 tidy at 5",
@@ -239,7 +244,7 @@ class AtAnLsn(unittest.TestCase):
             "principal 3 get at 281474976710657",
         ):
             with self.subTest(text), self.assertRaises(ExplainError):
-                Question.parse(text).act(b"")
+                RequestQuestion.parse(text).act(b"")
 
     def test_what_was_pulled_before_a_refusal_is_not_lost(self) -> None:
         """A table that denies from now on, set between two pulls of one span."""

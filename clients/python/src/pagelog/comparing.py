@@ -88,7 +88,7 @@ class Verified:
     hard: int
 
 
-class Replay:
+class SampleReplay:
     """Some pages as the log makes them: those whose numbers come first in an order drawn from a seed."""
 
     def __init__(self, seed: int, count: int = _SAMPLES) -> None:
@@ -143,7 +143,7 @@ def verify(
         raise LogWentBack(f"the service has {hard} blocks, and {archived} are archived")
     seed = random.getrandbits(32) if seed is None else seed
     pages = denied = 0
-    replay = Replay(seed)
+    replay = SampleReplay(seed)
 
     def replayed() -> Iterator[Block]:
         nonlocal pages, denied
@@ -158,7 +158,7 @@ def verify(
     return Verified(count, pages, denied, archived, hard)
 
 
-def _compare_pages(reader: Reader, replay: Replay, lsn: int) -> tuple[int, int]:
+def _compare_pages(reader: Reader, replay: SampleReplay, lsn: int) -> tuple[int, int]:
     """How many pages of the sample were alike at this LSN, and how many the table does not let this reader get."""
     same = refused = 0
     numbers = sorted(replay.pages)

@@ -8,6 +8,7 @@
         LogWentBack            the service has less than was seen of it: it was restarted
         UnexpectedReply        a reply of a kind that does not answer the request
         HoldsSqlite            the pages are those of a SQLite database, which is not to be overwritten
+        TableError             a text is no table, or none can be made from it
         CredentialsError       credentials are missing, malformed, or others may read their file
         Fault                  bytes, or values for bytes, that are not in the format
             BlockFault         of a block, 9 of them
@@ -33,6 +34,7 @@ __all__ = [
     "UnexpectedReply",
     "HoldsSqlite",
     "CredentialsError",
+    "TableError",
     "Refusal",
     "OutOfMemory",
     "AuditListFull",
@@ -95,6 +97,10 @@ class HoldsSqlite(PagelogError):
 
 class CredentialsError(PagelogError):
     """Credentials are missing or malformed, or their file may be read by others."""
+
+
+class TableError(PagelogError):
+    """A text is no table, or none can be made from it."""
 
 
 class Refusal(PagelogError):

@@ -46,7 +46,7 @@ class Step:
 
 
 @dataclass(slots=True)
-class Turn:
+class SendTurn:
     """What was sent until a reply refused it, or left a doubt, and what came of it."""
 
     plan: deque[Step] = field(default_factory=deque)

@@ -20,8 +20,8 @@ from pagelog.errors import InDoubt, OutOfMemory, PagelogError, TimedOut
 from pagelog.following import GONE, Following, NamedAccount
 from pagelog.keeper.table import KEEPER
 from pagelog.operator import Operator
-from pagelog.packing import Packed
-from pagelog.place import QUICKEST, SLOWEST, Dropped, Fate, Lost, Place
+from pagelog.packing import PackedBlocks
+from pagelog.place import QUICKEST, SLOWEST, Dropped, GenerationFate, Lost, Place
 from pagelog.primary import Primary
 from pagelog.reader import Reader
 from pagelog.repeating import Backoff
@@ -164,7 +164,7 @@ class NamedPrimary(Following):
                 if position > fate.end:
                     self._go_on(fate)
 
-    def _go_on(self, fate: Fate) -> None:
+    def _go_on(self, fate: GenerationFate) -> None:
         """Its generation is over, before all was durable. A writer that has ended writes nothing of that again: it is lost, unless its run
         continues."""
         if self._ended is None:
@@ -201,7 +201,7 @@ class NamedPrimary(Following):
         return self._tail[-1].lsn if self._tail else self.end
 
     def _pack(self, commits: Sequence[Sequence[Record]]) -> list[int]:
-        packed = Packed(self._last + 1)
+        packed = PackedBlocks(self._last + 1)
         ends = [packed.add(records) for records in commits]
         packed.close()
         self._tail += packed.blocks
@@ -446,7 +446,7 @@ class NamedPrimary(Following):
         if self._tail and end < self._tail[0].lsn - 1:  # others' blocks, upon which its own stand
             self._lose_from(place, end + 1, end)
 
-    def _fate(self, place: Place, position: int, lines: str | None = None) -> Fate:
+    def _fate(self, place: Place, position: int, lines: str | None = None) -> GenerationFate:
         """What became of a position. Raises `Lost` where PostgreSQL went on without this run, and `Dropped`."""
         try:
             fate = self.keepers.fate(place, position, lines)

@@ -38,7 +38,7 @@ class Packer:
         return False
 
 
-class Packed:
+class PackedBlocks:
     """Blocks from an LSN on, as few as the records of some commits fit in."""
 
     def __init__(self, first: int) -> None:

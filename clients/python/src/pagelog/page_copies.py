@@ -35,7 +35,7 @@ _AT_ONCE = 64
 """Pages of one question."""
 
 
-class Verdict(Enum):
+class CopyVerdict(Enum):
     """What an answer is worth."""
 
     RIGHT = 0
@@ -46,9 +46,9 @@ class Verdict(Enum):
     WRONG = 3
 
 
-def _of_denial(reply: Reply) -> Verdict:
+def _of_denial(reply: Reply) -> CopyVerdict:
     is_out_of_range = isinstance(reply, Denied) and reply.section is Section.C
-    return Verdict.BEHIND if is_out_of_range else Verdict.WRONG
+    return CopyVerdict.BEHIND if is_out_of_range else CopyVerdict.WRONG
 
 
 class EndQuestion:
@@ -62,10 +62,10 @@ class EndQuestion:
         """What one is asked for, behind the status."""
         return []
 
-    def judge(self, line: PageLine, replies: Sequence[Reply]) -> Verdict:
+    def judge(self, line: PageLine, replies: Sequence[Reply]) -> CopyVerdict:
         """What an answer is worth. `found` is it, where it is right."""
         self.found = line.position
-        return Verdict.RIGHT if line.position >= self._least else Verdict.BEHIND
+        return CopyVerdict.RIGHT if line.position >= self._least else CopyVerdict.BEHIND
 
 
 class PagesQuestion:
@@ -99,17 +99,17 @@ class PagesQuestion:
             return None, None
         return min(self._position, block.lsn), block if block.lsn > line.proved else None
 
-    def judge(self, line: PageLine, replies: Sequence[Reply]) -> Verdict:
+    def judge(self, line: PageLine, replies: Sequence[Reply]) -> CopyVerdict:
         """As of another question."""
         base, proof = line.asked
         if base is None:
-            return Verdict.BEHIND if self._plan(line)[0] is None else Verdict.AGAIN
+            return CopyVerdict.BEHIND if self._plan(line)[0] is None else CopyVerdict.AGAIN
         pages = replies
         if proof is not None:
             if not isinstance(replies[0], Blocks):
                 return _of_denial(replies[0])
             if replies[0].blocks != (proof,):
-                return Verdict.WRONG
+                return CopyVerdict.WRONG
             pages, line.proved = replies[1:], proof.lsn
         found = [reply.data for reply in pages if isinstance(reply, Page) and reply.at == base]
         if len(found) < len(pages):
@@ -117,7 +117,7 @@ class PagesQuestion:
                 next(reply for reply in pages if not isinstance(reply, Page) or reply.at != base)
             )
         self.found = (self._tail or Tail()).laid(self._numbers, found, base, self._position)
-        return Verdict.RIGHT
+        return CopyVerdict.RIGHT
 
 
 Question = Union[EndQuestion, PagesQuestion]
@@ -199,21 +199,21 @@ class _Round:
             return False
         verdict = self._judge(line, replies)
         line.leave()
-        if verdict is Verdict.AGAIN and self._ask(line):
+        if verdict is CopyVerdict.AGAIN and self._ask(line):
             return False
-        if verdict is Verdict.RIGHT:
+        if verdict is CopyVerdict.RIGHT:
             line.pause = 0.0
-        elif verdict is Verdict.BEHIND:
+        elif verdict is CopyVerdict.BEHIND:
             _pass_over(line, *_BEHIND)
-        elif verdict is Verdict.WRONG:
+        elif verdict is CopyVerdict.WRONG:
             line.close()
             _leave_out(line)
-        return verdict is Verdict.RIGHT
+        return verdict is CopyVerdict.RIGHT
 
-    def _judge(self, line: PageLine, replies: Sequence[Reply]) -> Verdict:
+    def _judge(self, line: PageLine, replies: Sequence[Reply]) -> CopyVerdict:
         status = replies[0]
         if not isinstance(status, State):
-            return Verdict.WRONG
+            return CopyVerdict.WRONG
         line.position = status.hard
         return self._question.judge(line, replies[1:])
 

@@ -131,7 +131,7 @@ class PageServerPlace:
 
 
 @dataclass(frozen=True)
-class Fate:
+class GenerationFate:
     """How far a generation is durable. If it `is_over`, nothing above `end` will ever be. If it `is_lost` PostgreSQL has lost its run, and
     went on without it: what it had above its durable blocks is nowhere, and of those nothing is known; `why` says so. If the run `continues`
     under a later number, as PostgreSQL went back, the generation is over, and what its log has above `end` is archived again.
@@ -552,7 +552,7 @@ class Keepers:
                 )
             time.sleep(waits.next())
 
-    def fate(self, place: Place, position: int, lines: str | None = None) -> Fate:
+    def fate(self, place: Place, position: int, lines: str | None = None) -> GenerationFate:
         """How far this generation is durable, once it is so up to the position, or is over. Raises `TimedOut`, and `Dropped`.
 
         `lines` are those of who is asked first, by default of its holder. The answer is the same from every keeper.
@@ -576,11 +576,11 @@ class Keepers:
                 )
             now = self.where()
             if now is not None and now.of == place.of and now.generation > place.generation:
-                return Fate(now.archived, True, continues=now)
+                return GenerationFate(now.archived, True, continues=now)
             asked = [now.lines] if now is not None else []
             time.sleep(waits.next())
 
-    def fate_at_once(self, place: Place, position: int, seconds: float) -> Fate | None:
+    def fate_at_once(self, place: Place, position: int, seconds: float) -> GenerationFate | None:
         """As `fate`, of its holder alone; None where that does not answer within so many seconds. Raises `Dropped`."""
         answer = self._ask(
             place.lines, ("durable", self.name, place.generation, position), seconds, place.of
@@ -609,7 +609,7 @@ class Keepers:
         ) is not None:
             self._lines[standby.lines] = line
 
-    def _fate(self, words: list[str], place: Place, position: int) -> Fate | None:
+    def _fate(self, words: list[str], place: Place, position: int) -> GenerationFate | None:
         """What an answer says of this very run. Raises `Dropped`."""
         fixed, keys = _parted(words)
         if keys.get("of") != place.of:
@@ -621,12 +621,12 @@ class Keepers:
                 raise Dropped(self.name, "the keepers have another database of this name")
             case ["lost", _, _, *_]:
                 by = f"PostgreSQL went back, and has gone on with generation {keys.get('by', '?')} without this run"
-                return Fate(0, True, is_lost=True, why=by)
+                return GenerationFate(0, True, is_lost=True, why=by)
         return _fate(fixed, place.generation, position)
 
     def _fate_of_older(
         self, address: str, words: list[str], place: Place, position: int
-    ) -> Fate | None:
+    ) -> GenerationFate | None:
         """What a keeper of version 1 says of the number of a generation: it is of this run if that keeper has this run now. Of one that is
         over it may be of another run, or another database."""
         line = self._lines.get(address)
@@ -727,10 +727,10 @@ def _read(
         return None
 
 
-def _fate(words: list[str], generation: int, position: int) -> Fate | None:
+def _fate(words: list[str], generation: int, position: int) -> GenerationFate | None:
     if len(words) != 4 or words[2] != str(generation) or not words[3].isdecimal():
         return None
     end = int(words[3])
     if words[0] == "over":
-        return Fate(end, True)
-    return Fate(end, False) if words[0] == "durable" and end >= position else None
+        return GenerationFate(end, True)
+    return GenerationFate(end, False) if words[0] == "durable" and end >= position else None

@@ -24,7 +24,7 @@ from pagelog.errors import (
 from pagelog.in_flight import (
     Sent,
     Step,
-    Turn,
+    SendTurn,
     checked_copies,
     gets_of,
     groups_of,
@@ -306,7 +306,7 @@ class Primary(PageClient):
         self._check_sqlite()
         left, tries = iter(groups), 0
         while True:
-            before, turn = self.durable, Turn()
+            before, turn = self.durable, SendTurn()
             yield from self._take_turn(left, in_flight, turn)
             if turn.refusals:
                 yield from self._end_turn(turn, left)
@@ -341,7 +341,7 @@ class Primary(PageClient):
         self.overwrite_sqlite = True
 
     def _take_turn(
-        self, left: Iterator[Sequence[Block]], in_flight: int, turn: Turn
+        self, left: Iterator[Sequence[Block]], in_flight: int, turn: SendTurn
     ) -> Iterator[int]:
         """Sends groups until there are none, or until a reply is a refusal, or leaves a doubt. What is in flight then is
         read, so that it is known which copies each block is in.
@@ -362,7 +362,7 @@ class Primary(PageClient):
                 yield self._hardened(step.sent.block.lsn)
 
     def _note_write(
-        self, sent: Sent, copy: int, refusal: Refusal | None, repeated: bool, turn: Turn
+        self, sent: Sent, copy: int, refusal: Refusal | None, repeated: bool, turn: SendTurn
     ) -> None:
         """That a repeated write finds its LSN hardened is no refusal: whose block it is is looked up."""
         connection = self.connection.connects
@@ -384,7 +384,7 @@ class Primary(PageClient):
             sent.is_anothers = True
             sent.copies.clear()
 
-    def _end_turn(self, turn: Turn, left: Iterator[Sequence[Block]]) -> Iterator[int]:
+    def _end_turn(self, turn: SendTurn, left: Iterator[Sequence[Block]]) -> Iterator[int]:
         error = self._settle(*turn.refusals[0])
         yield from (lsn for lsn in turn.reports if lsn <= self.durable)
         if error is None and next(left, None) is not None:

@@ -9,7 +9,7 @@ import re
 import tomllib
 from typing import Any
 
-from pagelog.keeper.table import TableError
+from pagelog.errors import TableError
 
 SAME = "same"
 """In place of a token: the one that the principal has."""

@@ -7,16 +7,12 @@ import tomllib
 from pathlib import Path
 from typing import Any, Iterable, Mapping
 
-from pagelog.errors import PagelogError
+from pagelog.errors import TableError
 from pagelog.request import TEXT_SIZE, Operation, Role
 
 MOST_ROWS = 256
 """The most rows of a table."""
 _WRITES = [Operation.WRITE.word, Operation.OFFER.word, Operation.REPORT.word]
-
-
-class TableError(PagelogError):
-    """A file has no table, or none can be made from it."""
 
 
 class TableText:

@@ -11,7 +11,7 @@ Request = dict[str, Any]
 """A request by the names of its fields."""
 
 
-class Malformed(Exception):
+class MalformedBody(Exception):
     """The bytes spell no request, by this code."""
 
     def __init__(self, code: int) -> None:
@@ -19,7 +19,7 @@ class Malformed(Exception):
         self.code = code
 
 
-class Block:
+class BlockBody:
     """A block that was read: its LSN, its bytes, and its records (page, offset, bytes) or (page,)."""
 
     def __init__(self, spelled: bytes, lsn: int, records: list[Any]) -> None:
@@ -44,7 +44,7 @@ class UnknownBlock:
         self.lsn = lsn
 
 
-class Reader:
+class BodyReader:
     """Takes fields from the front; where the bytes end inside one, that is this fault."""
 
     def __init__(self, data: bytes, fault: int) -> None:
@@ -52,7 +52,7 @@ class Reader:
 
     def take(self, size: int) -> bytes:
         if self.at + size > len(self.data):
-            raise Malformed(self.fault)
+            raise MalformedBody(self.fault)
         self.at += size
         return self.data[self.at - size : self.at]
 
@@ -63,47 +63,47 @@ class Reader:
         return len(self.data) - self.at
 
 
-def read_block(data: bytes) -> Block:
+def read_block(data: bytes) -> BlockBody:
     """A block's faults are 6 more than the codes of the block format."""
     if len(data) > wire.LONGEST_BLOCK:
-        raise Malformed(15)
-    fields = Reader(data, 7)
+        raise MalformedBody(15)
+    fields = BodyReader(data, 7)
     lsn = fields.number(8)
     if not 1 <= lsn <= LAST_LSN:
-        raise Malformed(8)
+        raise MalformedBody(8)
     annotations: list[int] = []
     for _ in range(fields.number(2)):
         annotations.append(fields.number(2))
         if annotations[-2:] != sorted(set(annotations[-2:])):
-            raise Malformed(9)
-    block = Block(data, lsn, [read_record(fields) for _ in range(fields.number(2))])
+            raise MalformedBody(9)
+    block = BlockBody(data, lsn, [read_record(fields) for _ in range(fields.number(2))])
     if fields.left():
-        raise Malformed(13)
+        raise MalformedBody(13)
     if annotations != sorted(block.touched):
-        raise Malformed(14)
+        raise MalformedBody(14)
     return block
 
 
-def read_record(fields: Reader) -> tuple[Any, ...]:
+def read_record(fields: BodyReader) -> tuple[Any, ...]:
     """A Put as (page, offset, bytes), a Zero as (page,)."""
     kind = fields.number(1)
     if kind == 2:
         return (fields.number(4),)
     if kind != 1:
-        raise Malformed(10)
+        raise MalformedBody(10)
     page, offset, length = fields.number(4), fields.number(2), fields.number(2)
     if length == 0:
-        raise Malformed(11)
+        raise MalformedBody(11)
     if offset + length > wire.PAGE_BYTES:
-        raise Malformed(12)
+        raise MalformedBody(12)
     return page, offset, fields.take(length)
 
 
 def read_request(body: bytes) -> Request:
     """The request that a body spells, as a dictionary."""
     if len(body) < 30:
-        raise Malformed(1)
-    fields = Reader(body, 4)
+        raise MalformedBody(1)
+    fields = BodyReader(body, 4)
     q = {
         "who": fields.number(4),
         "token": fields.take(16),
@@ -113,18 +113,18 @@ def read_request(body: bytes) -> Request:
         "op": fields.number(1),
     }
     if q["role"] not in ROLES:
-        raise Malformed(2)
+        raise MalformedBody(2)
     if q["op"] not in OPS:
-        raise Malformed(3)
+        raise MalformedBody(3)
     in_range = read_arguments(q, fields)
     if fields.left():
-        raise Malformed(5)
+        raise MalformedBody(5)
     if not in_range:
-        raise Malformed(6)
+        raise MalformedBody(6)
     return q
 
 
-def read_arguments(q: Request, fields: Reader) -> bool:
+def read_arguments(q: Request, fields: BodyReader) -> bool:
     """Adds the arguments of the operation, and says whether they are in their ranges."""
     op = q["op"]
     if op in (wire.WRITE, wire.OFFER):

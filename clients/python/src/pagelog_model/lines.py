@@ -12,7 +12,7 @@ _LINE = struct.Struct(">QQIBIBQQBHQ")
 LINE_BYTES = _LINE.size
 
 
-class Line(NamedTuple):
+class ModelLine(NamedTuple):
     """A line, field by field."""
 
     number: int
@@ -38,12 +38,12 @@ class Line(NamedTuple):
         return _LINE.pack(*self)
 
 
-def read_lines(data: bytes) -> Iterator[Line]:
+def read_lines(data: bytes) -> Iterator[ModelLine]:
     """The lines that these bytes are. Raises `struct.error` where they are no whole lines."""
-    return map(Line._make, _LINE.iter_unpack(data))
+    return map(ModelLine._make, _LINE.iter_unpack(data))
 
 
-def request_of(line: Line) -> Optional[Request]:
+def request_of(line: ModelLine) -> Optional[Request]:
     """The request of a line, as far as the line has it, or None where no request has such a line.
 
     A line has neither the block of a write or an offer nor the text of a table: of the block the LSN is known, and the text is

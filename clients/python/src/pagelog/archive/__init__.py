@@ -38,7 +38,7 @@ class OtherArchiver(ArchiveError):
     """Another archiver has moved the archived LSN meanwhile. Nothing of the batch was kept."""
 
 
-class BrokenArchive(ArchiveError):
+class DamagedArchive(ArchiveError):
     """A block of the archive is missing, or is not the one that was kept. `lsn` is its LSN."""
 
     def __init__(self, lsn: int, what: str) -> None:
@@ -185,7 +185,7 @@ class Archive:
     def blocks(self, first: int = 1, last: int = HIGHEST_LSN) -> Iterator[Block]:
         """The blocks from LSN `first` to `last`, both included, or to the archived LSN, each of them checked.
 
-        Raises `BrokenArchive` for the first that is missing or damaged.
+        Raises `DamagedArchive` for the first that is missing or damaged.
         """
         last = min(last, self.archived)
         while first <= last:
@@ -203,10 +203,10 @@ class Archive:
         )
         for lsn, at, (crc, data) in zip(wanted, found, rows):
             if at != lsn:
-                raise BrokenArchive(lsn, "it is missing")
+                raise DamagedArchive(lsn, "it is missing")
             yield _block(lsn, crc, data)
         if len(rows) < len(wanted):
-            raise BrokenArchive(first + len(rows), "it is missing")
+            raise DamagedArchive(first + len(rows), "it is missing")
 
     def bytes(self) -> int:
         """How many bytes the blocks have. The database adds them up."""
@@ -215,7 +215,7 @@ class Archive:
     def check(
         self, last: int = HIGHEST_LSN, *, told: Callable[[int, int], None] = lambda _, __: None
     ) -> Sizes:
-        """Reads every block, or those up to LSN `last`, and counts them. Raises `BrokenArchive`."""
+        """Reads every block, or those up to LSN `last`, and counts them. Raises `DamagedArchive`."""
         blocks, empty, size, end = 0, 0, 0, min(last, self.archived)
         for block in self.blocks(1, end):
             blocks, empty, size = blocks + 1, empty + block.is_empty, size + len(block.data)
@@ -228,22 +228,22 @@ class Archive:
     def _check_above(self) -> None:
         lsn = self.engine.value(tables.FIRST_ABOVE, log=self.id)
         if lsn is not None:
-            raise BrokenArchive(lsn, "a block is kept above the archived LSN")
+            raise DamagedArchive(lsn, "a block is kept above the archived LSN")
 
 
 def _block(lsn: int, crc: object, value: object) -> Block:
     try:
         data = bytes_of(value)
     except TypeError as error:
-        raise BrokenArchive(lsn, "it is no bytes") from error
+        raise DamagedArchive(lsn, "it is no bytes") from error
     if zlib.crc32(data) != crc:
-        raise BrokenArchive(lsn, "its bytes are not those that were kept")
+        raise DamagedArchive(lsn, "its bytes are not those that were kept")
     try:
         block = Block.decode(data)
     except BlockFault as fault:
-        raise BrokenArchive(lsn, str(fault)) from fault
+        raise DamagedArchive(lsn, str(fault)) from fault
     if block.lsn != lsn:
-        raise BrokenArchive(lsn, f"the block there says that it has LSN {block.lsn}")
+        raise DamagedArchive(lsn, f"the block there says that it has LSN {block.lsn}")
     return block
 
 

@@ -7,7 +7,7 @@ from dataclasses import dataclass
 from typing import Iterator
 
 from pagelog.archive import tables
-from pagelog.archive import Archive, BrokenArchive, NoArchive, tables_are_missing
+from pagelog.archive import Archive, DamagedArchive, NoArchive, tables_are_missing
 from pagelog.archive.engine import engine_of
 from pagelog.archive.url import file_is_missing
 from pagelog.block import Block
@@ -19,7 +19,7 @@ _BESIDE = 16
 
 
 @dataclass(frozen=True)
-class Log:
+class KeptLog:
     """A log of an archive: its name, the archived LSN, the highest epoch seen, and how many blocks and bytes are there."""
 
     name: str
@@ -29,7 +29,7 @@ class Log:
     bytes: int
 
 
-def logs_of(url: str) -> list[Log]:
+def logs_of(url: str) -> list[KeptLog]:
     """The logs of an archive, by name. The database counts and adds up: no block is read. Raises `NoArchive`."""
     if file_is_missing(url):
         raise NoArchive("there is no archive at this URL")
@@ -37,7 +37,7 @@ def logs_of(url: str) -> list[Log]:
     try:
         if tables_are_missing(engine):
             raise NoArchive("there is no archive at this URL")
-        return [Log(str(name), *map(int, sums)) for name, *sums in engine.rows(tables.SUMS)]
+        return [KeptLog(str(name), *map(int, sums)) for name, *sums in engine.rows(tables.SUMS)]
     finally:
         engine.close()
 
@@ -77,7 +77,7 @@ def damaged(archive: Archive, told: Progress = no_progress) -> Iterator[int]:
                 lsn = block.lsn + 1
                 if lsn % 512 == 0:
                     told(lsn, last)
-        except BrokenArchive as broken:
+        except DamagedArchive as broken:
             yield broken.lsn
             lsn = broken.lsn + 1
 
@@ -89,7 +89,7 @@ def _compare_beside(archive: Archive, reader: Reader, lsn: int, hard: int) -> No
     ):
         try:
             kept = list(archive.blocks(near, near))
-        except BrokenArchive:
+        except DamagedArchive:
             continue
         if kept and not kept[0].is_empty and list(all_blocks(reader, near, near)) != kept:
             raise OtherLog(near, "the service has another block than the archive")

@@ -116,7 +116,7 @@ def archive_word(
             )
         stop = stack.enter_context(stopping())
         if follow:
-            Follower(archiver, idle, stop, guard, as_json).run()
+            ArchiveFollower(archiver, idle, stop, guard, as_json).run()
         else:
             with bar("archived") as told:
                 archiver.run(follow=False, told=told, stop=stop)
@@ -130,7 +130,7 @@ LONGEST = 2.0
 """Seconds between two tries where the service or the archive stays away. As long a stop may be waited for."""
 
 
-class Follower:
+class ArchiveFollower:
     """Follows until it is stopped or the database is fenced, however often the service or the archive is lost for a moment."""
 
     def __init__(

@@ -8,7 +8,7 @@ import click
 from click.core import ParameterSource
 
 from pagelog.archive import Archive
-from pagelog.archive.care import Log, drop, logs_of
+from pagelog.archive.care import KeptLog, drop, logs_of
 from pagelog.credentials import Accounts
 from pagelog.cli.deleting import agree, counted, yes_option
 from pagelog.cli.hold_words import refuse_held
@@ -144,7 +144,7 @@ def _drop_log(accounts: Accounts, url: str | None, log: str | None, yes: bool) -
         click.echo(f"dropped {drop(archive)} blocks of log {log}")
 
 
-def _extent(found: Log) -> str:
+def _extent(found: KeptLog) -> str:
     lsns = f"LSN 1 to {found.archived}" if found.archived else "no LSN"
     return f"{lsns}: {counted(found.blocks, 'block')} of {found.bytes} bytes, highest epoch {found.epoch}"
 

@@ -48,7 +48,7 @@ class ExplainError(PagelogError):
 
 
 @dataclass(frozen=True)
-class Question:
+class RequestQuestion:
     """A request in words: `principal 3 pull 0..3`, or `principal 2 as secondary get 70000 at 500`, which is its LSN."""
 
     words: str
@@ -59,7 +59,7 @@ class Question:
     lsn: int | None = None
 
     @classmethod
-    def parse(cls, words: str) -> Question:
+    def parse(cls, words: str) -> RequestQuestion:
         """From words. Raises `ExplainError`."""
         found = re.fullmatch(
             r"principal (\d{1,20})(?: as (\w+))? (\w+)(?: ([\d.,]{1,4000}))?(?: at (\d{1,20}))?",
@@ -131,7 +131,7 @@ def _partitions(text: str) -> list[int]:
 
 
 @dataclass(frozen=True)
-class Decision:
+class Ruling:
     """How a request is decided: by a rule, or by the row of the table that allows it."""
 
     is_allowed: bool
@@ -231,13 +231,15 @@ def _built() -> str | None:
     return str(built) if built.exists() else None
 
 
-def explain(table: Table, question: Question) -> Decision:
+def explain(table: Table, question: RequestQuestion) -> Ruling:
     """How the table decides the request in the first epoch of an empty database, whose primary is the one who asks."""
     [decision] = explain_each(table, question.principal, [question])
     return decision
 
 
-def explain_each(table: Table, principal: int, questions: Sequence[Question]) -> list[Decision]:
+def explain_each(
+    table: Table, principal: int, questions: Sequence[RequestQuestion]
+) -> list[Ruling]:
     """As `explain`, of requests of one principal: all of them at once, of which only the last may be a failover."""
     replies = play(table, table.text.decode(), principal, questions)
     # For each that is allowed: with the first rows up to `low` it is not, with those up to `high` it is.
@@ -268,23 +270,23 @@ def is_allowed(reply: Reply) -> bool:
     return not isinstance(reply, Denied) or reply.section is Section.C
 
 
-def _allowed(table: Table, row: int, reply: Reply) -> Decision:
-    return Decision(
+def _allowed(table: Table, row: int, reply: Reply) -> Ruling:
+    return Ruling(
         True, f"row {row}", f"row {row} of the table: {table.row(row)}{_log_words(reply)}"
     )
 
 
-def _denied(table: Table, reply: Reply) -> Decision:
+def _denied(table: Table, reply: Reply) -> Ruling:
     assert isinstance(reply, Denied)
     rule = rule_of(reply.section, reply.row)
     place = f"{reply.section.name}{reply.row}"
     if reply.section is Section.B and reply.row:
-        return Decision(
+        return Ruling(
             False,
             place,
             f"{place} {rule.rule}, row {reply.row} of the table: {table.row(reply.row)}",
         )
-    return Decision(False, place, f"{place} {rule.rule}: {rule.sentence}")
+    return Ruling(False, place, f"{place} {rule.rule}: {rule.sentence}")
 
 
 def _log_words(reply: Reply) -> str:
@@ -298,7 +300,9 @@ def _log_words(reply: Reply) -> str:
     )
 
 
-def play(table: Table, text: str, principal: int, questions: Sequence[Question]) -> list[Reply]:
+def play(
+    table: Table, text: str, principal: int, questions: Sequence[RequestQuestion]
+) -> list[Reply]:
     """The program's replies to requests of one principal, one after the other on one database, under this text."""
     primary = (
         principal
@@ -334,29 +338,31 @@ def _fault_words(line: str) -> str:
 
 
 @dataclass(frozen=True)
-class Difference:
+class TableDifference:
     """A request that two tables decide otherwise."""
 
-    question: Question
-    old: Decision
-    new: Decision
+    question: RequestQuestion
+    old: Ruling
+    new: Ruling
 
 
-def questions_of(file: Path) -> list[Question]:
+def questions_of(file: Path) -> list[RequestQuestion]:
     """The requests of a file, a line each; empty lines and those that begin with # are left out."""
     try:
         lines = file.read_text().splitlines()
     except OSError as error:
         raise ExplainError(f"{file.name}: {error.strerror}") from error
     return [
-        Question.parse(line) for line in lines if line.strip() and not line.lstrip().startswith("#")
+        RequestQuestion.parse(line)
+        for line in lines
+        if line.strip() and not line.lstrip().startswith("#")
     ]
 
 
-def differences(old: Table, new: Table, questions: list[Question]) -> list[Difference]:
+def differences(old: Table, new: Table, questions: list[RequestQuestion]) -> list[TableDifference]:
     """Those of the requests that one table allows and the other denies."""
     found = (
-        Difference(question, explain(old, question), explain(new, question))
+        TableDifference(question, explain(old, question), explain(new, question))
         for question in questions
     )
     return [

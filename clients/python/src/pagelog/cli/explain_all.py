@@ -6,11 +6,18 @@ from itertools import product
 from typing import Iterator
 
 from pagelog.block import HIGHEST_LSN, HIGHEST_PARTITION, PAGES_OF_PARTITION
-from pagelog.cli.explain import Difference, Question, Table, explain_each, is_allowed, play
+from pagelog.cli.explain import (
+    TableDifference,
+    RequestQuestion,
+    Table,
+    explain_each,
+    is_allowed,
+    play,
+)
 from pagelog.request import ACTS, Role
 
 
-def all_differences(old: Table, new: Table) -> Iterator[Difference]:
+def all_differences(old: Table, new: Table) -> Iterator[TableDifference]:
     """Those of these requests that one table allows and the other denies.
 
     The rows of a table name principals, roles, operations, ranges of partitions and LSNs, and so a request between
@@ -19,7 +26,7 @@ def all_differences(old: Table, new: Table) -> Iterator[Difference]:
     for table in (old, new):
         play(table, table.text.decode(), 0, [])
     for principal in sorted({one.get("id", 0) for table in (old, new) for one in table.principals}):
-        asked = [Question.parse(words) for words in _words(principal, old, new)]
+        asked = [RequestQuestion.parse(words) for words in _words(principal, old, new)]
         verdicts = [
             map(is_allowed, play(table, table.text.decode(), principal, asked))
             for table in (old, new)
@@ -32,7 +39,7 @@ def all_differences(old: Table, new: Table) -> Iterator[Difference]:
         decisions = (
             [explain_each(table, principal, others) for table in (old, new)] if others else [[], []]
         )
-        yield from (Difference(*found) for found in zip(others, *decisions, strict=True))
+        yield from (TableDifference(*found) for found in zip(others, *decisions, strict=True))
 
 
 def _words(principal: int, old: Table, new: Table) -> Iterator[str]:

@@ -7,7 +7,7 @@ from pathlib import Path
 
 import click
 
-from pagelog.cli.explain import Question, Table, differences, explain, questions_of
+from pagelog.cli.explain import RequestQuestion, Table, differences, explain, questions_of
 from pagelog.cli.explain_all import all_differences
 from pagelog.cli.options import fail, faults
 from pagelog.errors import PagelogError
@@ -61,7 +61,7 @@ def explain_word(is_diff: bool, arguments: tuple[str, ...]) -> None:
         raise click.UsageError("which request? As: principal 3 pull 0..3")
     table = Table(Path(arguments[0]))
     for words in arguments[1:]:
-        click.echo(f"{words}: {explain(table, Question.parse(words))}")
+        click.echo(f"{words}: {explain(table, RequestQuestion.parse(words))}")
 
 
 def show_differences(old_file: Path, new_file: Path, requests: Path | None = None) -> int:

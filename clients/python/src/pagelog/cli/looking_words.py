@@ -24,7 +24,7 @@ from pagelog.cli.options import (
     status_of,
     timeout,
 )
-from pagelog.cli.watch import Look, Watch
+from pagelog.cli.watch import WatchedLook, Watch
 from pagelog.errors import PagelogError
 from pagelog.operator import Operator
 from pagelog.reader import Reader
@@ -133,7 +133,7 @@ def status_word(
     sys.exit(next(status for status in (FAULT, LIST_FULL, AGAIN, 0) if status in statuses))
 
 
-def _fields(db: int, look: Look, known_from: str) -> dict[str, object]:
+def _fields(db: int, look: WatchedLook, known_from: str) -> dict[str, object]:
     return {
         "db": db,
         "epoch": look.state.epoch,
@@ -149,7 +149,7 @@ def _fields(db: int, look: Look, known_from: str) -> dict[str, object]:
     }
 
 
-def _status_line(db: int, look: Look, known_from: str) -> str:
+def _status_line(db: int, look: WatchedLook, known_from: str) -> str:
     wrong = (
         "; THE LIST IS LONGER THAN THAT, SO THE LIMIT IS WRONG" if look.entries > look.limit else ""
     )

@@ -20,7 +20,7 @@ from prometheus_client.exposition import make_wsgi_app
 from prometheus_client.registry import Collector
 
 from pagelog.cli.side_by_side import Task, look_at_all
-from pagelog.cli.watch import Look, Watch
+from pagelog.cli.watch import WatchedLook, Watch
 from pagelog.errors import ConnectionLost, LogWentBack, TimedOut
 
 _GAUGES = {
@@ -55,7 +55,7 @@ class WatchedDatabase:
         self._watch: Watch | None = None
         self.went_back = 0
 
-    def look(self) -> Look:
+    def look(self) -> WatchedLook:
         """A look. A connection that was lost since the one before, as by a restart or a move, is no reason to find it down."""
         for _ in range(2):
             try:
@@ -67,7 +67,7 @@ class WatchedDatabase:
                     raise
         return self._look()
 
-    def _look(self) -> Look:
+    def _look(self) -> WatchedLook:
         if self._watch is None:
             self._watch = self._make()
         return self._watch.look()
@@ -124,13 +124,13 @@ class DatabaseCollector(Collector):
         )
         for db, database in self._databases.items():
             look, archived = found["look", db], found.get(("archived", db))
-            gauges["up"].add_metric([str(db)], isinstance(look, Look))
+            gauges["up"].add_metric([str(db)], isinstance(look, WatchedLook))
             counters["log_went_back"].add_metric([str(db)], database.went_back)
             if db in self._archived:
                 gauges["archive_up"].add_metric([str(db)], isinstance(archived, int))
             if isinstance(archived, int):
                 gauges["archived_blocks"].add_metric([str(db)], archived)
-            if isinstance(look, Look):
+            if isinstance(look, WatchedLook):
                 _add_look(str(db), look, archived, gauges, counters)
                 for partition, lsn in look.applied.items():
                     applied.add_metric([str(db), str(partition)], lsn)
@@ -141,7 +141,7 @@ class DatabaseCollector(Collector):
 
 def _add_look(
     db: str,
-    look: Look,
+    look: WatchedLook,
     archived: object,
     gauges: Mapping[str, GaugeMetricFamily],
     counters: Mapping[str, CounterMetricFamily],

@@ -20,7 +20,7 @@ from pagelog.cli.keeper_words import named, url_of_referee
 from pagelog.cli.options import credentials_option, fail, faults
 from pagelog.cli.waiting_words import write_private
 from pagelog.keeper.hosts import is_loopback
-from pagelog.pages.following import Settings
+from pagelog.pages.following import PageServerSettings
 from pagelog.pages.process import Serving
 from pagelog.pages.stores import asides_in, not_aside_in, sentence
 
@@ -150,7 +150,7 @@ def pages_word(
             f"there is no program {program}: it is built in clients/pages, and in the package pagelog-pages"
         )
     options = ("--cache", str(cache), *(("--direct",) if direct else ()))
-    settings = Settings(
+    settings = PageServerSettings(
         Path(found).resolve(),
         folder,
         host,
@@ -223,7 +223,7 @@ def _serve_metrics(servers: PageServers, serving: Serving | None, listen: str) -
     return f"{host}:{bound}"
 
 
-def _open(settings: Settings, run: str, keys: Path) -> None:
+def _open(settings: PageServerSettings, run: str, keys: Path) -> None:
     """Serves a store, by a token that is in this file alone, until a signal; by TLS alone where it may."""
     folder, serving = settings.folder, settings.serving
     known = {each.run: (each.folder(folder), each.identity) for each in not_aside_in(folder)}

@@ -23,7 +23,7 @@ from pagelog.keeper.history import extent_of
 from pagelog.keeper.referee import BrokenArchive, KeeperError, Referee
 from pagelog.keeper.rescuing import saved_as
 from pagelog.keeper.rows import Look, Row
-from pagelog.keeper.run import Facts, Run
+from pagelog.keeper.run import ProcessFacts, Run
 from pagelog.keeper.served import Served
 from pagelog.keeper.table import keeper_of
 from pagelog.pages.stores import sentence
@@ -36,12 +36,12 @@ class Forgotten(PagelogError):
 
 
 @dataclass(frozen=True)
-class History:
+class LostRun:
     """A run of which PostgreSQL lacks something, as its keeper says: how far PostgreSQL has its blocks, and where it ends. `row` is the
     database that it is of, as PostgreSQL has it; None where that has lost it."""
 
     keeper: str
-    facts: Facts
+    facts: ProcessFacts
     is_kept: bool
     served: Served
     of: Definition
@@ -216,7 +216,7 @@ def _rescue(
 
 def _histories(
     referee: Referee, look: Look, name: str, run: str | None, folder: Path | None
-) -> list[History]:
+) -> list[LostRun]:
     """All that keepers say of this database, what has most first. Those that do not answer are said, and left out."""
     known = [
         each for each in asides_of(look) if each["name"] == name and run in (None, each["run"])
@@ -240,7 +240,7 @@ def _histories(
 
 def _history(
     referee: Referee, row: Row | None, each: dict[str, Any], folder: Path | None
-) -> History:
+) -> LostRun:
     if row is not None and each.get("database") not in (None, "", row.identity):
         row = None  # the name is another one's by now
     if row is None:
@@ -254,13 +254,13 @@ def _history(
         return _history_by(referee, row, each, _remembered(each, folder, lost))
 
 
-def _history_by(referee: Referee, row: Row | None, each: dict[str, Any], of: Definition) -> History:
+def _history_by(referee: Referee, row: Row | None, each: dict[str, Any], of: Definition) -> LostRun:
     """By the tokens of this definition."""
-    facts = Facts(each["name"], each["run"], each["pid"], 0, "", each["address"])
+    facts = ProcessFacts(each["name"], each["run"], each["pid"], 0, "", each["address"])
     served = Served(facts.name, facts.run, of.text, of.secret, timeout=timeout())
     served.serve(Run(Path(), facts, -1))
     served.lie(each["shift"], each["images"])
-    return History(
+    return LostRun(
         each["keeper"],
         facts,
         each.get("kept", True),
@@ -319,7 +319,7 @@ def compared(referee: Referee, row: Row | None, served: Served) -> tuple[int, in
     return at, last
 
 
-def _ends(referee: Referee, history: History, saved: str | None, into: str | None) -> str:
+def _ends(referee: Referee, history: LostRun, saved: str | None, into: str | None) -> str:
     """What ends with its process."""
     facts, where = (
         history.facts,
@@ -337,7 +337,7 @@ def _ends(referee: Referee, history: History, saved: str | None, into: str | Non
     )
 
 
-def _save(history: History, url: str) -> None:
+def _save(history: LostRun, url: str) -> None:
     facts, served = history.facts, history.served
     with Reader(
         Connection(str(facts.address), timeout=timeout()),
@@ -349,7 +349,7 @@ def _save(history: History, url: str) -> None:
     click.echo(f"saved {archiver.archived} blocks as log {facts.run}")
 
 
-def _end(folder: Path, facts: Facts) -> None:
+def _end(folder: Path, facts: ProcessFacts) -> None:
     process = Run.adopt(folder, facts.name, facts.run)
     if process is None:
         fail(

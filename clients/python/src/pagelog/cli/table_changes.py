@@ -11,13 +11,14 @@ import click
 from pagelog.credentials import Accounts
 from pagelog.cli.options import AGAIN, fail
 from pagelog.cli.seal_words import refuse_keepers_without
+from pagelog.errors import TableError
 from pagelog.keeper.aside import asides_of
 from pagelog.keeper.machine import PATIENCE
 from pagelog.keeper.referee import Away, Doubt, Referee
 from pagelog.keeper.rows import Look, Row
 from pagelog.keeper.schema import CHANNEL, NUMBERS
 from pagelog.keeper.settings import TTL
-from pagelog.keeper.table import Form, TableError, read_table, table_of_run
+from pagelog.keeper.table import Form, read_table, table_of_run
 from pagelog.repeating import Backoff
 from pagelog.request import TEXT_SIZE
 from pagelog_model.table import Read, read
@@ -111,7 +112,7 @@ def row_of(referee: Referee, name: str) -> Row:
     return row
 
 
-class Change:
+class TableChange:
     """Of the table of one database, by its name. `within` is for how long its keepers may take."""
 
     def __init__(self, referee: Referee, row: Row, ttl: float, within: float) -> None:

@@ -11,7 +11,7 @@ import click
 from pagelog.credentials import Accounts
 from pagelog.cli.keeper_words import Asked, named, referee_of
 from pagelog.cli.options import client, credentials_option, db_option, fail, faults
-from pagelog.cli.table_changes import WITHIN, Change, check_of_service, row_of, say, ttl_of
+from pagelog.cli.table_changes import WITHIN, TableChange, check_of_service, row_of, say, ttl_of
 from pagelog.errors import PagelogError
 from pagelog.operator import Operator
 from pagelog.table_editing import with_tokens_of, without_tokens
@@ -93,7 +93,7 @@ def table_word(
         if diff is not None:
             return _compare(referee.table(row.id).text, name, diff)
         text = None if file is None else read_file(file)
-        change = Change(referee, row, ttl_of(accounts), within)
+        change = TableChange(referee, row, ttl_of(accounts), within)
         number = change.set(
             lambda present: present if text is None else with_tokens_of(text, present)
         )

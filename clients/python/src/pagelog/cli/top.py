@@ -11,16 +11,16 @@ from rich.table import Table
 from rich.text import Text
 
 from pagelog.cli.durations import duration
-from pagelog.cli.watch import Look
+from pagelog.cli.watch import WatchedLook
 from pagelog.request import PULL_MAX
 
 
 @dataclass(frozen=True)
-class Line:
+class TopLine:
     """What is known of one database: a look or an error, and the archived LSN where an archive is watched."""
 
     database: int
-    look: Look | None
+    look: WatchedLook | None
     error: str = ""
     archived: int | None = None
 
@@ -65,7 +65,7 @@ def page(title: str, tables: Iterable[RenderableType], at: str) -> RenderableTyp
     )
 
 
-def table_of(lines: Mapping[int, Line], width: int = 150) -> RenderableType:
+def table_of(lines: Mapping[int, TopLine], width: int = 150) -> RenderableType:
     """The databases of a service, for a terminal of `width` columns."""
     table = Table(expand=True, box=None, padding=(0, 1), header_style="bold")
     shown = [number for number, least in enumerate(_COLUMNS.values()) if width >= least]
@@ -88,7 +88,7 @@ def table_of(lines: Mapping[int, Line], width: int = 150) -> RenderableType:
     return Group(table, *errors, *warnings, Text(), _denials(lines))
 
 
-def warning(line: Line) -> str:
+def warning(line: TopLine) -> str:
     """What an operator has to do soon, or nothing."""
     look = line.look
     if look is None or not (look.used > 0.9 or (look.full_in is not None and look.full_in < 3600)):
@@ -100,7 +100,7 @@ def warning(line: Line) -> str:
     )
 
 
-def _cells(line: Line) -> list[RenderableType]:
+def _cells(line: TopLine) -> list[RenderableType]:
     look = line.look
     if look is None:
         return [str(line.database)]
@@ -130,12 +130,12 @@ def _use(used: float, words: str) -> Text:
     return Text.assemble(("#" * full, style), ("." * (12 - full), "dim"), f" {used:4.0%} {words}")
 
 
-def _when(look: Look) -> Text:
+def _when(look: WatchedLook) -> Text:
     seconds = look.full_in
     return Text(duration(seconds), style="red" if seconds is not None and seconds < 3600 else "")
 
 
-def _denials(lines: Mapping[int, Line]) -> RenderableType:
+def _denials(lines: Mapping[int, TopLine]) -> RenderableType:
     table = Table(box=None, padding=(0, 1), header_style="bold")
     table.add_column("db", justify="right")
     table.add_column("denied by", min_width=24)

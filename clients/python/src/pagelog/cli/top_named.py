@@ -41,7 +41,7 @@ class NamedLine:
 
 
 @dataclass(frozen=True)
-class Named:
+class NamedDatabases:
     """All named databases at a moment, or why they are not known."""
 
     lines: tuple[NamedLine, ...] = ()
@@ -60,14 +60,14 @@ class NamedWatch:
     _beats: dict[str, tuple[float, str, int]] = field(default_factory=dict)
     """Since when a keeper is seen with this life and this beat."""
 
-    def look(self) -> Named:
+    def look(self) -> NamedDatabases:
         """What is there now. Raises as the referee does."""
         found, now = self.referee.everything(), self.clock()
         for keeper in found.keepers:
             _, life, beat = self._beats.get(keeper.name, (now, "", -1))
             if (life, beat) != (keeper.run, keeper.beat):
                 self._beats[keeper.name] = (now, keeper.run, keeper.beat)
-        return Named(
+        return NamedDatabases(
             tuple(self._line(found, row, now) for row in found.rows if not row.dropped),
             found.synchronous.meaning,
         )
@@ -104,7 +104,7 @@ _COLUMNS = {
 """The columns, and how wide the terminal has to be for each of them to be shown."""
 
 
-def table_of(named: Named, width: int) -> RenderableType:
+def table_of(named: NamedDatabases, width: int) -> RenderableType:
     """The named databases, for a terminal of `width` columns."""
     if named.error:
         return Text(f"named databases: {named.error}", style="red")
@@ -156,7 +156,7 @@ def _shown(value: object, unit: str = "") -> str:
     return "-" if value is None else f"{value:,}{unit}" if isinstance(value, int) else str(value)
 
 
-def fields_of(named: Named) -> list[dict[str, Any]]:
+def fields_of(named: NamedDatabases) -> list[dict[str, Any]]:
     """A JSON object for each database; one with the error where they are not known."""
     if named.error:
         return [{"name": None, "time": round(time.time(), 3), "error": named.error}]

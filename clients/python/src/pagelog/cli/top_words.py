@@ -23,14 +23,14 @@ from pagelog.cli.options import (
     url_options,
 )
 from pagelog.cli.side_by_side import Task, look_at_all
-from pagelog.cli.watch import Look, Watch
+from pagelog.cli.watch import WatchedLook, Watch
 from pagelog.request import Role
 
 if TYPE_CHECKING:
     from rich.console import Console
 
-    from pagelog.cli.top import Line
-    from pagelog.cli.top_named import Named
+    from pagelog.cli.top import TopLine
+    from pagelog.cli.top_named import NamedDatabases
 
 
 @click.command("top")
@@ -147,7 +147,7 @@ class Looks:
         self.seconds = min(2.0, timeout())
         seconds = self.seconds
 
-        def look(db: int) -> Look:
+        def look(db: int) -> WatchedLook:
             if db not in self._watches:
                 self._watches[db] = watch_of(
                     accounts, db, limit, stack, seconds, from_start=from_start
@@ -156,9 +156,9 @@ class Looks:
 
         self._tasks = {db: Task(partial(look, db)) for db in dbs}
 
-    def lines(self) -> dict[int, Line]:
+    def lines(self) -> dict[int, TopLine]:
         """Of each database a look, or why there is none, and its archived LSN where an archive answers."""
-        from pagelog.cli.top import Line
+        from pagelog.cli.top import TopLine
 
         tasks: list[tuple[tuple[str, int], Task[Any]]] = [
             (("look", db), task) for db, task in self._tasks.items()
@@ -167,13 +167,13 @@ class Looks:
             [*tasks, *((("archived", db), task) for db, task in self._archived.items())],
             self.seconds,
         )
-        lines: dict[int, Line] = {}
+        lines: dict[int, TopLine] = {}
         for db in self._tasks:
             look, kept = found["look", db], found.get(("archived", db))
             error = f"{type(look).__name__}: {look}" if isinstance(look, Exception) else ""
-            lines[db] = Line(
+            lines[db] = TopLine(
                 db,
-                look if isinstance(look, Look) else None,
+                look if isinstance(look, WatchedLook) else None,
                 error,
                 kept if isinstance(kept, int) else None,
             )
@@ -196,14 +196,14 @@ class NamedLooks:
         """Begins a look, whose end `found` waits for."""
         self._task.begin()
 
-    def found(self) -> Named:
+    def found(self) -> NamedDatabases:
         """What the look found, or why it did not in time."""
-        from pagelog.cli.top_named import Named
+        from pagelog.cli.top_named import NamedDatabases
 
         try:
             return self._task.result(time.monotonic() + self.seconds)
         except Exception as error:
-            return Named(error=f"{type(error).__name__}: {error}")
+            return NamedDatabases(error=f"{type(error).__name__}: {error}")
 
 
 def archived_of(url: str, log: str) -> int:
@@ -214,7 +214,7 @@ def archived_of(url: str, log: str) -> int:
         return archive.archived
 
 
-def _fields_of(line: Line) -> dict[str, object]:
+def _fields_of(line: TopLine) -> dict[str, object]:
     look = line.look
     fields: dict[str, object] = {
         "db": line.database,

@@ -52,7 +52,7 @@ from pagelog.trail.keeper import TrailKeeper
 from pagelog.trail.logs import Log, log_of
 from pagelog.trail.pages import compare_pages
 from pagelog.times import FORMS, in_both_zones, moment
-from pagelog.trail.question import Question, Seen, Summary, answer, micros
+from pagelog.trail.question import Question, SeenLine, Summary, answer, micros
 from pagelog.trail.replay import Replayed, replay
 from pagelog.trail.seal import seal
 from pagelog.trail.store import NoTrail, Start, Trail, TrailList
@@ -422,7 +422,7 @@ def _need_pygal() -> None:
 
 def _lines(
     trail: Trail, run: int | None, question: Question, follow: bool, stop: Callable[[], bool]
-) -> Iterator[Seen | TrailList]:
+) -> Iterator[SeenLine | TrailList]:
     """The lines that are asked for, and each list behind its last line, if that is in the time."""
     following = {(one.id, one.of): 1 for one in chosen(trail, run)}
     is_ended: set[tuple[int, str | None]] = set()
@@ -453,7 +453,7 @@ def _time(seen: int) -> datetime:
     return datetime.fromtimestamp(seen / 1e6).astimezone()
 
 
-def _words(found: Seen | TrailList) -> str:
+def _words(found: SeenLine | TrailList) -> str:
     if isinstance(found, TrailList):
         of = f" of generation {found.generation}" if found.generation else ""
         return (
@@ -471,7 +471,7 @@ def _clock(seen: int) -> str:
     return _time(seen).strftime("%Y-%m-%d %H:%M:%S.") + f"{seen // 1000 % 1000:03}"
 
 
-def _json(found: Seen | TrailList) -> str:
+def _json(found: SeenLine | TrailList) -> str:
     if isinstance(found, TrailList):
         fields: dict[str, Any] = {
             "seen": _time(found.ended_seen or found.seen).isoformat(),

@@ -22,7 +22,7 @@ _MOST_APPLIED = 64
 
 
 @dataclass(frozen=True)
-class Look:
+class WatchedLook:
     """A database at a moment. Rates are requests a second of all others, since the look before; None where there was none."""
 
     state: State
@@ -95,7 +95,7 @@ class Watch:
         self._before: deque[tuple[float, int, int, int, int]] = deque(maxlen=2)
         self._own = 1  # the mark by which the list is known again
 
-    def look(self) -> Look:
+    def look(self) -> WatchedLook:
         """Reads what is new. Raises what the service refuses, as `AuditListFull`.
 
         `LogWentBack` is raised once where the service was restarted; the next look begins with the new one. A database that
@@ -115,7 +115,7 @@ class Watch:
         entries = self._follower.next - 1
         self._before.append((self._clock(), entries, self._reads, state.hard, self._own))
         blocks, reads, requests, own = self._rates()
-        return Look(
+        return WatchedLook(
             state=state,
             entries=entries,
             is_behind=is_behind,

@@ -13,10 +13,10 @@ from datetime import datetime, timezone
 from itertools import islice
 from typing import Any, Iterable
 
-from pagelog.console.events import Event, Known, of_asides, of_databases, of_keepers, taken
-from pagelog.console.history import History, Sample
-from pagelog.console.outlook import Scene, Spare, State, Use, forecast_of, sentence, state_of
-from pagelog.console.source import Generation, Seen
+from pagelog.console.events import ConsoleEvent, Known, of_asides, of_databases, of_keepers, taken
+from pagelog.console.history import SampleHistory, Sample
+from pagelog.console.outlook import Scene, Spare, ClientState, Use, forecast_of, sentence, state_of
+from pagelog.console.source import Generation, SourceLook
 from pagelog.console.trails import TrailCounts
 from pagelog.keeper.aside import asides_of
 from pagelog.keeper.machine import SUCCEED_AT
@@ -41,7 +41,7 @@ class Limits:
 
 
 @dataclass
-class Shown:
+class ShownDatabase:
     """The fields of a database, and the number of the look at which they changed last."""
 
     fields: dict[str, Any]
@@ -67,19 +67,19 @@ class Board:
         self._at = 0.0
         self._away: tuple[float, str] | None = None
         self._news = asyncio.Event()
-        self._rows: dict[str, Shown] = {}
+        self._rows: dict[str, ShownDatabase] = {}
         self._gone: dict[str, int] = {}
         self._known: dict[int, Known] = {}
         self._keepers: dict[str, tuple[str, bool]] = {}
         self._asides: dict[str, dict[str, Any]] = {}
         """The runs of which PostgreSQL has lost something."""
         self._beats: dict[str, tuple[tuple[str, int], float]] = {}
-        self._histories: dict[int, History] = {}
+        self._histories: dict[int, SampleHistory] = {}
         self._generations: dict[int, tuple[Generation, ...]] = {}
         self._trails: dict[str, TrailCounts] = {}
         """By whose they are: a name may be another database's by now."""
-        self._events: deque[tuple[int, Event]] = deque(maxlen=EVENTS)
-        self._seen: Seen | None = None
+        self._events: deque[tuple[int, ConsoleEvent]] = deque(maxlen=EVENTS)
+        self._seen: SourceLook | None = None
         self._messages: dict[int, str] = {}
 
     # Looks.
@@ -90,12 +90,16 @@ class Board:
         if self._away is None:
             self._away = (at, why)
             self._say(
-                [Event(at, f"PostgreSQL is away: {why.removeprefix('PostgreSQL: ')}", None, "bad")]
+                [
+                    ConsoleEvent(
+                        at, f"PostgreSQL is away: {why.removeprefix('PostgreSQL: ')}", None, "bad"
+                    )
+                ]
             )
         self._away = (self._away[0], why)
         self._tell()
 
-    def take(self, seen: Seen, at: float) -> None:
+    def take(self, seen: SourceLook, at: float) -> None:
         """A look at this time."""
         self.number += 1
         events = list(self._back(at))
@@ -107,14 +111,14 @@ class Board:
         for recorded in seen.recorded:
             for failover in self._trails.setdefault(recorded.whose, TrailCounts()).take(recorded):
                 text = f"epoch {failover.epoch} began: principal {failover.primary} is its primary"
-                events.append(Event(failover.at, text, failover.name))
+                events.append(ConsoleEvent(failover.at, text, failover.name))
         if self._seen is None:
             events += _past(seen)
         else:
             events += of_keepers(self._keepers, keepers, at)
             events += of_databases(self._known, known, at)
             if self._seen.look.synchronous.meaning != seen.look.synchronous.meaning:
-                events.append(Event(at, seen.look.synchronous.meaning))
+                events.append(ConsoleEvent(at, seen.look.synchronous.meaning))
         asides = {
             each["run"]: {**each, "kept": each.get("kept", True)} for each in asides_of(seen.look)
         }
@@ -131,9 +135,11 @@ class Board:
         self._show(at, living)
         self._tell()
 
-    def _back(self, at: float) -> Iterable[Event]:
+    def _back(self, at: float) -> Iterable[ConsoleEvent]:
         if self._away is not None:
-            yield Event(at, f"PostgreSQL is back after {at - self._away[0]:.0f} s", None, "good")
+            yield ConsoleEvent(
+                at, f"PostgreSQL is back after {at - self._away[0]:.0f} s", None, "good"
+            )
             self._beats.clear()  # no beat could rise meanwhile
         self._away = None
 
@@ -176,7 +182,7 @@ class Board:
         for known in self._known.values():
             name, fields = known.row.name, self._fields(self._seen.look, known, at, living)
             if name not in self._rows or self._rows[name].fields != fields:
-                self._rows[name] = Shown(fields, self.number)
+                self._rows[name] = ShownDatabase(fields, self.number)
             self._gone.pop(name, None)
 
     def _fields(
@@ -184,7 +190,7 @@ class Board:
     ) -> dict[str, Any]:
         """All that the table has of a database."""
         row, report = known.row, _report(look, known.row)
-        history = self._histories.setdefault(row.id, History())
+        history = self._histories.setdefault(row.id, SampleHistory())
         left, held, hard = report.get("entries_left"), report.get("memory"), report.get("hard")
         history.add(Sample(at, row.run, row.archived, hard, left, held))
         audit = max(self.limits.audit, left or 0)
@@ -245,14 +251,14 @@ class Board:
             "why": told(row.holder, why) or None,
             "next": sentence(scene),
             "next_in": _short(forecast.seconds, 2)
-            if known.state is State.SERVING and not row.paused
+            if known.state is ClientState.SERVING and not row.paused
             else None,
         }
 
     def _trail_of(self, row: Row) -> TrailCounts | None:
         return None if self._seen is None else self._trails.get(self._seen.trails.get(row.id, ""))
 
-    def _say(self, events: Iterable[Event]) -> None:
+    def _say(self, events: Iterable[ConsoleEvent]) -> None:
         self._events.extend(
             (self.number, event) for event in sorted(events, key=lambda event: event.at)
         )
@@ -354,17 +360,19 @@ def _report(look: Look, row: Row) -> dict[str, Any]:
     return {} if keeper is None else dict(keeper.report.get(row.name, {}))
 
 
-def _past(seen: Seen) -> list[Event]:
+def _past(seen: SourceLook) -> list[ConsoleEvent]:
     """Events of before the first look: the generations of all databases."""
     names = {row.id: row.name for row in seen.look.rows}
     return [
-        Event(each.began.timestamp(), taken(each.holder, each.generation, each.base), names[id])
+        ConsoleEvent(
+            each.began.timestamp(), taken(each.holder, each.generation, each.base), names[id]
+        )
         for id, generations in seen.generations.items()
         for each in generations
     ]
 
 
-def _event(event: Event) -> dict[str, Any]:
+def _event(event: ConsoleEvent) -> dict[str, Any]:
     return {"at": iso(event.at), "name": event.name, "level": event.level, "text": event.text}
 
 

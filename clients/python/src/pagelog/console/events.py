@@ -6,7 +6,7 @@ from collections import Counter
 from dataclasses import dataclass
 from typing import Any, Iterator, Mapping
 
-from pagelog.console.outlook import State
+from pagelog.console.outlook import ClientState
 from pagelog.keeper.rows import Row
 
 MOST = 5
@@ -14,7 +14,7 @@ MOST = 5
 
 
 @dataclass(frozen=True)
-class Event:
+class ConsoleEvent:
     """What happened at a time, in seconds since 1970; of one database, or of all where there is no name.
 
     `level` is plain, good, warning or bad.
@@ -31,7 +31,7 @@ class Known:
     """A database at one look, as far as events speak of it."""
 
     row: Row
-    state: State
+    state: ClientState
     standbys: frozenset[str] = frozenset()
     pages: frozenset[tuple[str, str]] = frozenset()
     """The machines and runs of its page servers that are heard."""
@@ -50,16 +50,16 @@ class Change:
 
 def of_databases(
     before: Mapping[int, Known], now: Mapping[int, Known], at: float
-) -> Iterator[Event]:
+) -> Iterator[ConsoleEvent]:
     """The events of all databases between two looks."""
     changes = list(_all_changes(before, now))
     counts = Counter((change.of_many, change.level) for _, change in changes)
     for name, change in changes:
         if counts[change.of_many, change.level] <= MOST:
-            yield Event(at, change.text, name, change.level)
+            yield ConsoleEvent(at, change.text, name, change.level)
     for (of_many, level), count in counts.items():
         if count > MOST:
-            yield Event(at, of_many.replace("#", f"{count:,}"), None, level)
+            yield ConsoleEvent(at, of_many.replace("#", f"{count:,}"), None, level)
 
 
 def _all_changes(
@@ -85,7 +85,7 @@ def _changes(before: Known, now: Known) -> Iterator[Change]:
         yield Change(
             f"{row.holder} serves it at {row.address}", f"{row.holder} serves # databases", "good"
         )
-    if now.state is State.CLOSING and before.state is not State.CLOSING:
+    if now.state is ClientState.CLOSING and before.state is not ClientState.CLOSING:
         yield Change(f"{row.holder} closes it", f"{row.holder} closes # databases")
     if row.paused is not old.paused:
         word = "paused" if row.paused else "resumed"
@@ -145,31 +145,33 @@ def taken(holder: str, generation: int, base: int, how: str = "") -> str:
 
 def of_asides(
     before: Mapping[str, Mapping[str, Any]], now: Mapping[str, Mapping[str, Any]], at: float
-) -> Iterator[Event]:
+) -> Iterator[ConsoleEvent]:
     """The events of runs of which PostgreSQL has lost something, by run, as their keepers say of them."""
     for run, aside in now.items():
         if run in before and before[run]["kept"] == aside["kept"]:
             continue
         how = "is quarantined" if aside["kept"] else "has what PostgreSQL lacks, which went back"
         text = f"run {run} of keeper {aside['keeper']} {how}: `pagelogctl rescue {aside['name']}` says what it has"
-        yield Event(at, text, aside["name"], "bad")
+        yield ConsoleEvent(at, text, aside["name"], "bad")
     for run in before.keys() - now.keys():
-        yield Event(
+        yield ConsoleEvent(
             at, f"PostgreSQL has all of run {run} again, or it was ended", before[run]["name"]
         )
 
 
-def of_keepers(before: Mapping[str, Any], now: Mapping[str, Any], at: float) -> Iterator[Event]:
+def of_keepers(
+    before: Mapping[str, Any], now: Mapping[str, Any], at: float
+) -> Iterator[ConsoleEvent]:
     """The events of keepers; each is there with its run and whether it lives."""
     for name, (run, lives) in now.items():
         if name not in before:
-            yield Event(at, f"keeper {name} is there", None, "good")
+            yield ConsoleEvent(at, f"keeper {name} is there", None, "good")
             continue
         old_run, lived = before[name]
         if run != old_run:
-            yield Event(at, f"keeper {name} was restarted")
+            yield ConsoleEvent(at, f"keeper {name} was restarted")
         if lives is not lived:
             text = (
                 f"keeper {name} is up again" if lives else f"the heartbeat of keeper {name} stalled"
             )
-            yield Event(at, text, None, "good" if lives else "bad")
+            yield ConsoleEvent(at, text, None, "good" if lives else "bad")

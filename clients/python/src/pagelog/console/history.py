@@ -48,7 +48,7 @@ class Point:
     entries_left: int | None
 
 
-class History:
+class SampleHistory:
     """The samples of one database, the last seconds of them all, and older ones every few seconds."""
 
     def __init__(self) -> None:

@@ -11,7 +11,7 @@ from pagelog.keeper.machine import NEAR
 from pagelog.keeper.rows import Row
 
 
-class State(str, Enum):
+class ClientState(str, Enum):
     """What a database is to its clients."""
 
     SERVING = "serving"
@@ -47,7 +47,7 @@ class Scene:
     """All that the sentence rests on."""
 
     row: Row
-    state: State
+    state: ClientState
     spares: tuple[Spare, ...] = ()
     living: frozenset[str] = frozenset()
     """The keepers whose beat does not stand still."""
@@ -58,15 +58,15 @@ class Scene:
     """Whether a keeper has a run of it of which PostgreSQL has lost something."""
 
 
-def state_of(row: Row, report: Mapping[str, Any], is_silent: bool) -> State:
+def state_of(row: Row, report: Mapping[str, Any], is_silent: bool) -> ClientState:
     """The state, from the referee's row, what its holder reports of it, and whether the holder's beat stands still."""
     if row.run is None:
-        return State.NOBODY
+        return ClientState.NOBODY
     if is_silent:
-        return State.SILENT
+        return ClientState.SILENT
     if row.address is None:
-        return State.TAKING
-    return State.CLOSING if report.get("state") == "closing" else State.SERVING
+        return ClientState.TAKING
+    return ClientState.CLOSING if report.get("state") == "closing" else ClientState.SERVING
 
 
 @dataclass(frozen=True)
@@ -111,13 +111,13 @@ def sentence(scene: Scene) -> str:
 
 def _next(scene: Scene) -> str:
     match scene.state:
-        case State.NOBODY:
+        case ClientState.NOBODY:
             return _of_nobody(scene)
-        case State.SILENT:
+        case ClientState.SILENT:
             return _of_a_silent_holder(scene)
-        case State.TAKING:
+        case ClientState.TAKING:
             return f"It serves once the service of {scene.row.holder} has all blocks up to {scene.row.base:,}."
-        case State.CLOSING:
+        case ClientState.CLOSING:
             return f"{scene.row.holder} archives what is left, and releases it."
     return _of_a_server(scene)
 

@@ -18,7 +18,7 @@ from pagelog.console.board import Board, Limits
 from pagelog.console.door import Door
 from pagelog.console.source import Source
 from pagelog.console.watcher import Watcher
-from pagelog.console.web import Pages
+from pagelog.console.web import WebPages
 
 
 class _OwnFaults(logging.Filter):
@@ -48,7 +48,7 @@ async def run(
     loop, board, ended = asyncio.get_running_loop(), Board(limits), asyncio.Event()
     watcher = Watcher(source, partial(_tell, loop, board.take), partial(_tell, loop, board.miss))
     runner = web.AppRunner(
-        Pages(board, door, watcher.watch, is_secure=context is not None).application(),
+        WebPages(board, door, watcher.watch, is_secure=context is not None).application(),
         access_log=None,
         logger=_log,
     )

@@ -67,7 +67,7 @@ class Recorded:
 
 
 @dataclass(frozen=True)
-class Seen:
+class SourceLook:
     """One look. `generations` has those databases whose generation is another than at the look before."""
 
     look: Look
@@ -97,7 +97,7 @@ class Source:
             self._connection.close()
         self._connection = None
 
-    def look(self) -> Seen:
+    def look(self) -> SourceLook:
         """A look. Raises `NoLook`."""
         hangs = threading.Timer(LONGEST, lambda: shut_down(self._connection))
         hangs.daemon = True
@@ -105,7 +105,7 @@ class Source:
         try:
             return self._look()
         except _NO_TABLES:
-            return Seen(Look(), is_prepared=False)
+            return SourceLook(Look(), is_prepared=False)
         except (psycopg.Error, OSError) as error:
             self._generations = {}  # the next look returns them again
             if not isinstance(error, psycopg.errors.InsufficientPrivilege):
@@ -136,7 +136,7 @@ class Source:
                     raise
         return self._connection
 
-    def _look(self) -> Seen:
+    def _look(self) -> SourceLook:
         [found] = self._ask(statements.LOOK)
         pages = self._ask(statements.PAGES) if found["has_pages"] else ()
         look = Look(
@@ -148,11 +148,11 @@ class Source:
         )
         generations = self._new_generations(look.rows)
         if not found["has_trail"]:
-            return Seen(look, generations)
+            return SourceLook(look, generations)
         lists = self._ask(
             statements.LISTS if found["has_runs"] else statements.LISTS_BY_NAME, {"format": FORMAT}
         )
-        return Seen(
+        return SourceLook(
             look,
             generations,
             tuple(self._new_pieces(lists)),

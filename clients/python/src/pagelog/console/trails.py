@@ -19,7 +19,7 @@ LATEST = 20
 
 
 @dataclass(frozen=True)
-class Denial:
+class SeenDenial:
     """A line that was denied. It was decided at this time or before, in seconds since 1970."""
 
     at: float
@@ -29,7 +29,7 @@ class Denial:
 
 
 @dataclass(frozen=True)
-class Failover:
+class SeenFailover:
     """An allowed failover, which began this epoch, as it was seen in the trail."""
 
     at: float
@@ -42,12 +42,12 @@ class TrailCounts:
     """The trail of one database."""
 
     def __init__(self) -> None:
-        self.latest: deque[Denial] = deque(maxlen=LATEST)
+        self.latest: deque[SeenDenial] = deque(maxlen=LATEST)
         self.is_damaged = False
         self._denials: Counter[tuple[int, str]] = Counter()
         self._reads: deque[tuple[float, int]] = deque()
 
-    def take(self, recorded: Recorded) -> list[Failover]:
+    def take(self, recorded: Recorded) -> list[SeenFailover]:
         """Counts a piece, and returns the failovers in it. The keepers' own requests are left out."""
         if recorded.piece is None:
             self.is_damaged = True
@@ -59,7 +59,7 @@ class TrailCounts:
             if not entry.is_allowed:
                 self._deny(at, entry)
             elif entry.operation is Operation.FAILOVER:
-                failovers.append(Failover(at, recorded.name, entry.epoch + 1, entry.a))
+                failovers.append(SeenFailover(at, recorded.name, entry.epoch + 1, entry.a))
             reads += entry.is_allowed and entry.operation in READS
         self._reads.append((at, reads))
         return failovers
@@ -67,7 +67,7 @@ class TrailCounts:
     def _deny(self, at: float, entry: Entry) -> None:
         rule = f"{entry.place} {entry.rule}"
         self._denials[int(at) // 60, rule] += 1
-        self.latest.append(Denial(at, entry.principal, entry.operation.word, rule))
+        self.latest.append(SeenDenial(at, entry.principal, entry.operation.word, rule))
 
     def denials(self, now: float) -> dict[str, int]:
         """How often each rule denied in the last hour, the most frequent first."""

@@ -6,7 +6,7 @@ import threading
 import time
 from typing import Callable
 
-from pagelog.console.source import NoLook, Seen, Source
+from pagelog.console.source import NoLook, SourceLook, Source
 
 PACE = 1.0
 """Seconds between the beginnings of two looks, at least."""
@@ -23,7 +23,7 @@ class Watcher(threading.Thread):
     def __init__(
         self,
         source: Source,
-        take: Callable[[Seen, float], None],
+        take: Callable[[SourceLook, float], None],
         miss: Callable[[str, float], None],
     ) -> None:
         super().__init__(name="console-watcher", daemon=True)

@@ -36,7 +36,7 @@ _HEADERS = {
 Handler = Callable[[web.Request], Awaitable[web.StreamResponse]]
 
 
-class Pages:
+class WebPages:
     """The answers. `watched` is told whether anybody follows, and `is_secure` is whether browsers come by TLS."""
 
     def __init__(

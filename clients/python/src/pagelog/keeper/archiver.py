@@ -35,7 +35,7 @@ class _Waited:
     waits: dict[Line, list[int]]
 
 
-class Archiver:
+class RunArchiver:
     """Of one run. The line `durable` is its doorbell: it polls nothing.
 
     `changed` is called where there is something to decide. What is archived is told to those who wait once it is committed.

@@ -7,7 +7,7 @@ from pathlib import Path
 from typing import Any, Iterable
 
 from pagelog.keeper.rows import Look
-from pagelog.keeper.run import Facts, Seen, database_of, is_running, kept_in, seen_of
+from pagelog.keeper.run import ProcessFacts, Seen, database_of, is_running, kept_in, seen_of
 from pagelog.keeper.runner import RunnerError
 
 ASIDE = "set aside"
@@ -19,7 +19,7 @@ class Aside:
     """One of them. `seen` is what PostgreSQL has had of its run, `is_kept` whether it was quarantined: else its keeper has it still, and
     `database` the identity of what it is of."""
 
-    facts: Facts
+    facts: ProcessFacts
     seen: Seen
     is_kept: bool = True
     database: str = ""
@@ -45,7 +45,7 @@ class Asides:
 
     def __init__(self, folder: Path) -> None:
         self._folder = folder
-        self._facts: list[Facts] = []
+        self._facts: list[ProcessFacts] = []
         self._databases: dict[str, str] = {}
         """Of which database each run is."""
 
@@ -53,7 +53,7 @@ class Asides:
         """Those of its previous instances."""
         self._facts = kept_in(self._folder)
 
-    def add(self, facts: Facts) -> None:
+    def add(self, facts: ProcessFacts) -> None:
         """Another one."""
         self._facts.append(facts)
 
@@ -72,7 +72,7 @@ class Asides:
         ]
         return {ASIDE: [each.report() for each in found]} if found else {}
 
-    def _database_of(self, facts: Facts) -> str:
+    def _database_of(self, facts: ProcessFacts) -> str:
         """Its process is asked until it has answered."""
         if facts.run not in self._databases:
             try:

@@ -25,7 +25,7 @@ SMALL = 4096
 
 
 @dataclass(frozen=True)
-class Wish:
+class BaseWish:
     """A base of a database at or below an archived position, whose digest is `chain`. `keep` is what is not pruned; None: nothing is."""
 
     url: str
@@ -41,7 +41,7 @@ class Wish:
         return json.dumps({**vars(self), "store": None if self.store is None else self.store.json})
 
     @classmethod
-    def read(cls, line: str) -> Wish:
+    def read(cls, line: str) -> BaseWish:
         """Of the line."""
         found: dict[str, Any] = json.loads(line)
         found["store"] = None if found["store"] is None else StoreSettings(**found["store"])
@@ -61,7 +61,7 @@ class NoBase(KeeperError):
     """The process that makes a base has failed."""
 
 
-def make(wish: Wish) -> Made:
+def make(wish: BaseWish) -> Made:
     """Makes it here."""
     referee = Referee(wish.url, "of a base", store=wish.store)
     try:
@@ -74,7 +74,7 @@ def make(wish: Wish) -> Made:
         referee.close()
 
 
-async def made_of(wish: Wish, blocks: int) -> Made:
+async def made_of(wish: BaseWish, blocks: int) -> Made:
     """Makes it, of so many blocks after the last base. Raises `KeeperError`."""
     if blocks <= SMALL:
         return await asyncio.to_thread(make, wish)
@@ -109,7 +109,7 @@ async def made_of(wish: Wish, blocks: int) -> Made:
 def main() -> int:
     """Does it."""
     try:
-        found: dict[str, object] = asdict(make(Wish.read(sys.stdin.read())))
+        found: dict[str, object] = asdict(make(BaseWish.read(sys.stdin.read())))
     except PagelogError as error:
         found = {"error": str(error)}
     print(json.dumps(found))

@@ -8,7 +8,7 @@ from typing import TYPE_CHECKING
 from pagelog.errors import PagelogError
 from pagelog.keeper.bases import Bases, transaction
 from pagelog.keeper.images import Replay
-from pagelog.keeper.machine import Kind, Stillness
+from pagelog.keeper.machine import RunKind, Stillness
 from pagelog.keeper.referee import PIECE, Away, Doubt, Referee, Refused
 from pagelog.keeper.rows import Row, Where
 from pagelog.keeper.run import Run, new_run

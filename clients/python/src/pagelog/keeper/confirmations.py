@@ -16,7 +16,7 @@ MOST = 1_000
 
 
 @dataclass(eq=False)
-class _Waiting:
+class _WaitingConfirmation:
     line: Line
     position: int
     of: Of
@@ -28,7 +28,7 @@ class Confirmations:
 
     def __init__(self, name: str) -> None:
         self._name = name
-        self._waiting: dict[Line, _Waiting] = {}
+        self._waiting: dict[Line, _WaitingConfirmation] = {}
         self._now = 0, b""
         """The archived position, and the digest of all blocks up to it, as it was told last."""
         self.watch: Callable[[bool], None] = lambda _: None
@@ -46,7 +46,7 @@ class Confirmations:
         self.tell(reached, chain)
         if line in self._waiting:
             self._give_up(self._waiting[line])
-        waiting = _Waiting(line, position, of)
+        waiting = _WaitingConfirmation(line, position, of)
         if reached > position or len(self._waiting) >= MOST:
             return self._say(waiting)
         waiting.timer = asyncio.get_running_loop().call_later(HELD, self._give_up, waiting)
@@ -72,15 +72,15 @@ class Confirmations:
         if line in self._waiting:
             self._leave(self._waiting[line])
 
-    def _give_up(self, waiting: _Waiting) -> None:
+    def _give_up(self, waiting: _WaitingConfirmation) -> None:
         self._leave(waiting)
         self._say(waiting)
 
-    def _say(self, waiting: _Waiting) -> None:
+    def _say(self, waiting: _WaitingConfirmation) -> None:
         reached, chain = self._now
         waiting.line.say("confirmed", self._name, reached, chain.hex() or "-", *of_word(waiting.of))
 
-    def _leave(self, waiting: _Waiting) -> None:
+    def _leave(self, waiting: _WaitingConfirmation) -> None:
         waiting.timer.cancel()
         del self._waiting[waiting.line]
         if not self._waiting:

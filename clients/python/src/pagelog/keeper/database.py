@@ -17,10 +17,10 @@ from pagelog.keeper.machine import (
     Action,
     Decision,
     Facts,
-    Kind,
+    RunKind,
     Own,
     Rival,
-    State,
+    DatabaseState,
     Stillness,
     decide,
     is_only_copy,
@@ -173,7 +173,7 @@ class Database:
             self.succession.tend()
         if (
             served is not None
-            and served.kind is Kind.STANDBY
+            and served.kind is RunKind.STANDBY
             and row.wanted in ("*", self.shared.settings.name)
         ):
             self.shared.ways.warm()
@@ -381,7 +381,7 @@ class Database:
         )
 
     @property
-    def state(self) -> State:
+    def state(self) -> DatabaseState:
         """What the database is to this keeper."""
         return state_of(self.facts(), self.doing)
 
@@ -402,7 +402,7 @@ class Database:
         another."""
         is_other = (
             self.served is not None
-            and self.served.kind is Kind.STANDBY
+            and self.served.kind is RunKind.STANDBY
             and self.served.run != standby.run
         )
         is_elsewhere = (
@@ -428,7 +428,7 @@ class Database:
     def is_moving(self) -> bool:
         """Whether this keeper is about to publish a generation of it."""
         served = self.served
-        is_dead = served is not None and served.kind is Kind.HOLDER and not served.is_alive
+        is_dead = served is not None and served.kind is RunKind.HOLDER and not served.is_alive
         return is_dead or self.doing in (Action.TAKE, Action.FILL, Action.RELEASE, Action.SUCCEED)
 
     @property
@@ -439,7 +439,10 @@ class Database:
             return False
         if self.holds:
             return any(row.wanted in (standby.keeper, "*") for standby in self._others)
-        return self.served.kind is Kind.STANDBY and row.wanted in (self.shared.settings.name, "*")
+        return self.served.kind is RunKind.STANDBY and row.wanted in (
+            self.shared.settings.name,
+            "*",
+        )
 
     @property
     def is_at_rest(self) -> bool:

@@ -6,9 +6,9 @@ import asyncio
 from typing import TYPE_CHECKING
 
 from pagelog.errors import PagelogError
-from pagelog.keeper.archiver import Archiver, turn_of
+from pagelog.keeper.archiver import RunArchiver, turn_of
 from pagelog.keeper.lines import of_word
-from pagelog.keeper.machine import Action, Kind
+from pagelog.keeper.machine import Action, RunKind
 from pagelog.keeper.rows import Row
 from pagelog.keeper.run import Run, Seen
 from pagelog.keeper.served import Served
@@ -49,7 +49,7 @@ class Ending:
             return await self._released(row, recorder)
         return await archiver.reached(end) and database.holds and await self.release()
 
-    async def _release_at(self, archiver: Archiver, end: int) -> Row | None:
+    async def _release_at(self, archiver: RunArchiver, end: int) -> Row | None:
         """Ends the generation with the rest of its log in the archive, and its lines in the trail. None where that was not to be done."""
         async with turn_of(archiver.lining) as recorder:
             last = await archiver.rest(end, recorder)
@@ -106,7 +106,7 @@ class Ending:
                 self._shared.tell_fate(line, database.row.name, served.generation, of),
                 database.row.name,
             )
-        return await database.standing.stand_down() if served.kind is Kind.STANDBY else True
+        return await database.standing.stand_down() if served.kind is RunKind.STANDBY else True
 
     async def _ended(self, served: Served) -> None:
         """Its process is killed, once, unless it may be the only copy of something, and there is no work on it any more."""

@@ -51,7 +51,7 @@ class List(ctypes.Structure):
         return replace(one, kept=int(self.kept), seen=int(self.seen), digest=bytes(self.digest))
 
 
-class Start(ctypes.Structure):
+class WayStart(ctypes.Structure):
     """A database."""
 
     _fields_ = [
@@ -150,7 +150,7 @@ def library() -> ctypes.CDLL:
         ("plane_lend", [plane, ctypes.POINTER(SessionStart)]),
         ("plane_retract", [plane, ctypes.c_uint64]),
         ("plane_next", [plane, ctypes.POINTER(Event)]),
-        ("way_new", [plane, ctypes.POINTER(Start)]),
+        ("way_new", [plane, ctypes.POINTER(WayStart)]),
         ("way_add", [way, ctypes.c_int, ctypes.c_uint64, ctypes.c_int]),
         ("way_kick", [way, ctypes.c_uint64]),
         ("way_done", [way, ctypes.POINTER(ctypes.c_uint64)]),

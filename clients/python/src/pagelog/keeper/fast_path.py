@@ -11,7 +11,7 @@ from typing import TYPE_CHECKING, Callable
 from pagelog.keeper import fast_calls
 from pagelog.keeper.fate import Of
 from pagelog.keeper.lines import Line
-from pagelog.keeper.fast_calls import DIGEST, Event, List, Start
+from pagelog.keeper.fast_calls import DIGEST, Event, List, WayStart
 from pagelog.keeper.rows import Row
 from pagelog.keeper.served import Served
 from pagelog.keeper.waits import Waits
@@ -81,7 +81,7 @@ class FastPath:
         """What PostgreSQL has said of a statement that is in doubt."""
         self.lines = lines
         """How far the list is kept, once it has ended; None where that is not known."""
-        start = Start(
+        start = WayStart(
             key,
             row.name.encode(),
             served.generation,

@@ -11,7 +11,7 @@ _MOST = 16
 """Lives that are noted, where none comes to have the name."""
 
 
-class Folder:
+class KeeperFolder:
     """A folder that is locked while this process runs. The lock ends with the process, however that ends; its services have none."""
 
     def __init__(self, path: Path, name: str) -> None:

@@ -90,7 +90,7 @@ SELECT id, pg_notify('{CHANNEL}', '') FROM made
 
 
 @dataclass(frozen=True)
-class Span:
+class KeptSpan:
     """The positions that are kept are those from `oldest` on. `base` is the newest base, of so many. All up to `stored` is in the store;
     None where there is none. Where it is held nothing is pruned."""
 
@@ -101,9 +101,9 @@ class Span:
     is_held: bool = False
 
 
-def spans(referee: Referee) -> dict[int, Span]:
+def spans(referee: Referee) -> dict[int, KeptSpan]:
     """Those of all databases, by their ids."""
-    return {int(log): Span(*found) for log, *found in referee._ask(_SPANS)}
+    return {int(log): KeptSpan(*found) for log, *found in referee._ask(_SPANS)}
 
 
 @dataclass(frozen=True)

@@ -20,7 +20,7 @@ from pagelog.keeper.certificate import Shown
 from pagelog.keeper.doubts import Doubts
 from pagelog.keeper.database import Database
 from pagelog.keeper.fate import Of
-from pagelog.keeper.folder import Folder
+from pagelog.keeper.folder import KeeperFolder
 from pagelog.keeper.front import end_fronts
 from pagelog.keeper.front_care import FrontCare
 from pagelog.keeper.haproxy import FrontError
@@ -28,14 +28,14 @@ from pagelog.keeper.hosts import unverified
 from pagelog.keeper.lines import Key, Line, Server, of_word
 from pagelog.keeper.machine import Stillness
 from pagelog.keeper.notify import notify
-from pagelog.keeper.orphans import Fate, close_left, seen_to
+from pagelog.keeper.orphans import OrphanFate, close_left, seen_to
 from pagelog.keeper.page_servers import LivingPages
 from pagelog.keeper.places import Places
 from pagelog.keeper.quick import QuickReferee
 from pagelog.keeper.fast_plane import FastPlane
 from pagelog.keeper.quota import Quota
 from pagelog.keeper.referee import NAME, KeeperError, NameInUse, Referee, Superseded, options_of
-from pagelog.keeper.rows import KeeperRow, Look, Named, Row, StandbyRow, Synchronous
+from pagelog.keeper.rows import KeeperRow, Look, NamedLife, Row, StandbyRow, Synchronous
 from pagelog.keeper.run import Run, Seen, has_services, orphans_of
 from pagelog.keeper.runner import RunnerError
 from pagelog.keeper.served import Served, seconds
@@ -69,7 +69,7 @@ class Keeper:
 
     def __init__(self, settings: Settings) -> None:
         self.settings = settings
-        self._folder = Folder(settings.program.folder, settings.name)
+        self._folder = KeeperFolder(settings.program.folder, settings.name)
         self._repeats = Repeats(self._say)
         self.life = secrets.token_hex(8)
         self.databases: dict[str, Database] = {}
@@ -126,7 +126,7 @@ class Keeper:
         """The answers to `where` that wait."""
         self._turns = AllTurns(ttl=settings.ttl)
         self._storing = self._new_storing()
-        self._rival: Named | None = None
+        self._rival: NamedLife | None = None
         """Who had the name when it was asked for last."""
         self._rival_stillness, self._rival_still = Stillness(settings.ttl), 0.0
         self._is_disowned = False
@@ -321,16 +321,18 @@ class Keeper:
                 continue
             self._left.pop()
             goes_on = (
-                has_name and orphan.fate is Fate.CONTINUE and orphan.database not in self._orphans
+                has_name
+                and orphan.fate is OrphanFate.CONTINUE
+                and orphan.database not in self._orphans
             )
-            fate = orphan.fate if goes_on or orphan.fate is Fate.END else Fate.SET_ASIDE
+            fate = orphan.fate if goes_on or orphan.fate is OrphanFate.END else OrphanFate.SET_ASIDE
             self._say(
                 process.facts.name,
                 f"the service of run {process.name}, which a previous instance left, is {fate.value}: {orphan.why}",
             )
-            if self._shared.front is not None and fate is not Fate.CONTINUE:
+            if self._shared.front is not None and fate is not OrphanFate.CONTINUE:
                 await asyncio.to_thread(self._shared.front.drop, process.name)
-            if fate is Fate.END:
+            if fate is OrphanFate.END:
                 await asyncio.to_thread(process.end)
             elif goes_on and orphan.served is not None:
                 orphan.served.take_front(self._shared.front)

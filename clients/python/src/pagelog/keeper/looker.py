@@ -27,7 +27,7 @@ class Looker:
             credentials,
             timeout,
         )
-        self._line: _Line | None = None
+        self._line: _LookerLine | None = None
         self._epoch = FIRST_EPOCH
         """The highest one that it was told of. In one process epochs only rise."""
 
@@ -78,14 +78,14 @@ class Looker:
         if self._line is None:
             host, port, loop = self._address.host, self._address.port, asyncio.get_running_loop()
             _, self._line = await loop.create_connection(
-                _Line, host, port, happy_eyeballs_delay=_SILENT
+                _LookerLine, host, port, happy_eyeballs_delay=_SILENT
             )
         return await self._line.ask(
             b"".join(len(body).to_bytes(4, "big") + body for body in bodies), len(bodies)
         )
 
 
-class _Line(asyncio.Protocol):
+class _LookerLine(asyncio.Protocol):
     """One connection."""
 
     def __init__(self) -> None:

@@ -27,7 +27,7 @@ _FULL = "its audit list or its memory is {} full"
 _CHANGED = "the table was changed"
 
 
-class Kind(Enum):
+class RunKind(Enum):
     """What a run of this keeper is for."""
 
     HOLDER = "holder"
@@ -54,7 +54,7 @@ class Action(Enum):
     CONTINUE = "continue"
 
 
-class State(Enum):
+class DatabaseState(Enum):
     """What a database is to this keeper, for who looks at it."""
 
     AWAY = "away"
@@ -83,7 +83,7 @@ class Own:
     """
 
     run: str
-    kind: Kind
+    kind: RunKind
     generation: int = 0
     reached: int = 0
     alive: bool = True
@@ -185,7 +185,7 @@ def went_back(row: Row | None, own: Own) -> bool:
         return True
     if own.run == row.run:
         return False
-    return row.archived < own.reached or (own.kind is Kind.HOLDER and own.is_known is False)
+    return row.archived < own.reached or (own.kind is RunKind.HOLDER and own.is_known is False)
 
 
 def decide(facts: Facts) -> Decision:
@@ -238,7 +238,7 @@ def _decide(facts: Facts) -> Decision:
             if goes_on
             else decision
         )
-    if own is not None and own.kind is Kind.HOLDER:
+    if own is not None and own.kind is RunKind.HOLDER:
         return _of_a_run_that_is_over(facts, row, own)
     if own is not None and (not own.alive or own.silent >= facts.ttl):
         return Decision(Action.END, "the standby's service ended or hangs")
@@ -355,7 +355,7 @@ def _of_what_went_back(facts: Facts, row: Row, own: Own) -> Decision:
             f"{back}, and has other blocks by now: `pagelogctl rescue {row.name}` shows and saves what is here",
         )
     if (
-        own.kind is Kind.HOLDER and row.generation >= own.generation
+        own.kind is RunKind.HOLDER and row.generation >= own.generation
     ):  # its clients may have been told that it is over
         why = f"{back}, and another generation has begun since: `pagelogctl rescue {row.name}` shows and saves what is here"
         return Decision(Action.SET_ASIDE, why)
@@ -373,7 +373,7 @@ def _of_what_went_back(facts: Facts, row: Row, own: Own) -> Decision:
 
 
 def _of_a_rival(facts: Facts, row: Row, own: Own, back: str) -> Decision:
-    if own.kind is Kind.STANDBY and row.holder != facts.me:
+    if own.kind is RunKind.STANDBY and row.holder != facts.me:
         return Decision(
             Action.NOTHING, f"{back}; {row.holder} has it, and may archive again what is missing"
         )
@@ -447,22 +447,22 @@ def _of_another_holder(facts: Facts, row: Row) -> Decision:
     return Decision(Action.NOTHING, f"{row.holder} has it")
 
 
-def state_of(facts: Facts, doing: Action = Action.NOTHING) -> State:
+def state_of(facts: Facts, doing: Action = Action.NOTHING) -> DatabaseState:
     """What the database is to this keeper, while it does this."""
     if facts.own is None:
-        return State.TAKING if doing in (Action.TAKE, Action.ADOPT) else State.AWAY
+        return DatabaseState.TAKING if doing in (Action.TAKE, Action.ADOPT) else DatabaseState.AWAY
     if doing is Action.CLOSE:
-        return State.CLOSING
+        return DatabaseState.CLOSING
     if doing is Action.SUCCEED:
-        return State.SUCCEEDING
+        return DatabaseState.SUCCEEDING
     if is_only_copy(facts):
-        return State.WENT_BACK
-    if facts.own.kind is Kind.STANDBY:
-        return State.TAKING if doing is Action.TAKE else State.STANDBY
+        return DatabaseState.WENT_BACK
+    if facts.own.kind is RunKind.STANDBY:
+        return DatabaseState.TAKING if doing is Action.TAKE else DatabaseState.STANDBY
     return (
-        State.TAKING
+        DatabaseState.TAKING
         if doing is Action.FILL or facts.row is None or facts.row.address is None
-        else State.SERVING
+        else DatabaseState.SERVING
     )
 
 

@@ -8,7 +8,7 @@ from enum import Enum
 
 from pagelog.errors import PagelogError
 from pagelog.keeper.definition import Definition
-from pagelog.keeper.machine import Kind
+from pagelog.keeper.machine import RunKind
 from pagelog.keeper.referee import BrokenArchive, KeeperError, Referee
 from pagelog.keeper.rows import Look, Origin, Row
 from pagelog.keeper.run import Run, Seen
@@ -20,7 +20,7 @@ _NO_DIGEST = b"-"
 """In place of the digest of what came before its images, where PostgreSQL does not have that base: no archive continues it."""
 
 
-class Fate(Enum):
+class OrphanFate(Enum):
     """What is to become of a service."""
 
     END = "ended"
@@ -29,7 +29,7 @@ class Fate(Enum):
 
 
 @dataclass(frozen=True)
-class Found:
+class FoundOrphan:
     """What is known of a service. `origin` is what PostgreSQL knows of its run, `row` the database of its name that it has today, and
     `seen` what a previous instance has noted. `is_behind` is whether the archive has all of its log, `was_written` whether a client has.
     """
@@ -43,29 +43,29 @@ class Found:
     is_behind: bool = False
 
 
-def fate_of(found: Found) -> tuple[Fate, str]:
+def fate_of(found: FoundOrphan) -> tuple[OrphanFate, str]:
     """What is to become of it, and why."""
     origin = found.origin
     if origin is not None and origin.dropped:
-        return Fate.END, "its database was dropped"
+        return OrphanFate.END, "its database was dropped"
     if origin is not None and origin.ended is not None:
         if found.seen.archived > origin.ended:
             return (
-                Fate.SET_ASIDE,
+                OrphanFate.SET_ASIDE,
                 f"PostgreSQL went back: it had the run up to position {found.seen.archived}, and now its end is {origin.ended}",
             )
-        return Fate.END, "its generation has ended"
+        return OrphanFate.END, "its generation has ended"
     if not found.answers:
-        return Fate.SET_ASIDE, "it does not answer, and PostgreSQL does not know its run"
+        return OrphanFate.SET_ASIDE, "it does not answer, and PostgreSQL does not know its run"
     if found.row is None:
         if (
             found.was_dropped and found.seen.generation == 0 and not found.was_written
         ):  # as a standby's
-            return Fate.END, "it held nothing, and its database was dropped"
-        return Fate.SET_ASIDE, "PostgreSQL has no such database"
+            return OrphanFate.END, "it held nothing, and its database was dropped"
+        return OrphanFate.SET_ASIDE, "PostgreSQL has no such database"
     if found.is_behind and not found.was_written:
-        return Fate.END, "it held nothing that PostgreSQL lacks"
-    return Fate.CONTINUE, "PostgreSQL does not know its run"
+        return OrphanFate.END, "it held nothing that PostgreSQL lacks"
+    return OrphanFate.CONTINUE, "PostgreSQL does not know its run"
 
 
 @dataclass(frozen=True)
@@ -73,7 +73,7 @@ class Orphan:
     """A service with its fate; `served` is how it is asked, where it goes on, and `database` the identity of the one that it is of."""
 
     process: Run
-    fate: Fate
+    fate: OrphanFate
     why: str
     served: Served | None = None
     database: str = ""
@@ -85,14 +85,14 @@ def seen_to(
     """Asks PostgreSQL and the service. `has_name` is whether the keeper that asks is registered. Raises `KeeperError` where PostgreSQL
     does not answer."""
     if process.facts.address is None:
-        return Orphan(process, Fate.END, "it did not come to listen")
+        return Orphan(process, OrphanFate.END, "it did not come to listen")
     name, seen = process.facts.name, process.seen
     origin, row = referee.origin(process.name, has_name=has_name), look.row(name)
     definition = process.definition
     if row is not None and not _is_of(row, name, definition):
         row = None  # the name is another one's by now
     was_dropped = any(each.dropped and _is_of(each, name, definition) for each in look.rows)
-    found = Found(seen, origin, row, was_dropped)
+    found = FoundOrphan(seen, origin, row, was_dropped)
     if row is None or (origin is not None and (origin.dropped or origin.ended is not None)):
         return Orphan(process, *fate_of(found))
     text, secret, *_ = referee.table(row.id)
@@ -123,9 +123,9 @@ def seen_to(
     except KeeperError:
         raise
     except PagelogError:
-        return Orphan(process, *fate_of(Found(seen, origin, row, was_dropped, answers=False)))
-    fate, why = fate_of(Found(seen, origin, row, was_dropped, True, was_written, is_behind))
-    return Orphan(process, fate, why, served if fate is Fate.CONTINUE else None, row.identity)
+        return Orphan(process, *fate_of(FoundOrphan(seen, origin, row, was_dropped, answers=False)))
+    fate, why = fate_of(FoundOrphan(seen, origin, row, was_dropped, True, was_written, is_behind))
+    return Orphan(process, fate, why, served if fate is OrphanFate.CONTINUE else None, row.identity)
 
 
 def close_left(process: Run, timeout: float) -> None:

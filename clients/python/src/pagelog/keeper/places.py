@@ -16,7 +16,7 @@ EACH, ALL = 1_000, 20_000
 
 
 @dataclass(eq=False)
-class _Waiting:
+class _WaitingPlace:
     line: Line
     name: str
     least: int
@@ -29,8 +29,8 @@ class Places:
     def __init__(self, where: Callable[[str, bool], tuple[object, ...]]) -> None:
         """`where` has the words of the answer as it is now."""
         self._where = where
-        self._of_name: dict[str, dict[Line, _Waiting]] = {}
-        self._of_line: dict[Line, dict[str, _Waiting]] = {}
+        self._of_name: dict[str, dict[Line, _WaitingPlace]] = {}
+        self._of_line: dict[Line, dict[str, _WaitingPlace]] = {}
         self._quota = Quota(EACH, ALL)
 
     def __contains__(self, line: Line) -> bool:
@@ -46,7 +46,7 @@ class Places:
         if words[0] == "unknown" or _is_of(words, least) or not self._quota.acquire(line):
             line.say(*words)
             return
-        waiting = _Waiting(line, name, least)
+        waiting = _WaitingPlace(line, name, least)
         waiting.timer = asyncio.get_running_loop().call_later(HELD, self._give_up, waiting)
         self._of_name.setdefault(name, {})[line] = waiting
         self._of_line.setdefault(line, {})[name] = waiting
@@ -65,11 +65,11 @@ class Places:
         for waiting in list(self._of_line.get(line, {}).values()):
             self._leave(waiting)
 
-    def _give_up(self, waiting: _Waiting) -> None:
+    def _give_up(self, waiting: _WaitingPlace) -> None:
         self._leave(waiting)
         waiting.line.say(*self._where(waiting.name, waiting.line.is_secure))
 
-    def _leave(self, waiting: _Waiting) -> None:
+    def _leave(self, waiting: _WaitingPlace) -> None:
         waiting.timer.cancel()
         self._quota.release(waiting.line)
         of_name, of_line = self._of_name[waiting.name], self._of_line[waiting.line]

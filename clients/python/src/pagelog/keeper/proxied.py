@@ -15,13 +15,13 @@ _HAS_TLS, _HAS_CERTIFICATE = 0x01, 0x06
 """A certificate of this connection, or of the session that it has taken up again."""
 
 
-class Head(NamedTuple):
+class ProxyHead(NamedTuple):
     """What it says: the name in the client's certificate, if that was verified."""
 
     client: str | None
 
 
-def taken(data: bytes) -> tuple[Head, bytes] | None:
+def taken(data: bytes) -> tuple[ProxyHead, bytes] | None:
     """The head, and what comes behind it. None where it is not whole yet. Raises `ValueError` where it is none."""
     if not data[:12] == SIGNATURE[: len(data)]:
         raise ValueError("it has no head of a front")
@@ -35,15 +35,15 @@ def taken(data: bytes) -> tuple[Head, bytes] | None:
     return _head(data[12], data[13], data[16 : 16 + length]), data[16 + length :]
 
 
-def _head(command: int, family: int, body: bytes) -> Head:
+def _head(command: int, family: int, body: bytes) -> ProxyHead:
     if command == _LOCAL:
-        return Head(None)  # of the front itself
+        return ProxyHead(None)  # of the front itself
     if command != _PROXY or family not in _LENGTHS or len(body) < _LENGTHS[family]:
         raise ValueError("its head is of another form")
     for kind, value in _parts(body[_LENGTHS[family] :]):
         if kind == _TLS:
-            return Head(_client_of(value))
-    return Head(None)
+            return ProxyHead(_client_of(value))
+    return ProxyHead(None)
 
 
 def _client_of(value: bytes) -> str | None:

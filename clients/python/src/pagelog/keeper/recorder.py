@@ -37,7 +37,7 @@ _STEPS = 4
 _Result = TypeVar("_Result")
 
 
-class Turn:
+class RecorderTurn:
     """Held from when lines are asked for until it is known whether they are kept, and by a thread until it has done."""
 
     def __init__(self, patience: float, freed: Callable[[], None] = lambda: None) -> None:
@@ -144,7 +144,7 @@ class Recorder:
         self._operator = served.operator()  # it connects once it asks
         self._due = asyncio.Event()
         self._due.set()
-        self.turn = Turn(_PATIENCE * trails.ttl, freed)
+        self.turn = RecorderTurn(_PATIENCE * trails.ttl, freed)
         self._keeper: TrailKeeper | None = None
         self._kept, self._last, self._pruned = 0, float("-inf"), 0
         self._said = ""

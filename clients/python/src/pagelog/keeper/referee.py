@@ -28,7 +28,7 @@ from pagelog.keeper.rows import (
     Batch,
     Kept,
     Look,
-    Named,
+    NamedLife,
     Origin,
     Row,
     TableOf,
@@ -333,8 +333,8 @@ class Referee:
         return int(version if version >= 0 else self._ask(NUMBERED)[0][0])
 
     def claim(
-        self, lines: str, over: Sequence[str] = (), seen: Named | None = None
-    ) -> Named | None:
+        self, lines: str, over: Sequence[str] = (), seen: NamedLife | None = None
+    ) -> NamedLife | None:
         """Takes the keeper's name for this life of it: where nobody has it, or a life that is `over` or this one, or one that is as it
         was `seen`. Else returns who has it."""
         values = {
@@ -349,7 +349,8 @@ class Referee:
             self._lines, self._beat = lines, found[0][0]
             return None
         return next(
-            (Named(*row) for row in self._ask(statements.NAMED, {"me": self.me})), Named("", "", -1)
+            (NamedLife(*row) for row in self._ask(statements.NAMED, {"me": self.me})),
+            NamedLife("", "", -1),
         )
 
     def register(self, lines: str, most: int = (1 << 63) - 1) -> None:

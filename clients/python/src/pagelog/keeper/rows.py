@@ -107,7 +107,7 @@ class KeeperRow:
 
 
 @dataclass(frozen=True)
-class Named:
+class NamedLife:
     """The life of a keeper that has a name, and when it took that, by PostgreSQL's clock; an older program does not say when."""
 
     run: str

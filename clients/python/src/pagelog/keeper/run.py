@@ -49,7 +49,7 @@ class Program:
 
 
 @dataclass(frozen=True)
-class Facts:
+class ProcessFacts:
     """What is noted of a process. Another process may have its number later; `started` and `boot` tell them apart."""
 
     name: str
@@ -68,7 +68,7 @@ class Facts:
     """What a later keeper has noted, and this one does not know: it is kept."""
 
     @classmethod
-    def read(cls, text: str) -> Facts:
+    def read(cls, text: str) -> ProcessFacts:
         """Of the text of its file. Raises `ValueError` or `TypeError`."""
         found = json.loads(text)
         known = {each.name for each in fields(cls)} - {"others"}
@@ -112,7 +112,7 @@ class Run:
     def __init__(
         self,
         folder: Path,
-        facts: Facts,
+        facts: ProcessFacts,
         descriptor: int,
         child: Child | None = None,
         acknowledged: Acknowledged | None = None,
@@ -385,7 +385,7 @@ def has_services(folder: Path) -> bool:
     return bool(found)
 
 
-def kept_in(folder: Path) -> list[Facts]:
+def kept_in(folder: Path) -> list[ProcessFacts]:
     """What is noted of the services of this folder that run and that no keeper ends."""
     found = list(_noted(folder))
     for _, descriptor in found:
@@ -393,7 +393,7 @@ def kept_in(folder: Path) -> list[Facts]:
     return [facts for facts, _ in found if facts.kept]
 
 
-def database_of(folder: Path, facts: Facts) -> str:
+def database_of(folder: Path, facts: ProcessFacts) -> str:
     """The identity of the database of a service that is noted and runs; nothing where its process does not remember it."""
     process = Run.adopt(folder, facts.name, facts.run)
     if process is None:
@@ -404,7 +404,7 @@ def database_of(folder: Path, facts: Facts) -> str:
         process.leave()
 
 
-def seen_of(folder: Path, facts: Facts) -> Seen:
+def seen_of(folder: Path, facts: ProcessFacts) -> Seen:
     """What PostgreSQL has had of a run, as its keeper noted it last; nothing where that cannot be read."""
     try:
         found = json.loads((folder / _file_of(facts.name, facts.run, "seen")).read_text())
@@ -413,7 +413,7 @@ def seen_of(folder: Path, facts: Facts) -> Seen:
         return Seen()
 
 
-def is_running(facts: Facts) -> bool:
+def is_running(facts: ProcessFacts) -> bool:
     """Whether the very process that was noted still runs."""
     descriptor = _opened(facts)
     if descriptor is not None:
@@ -421,7 +421,7 @@ def is_running(facts: Facts) -> bool:
     return descriptor is not None
 
 
-def services_of(folder: Path) -> list[Facts]:
+def services_of(folder: Path) -> list[ProcessFacts]:
     """What is noted of the services of this folder that run and listen, also of those that were quarantined."""
     found = list(_noted(folder))
     for _, descriptor in found:
@@ -468,17 +468,17 @@ def is_there(folder: Path, name: str, run: str) -> bool:
     return found is not None and found[0].run == run
 
 
-def _noted(folder: Path) -> Iterator[tuple[Facts, int]]:
+def _noted(folder: Path) -> Iterator[tuple[ProcessFacts, int]]:
     """The services that are noted and still run, each with a pidfd. Notes of others are removed."""
     for file in sorted(folder.glob("*.json")):
         if not file.name.startswith(FRONT) and (found := _noted_in(file)) is not None:
             yield found
 
 
-def _noted_in(file: Path) -> tuple[Facts, int] | None:
+def _noted_in(file: Path) -> tuple[ProcessFacts, int] | None:
     """The service that is noted in this file and still runs, with a pidfd. A note of another is removed."""
     try:
-        facts = Facts.read(file.read_text())
+        facts = ProcessFacts.read(file.read_text())
     except (OSError, ValueError, TypeError):
         return None
     descriptor = _opened(facts)
@@ -488,7 +488,7 @@ def _noted_in(file: Path) -> tuple[Facts, int] | None:
     return facts, descriptor
 
 
-def _opened(facts: Facts) -> int | None:
+def _opened(facts: ProcessFacts) -> int | None:
     """A pidfd of the very process that was noted, if it still runs."""
     try:
         descriptor = os.pidfd_open(facts.pid)
@@ -506,10 +506,10 @@ def _opened(facts: Facts) -> int | None:
     return None
 
 
-def _facts_of(name: str, run: str, pid: int) -> Facts:
+def _facts_of(name: str, run: str, pid: int) -> ProcessFacts:
     """The facts of a process that runs. Its name, in parentheses, may have spaces."""
     fields = Path(f"/proc/{pid}/stat").read_text().rpartition(")")[2].split()
-    return Facts(
+    return ProcessFacts(
         name, run, pid, int(fields[19]), Path("/proc/sys/kernel/random/boot_id").read_text().strip()
     )
 

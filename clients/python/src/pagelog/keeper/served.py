@@ -22,7 +22,7 @@ from pagelog.keeper.haproxy import FrontError
 from pagelog.keeper.images import blocks_of, labelled
 from pagelog.keeper.loading import EPOCH, GROUP, Loader
 from pagelog.keeper.looker import Looker
-from pagelog.keeper.machine import Kind
+from pagelog.keeper.machine import RunKind
 from pagelog.keeper.referee import BrokenArchive, Referee, digest
 from pagelog.keeper.rows import TableOf, Where
 from pagelog.keeper.run import NotStarted, Program, Run
@@ -115,7 +115,7 @@ class Served:
         """
         self.database = name
         self.run = run
-        self.kind = Kind.HOLDER
+        self.kind = RunKind.HOLDER
         self.generation = 0
         self.acknowledged: Acknowledged | None = None
         """Where it is noted how far it was acknowledged."""
@@ -207,7 +207,7 @@ class Served:
 
     def hold(self, generation: int) -> None:
         """It is the service of this generation."""
-        self.kind, self.generation = Kind.HOLDER, generation
+        self.kind, self.generation = RunKind.HOLDER, generation
 
     def follow_release(self) -> None:
         """Another keeper has released the generation before."""
@@ -215,7 +215,7 @@ class Served:
 
     def stand_by(self) -> None:
         """It is a standby's."""
-        self.kind = Kind.STANDBY
+        self.kind = RunKind.STANDBY
 
     def note_standby(self, is_noted: bool) -> None:
         """The referee has noted it as a standby, or has lost that."""

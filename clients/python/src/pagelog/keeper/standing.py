@@ -6,7 +6,7 @@ import asyncio
 from typing import TYPE_CHECKING
 
 from pagelog.errors import PagelogError
-from pagelog.keeper.machine import Kind, Stage
+from pagelog.keeper.machine import RunKind, Stage
 from pagelog.keeper.referee import Away, Doubt
 from pagelog.keeper.rows import Row
 from pagelog.keeper.run import new_run
@@ -104,7 +104,7 @@ class Standing:
         ):
             await database.succession.give_up()  # others wait for its turn, and a pause may last
         served = database.served if database.is_known else None
-        if served is None or served.kind is not Kind.STANDBY:
+        if served is None or served.kind is not RunKind.STANDBY:
             return False
         lacks = served.reached < database.row.archived
         if (lacks or not served.is_noted) and await self._catch_up(served) and lacks:

@@ -13,8 +13,8 @@ from functools import partial
 from typing import TYPE_CHECKING, Callable, Sequence, TypeVar
 
 from pagelog.errors import OutOfMemory, PagelogError
-from pagelog.keeper.archiver import Archiver, turn_of
-from pagelog.keeper.basing import SMALL, Wish, made_of
+from pagelog.keeper.archiver import RunArchiver, turn_of
+from pagelog.keeper.basing import SMALL, BaseWish, made_of
 from pagelog.keeper.loading import Loader
 from pagelog.keeper.machine import Stage
 from pagelog.keeper.referee import Away, BrokenArchive, Doubt, Referee, Refused, digest
@@ -95,7 +95,7 @@ class Succession:
     async def _make_base(self, served: Served) -> None:
         settings, row, began = self._shared.settings, self._database.row, seconds()
         self._tried = served.reached
-        wish = Wish(
+        wish = BaseWish(
             settings.url, row.id, served.reached, served.chain.hex(), settings.keep, settings.store
         )
         made = await made_of(wish, served.reached - max(self.base, served.images))
@@ -228,7 +228,7 @@ class Succession:
 
     # From the fence to the switch.
 
-    async def switch(self, archiver: Archiver) -> bool:
+    async def switch(self, archiver: RunArchiver) -> bool:
         """Closes the present generation, and begins the next. Returns whether there are new facts to decide from."""
         served, successor = self._database.own, self._successor
         assert successor is not None
@@ -247,7 +247,7 @@ class Succession:
             await self._fail(error)
             return True
 
-    async def _near(self, served: Served, archiver: Archiver) -> bool:
+    async def _near(self, served: Served, archiver: RunArchiver) -> bool:
         """Archives until little is left for the switch. False where the archive is not this run's any more."""
         for _ in range(_ROUNDS):
             before = served.reached
@@ -260,7 +260,7 @@ class Succession:
         return True
 
     async def _switch(
-        self, served: Served, successor: Served, loader: Loader, archiver: Archiver
+        self, served: Served, successor: Served, loader: Loader, archiver: RunArchiver
     ) -> bool:
         began = seconds()
         try:

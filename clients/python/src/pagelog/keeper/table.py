@@ -14,17 +14,13 @@ from enum import Enum
 from typing import Any
 
 from pagelog.credentials import Credentials
-from pagelog.errors import PagelogError
+from pagelog.errors import TableError
 from pagelog.request import COPIES_OF_QUORUM, QUORUM
 
 KEEPER = (1 << 32) - 1
 """The principal of the keepers, which no table of a named database lists."""
 _MOST_PRINCIPALS = 64 - 1
 _MOST_ROWS = 256 - 4
-
-
-class TableError(PagelogError):
-    """The text is no table of a named database."""
 
 
 class Form(Enum):

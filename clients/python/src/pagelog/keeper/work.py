@@ -6,7 +6,7 @@ import asyncio
 from typing import TYPE_CHECKING, Callable
 
 from pagelog.errors import AuditListFull, PagelogError, TurnsSpent
-from pagelog.keeper.archiver import Archiver
+from pagelog.keeper.archiver import RunArchiver
 from pagelog.keeper.fate import Of
 from pagelog.keeper.machine import Stillness
 from pagelog.keeper.rows import Row
@@ -34,7 +34,7 @@ class Work:
         self._archiving: asyncio.Task[None] | None = None
         self._recording: asyncio.Task[None] | None = None
         self._served: Served | None = None
-        self.archiver: Archiver | None = None
+        self.archiver: RunArchiver | None = None
         self.recorder: Recorder | None = None
 
     def see(self, served: Served) -> None:
@@ -67,7 +67,7 @@ class Work:
     def begin(self, row: Row, served: Served, *, records: bool = True) -> None:
         """From now on it is held: archived, and recorded, unless `record` is called later."""
         self._served = served
-        self.archiver = Archiver(
+        self.archiver = RunArchiver(
             row,
             served,
             self._waits,

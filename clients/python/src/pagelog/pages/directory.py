@@ -41,7 +41,7 @@ _NAMES = (
 
 
 @dataclass(frozen=True)
-class Entry:
+class PageServerEntry:
     """A page server, as it says of itself."""
 
     run: str
@@ -78,7 +78,7 @@ def names(referee: Referee, format: int) -> Mapping[str, str]:
     return dict(referee._ask(_NAMES, (format,)))
 
 
-def look(referee: Referee, entry: Entry, *, is_secure: bool = False) -> Archived | None:
+def look(referee: Referee, entry: PageServerEntry, *, is_secure: bool = False) -> Archived | None:
     """Enters it, and returns what is archived, by a statement that writes: an old leader of PostgreSQL makes none. None where PostgreSQL has
     no such database, or it was dropped. `is_secure`: the keeper's lines are reached by TLS."""
     found: list[Any] = referee._ask_bounded(_LOOK, vars(entry), binary=False)

@@ -18,7 +18,7 @@ from pagelog.keeper.run import new_run
 from pagelog.pages.bell import Bell, Told
 from pagelog.pages.directory import (
     Archived,
-    Entry,
+    PageServerEntry,
     leave,
     look,
     news,
@@ -26,11 +26,11 @@ from pagelog.pages.directory import (
     oldest_kept,
     whole_from,
 )
-from pagelog.pages.process import OtherChain, PagesProcess, Serving, StoreFailed, Where
+from pagelog.pages.process import OtherChain, PagesProcess, Serving, StoreFailed, ServedBounds
 from pagelog.pages.stores import (
     MOST_ASIDE,
     SetAside,
-    Store,
+    PageStore,
     beyond_bound,
     delete,
     move_aside,
@@ -64,7 +64,7 @@ class WentBack(PagelogError):
 
 
 @dataclass(frozen=True)
-class Settings:
+class PageServerSettings:
     """How page servers are started: their program, the folder of their stores, the host that they listen at, what this machine is called,
     and further options of the program; how they serve by TLS, if they do; and by which TLS keepers are asked, if by any.
     """
@@ -92,7 +92,7 @@ class Follower:
 
     def __init__(
         self,
-        settings: Settings,
+        settings: PageServerSettings,
         referee: Referee,
         name: str,
         identity: str,
@@ -103,7 +103,7 @@ class Follower:
         self._repeats = Repeats(say)
         self._ends, self._wake = threading.Event(), threading.Event()
         self._bell = Bell(name, identity, self._wake.set, settings.trust)
-        self._store: Store | None = None
+        self._store: PageStore | None = None
         self._process: PagesProcess | None = None
         self._has_begun = False
         """Whether its process has followed up to what was archived. PostgreSQL may be away before."""
@@ -126,7 +126,7 @@ class Follower:
         self.address: str | None = None
 
     @property
-    def where(self) -> Where | None:
+    def where(self) -> ServedBounds | None:
         """Where its process is; None where that answers nobody yet."""
         process = self._process
         return process.where if process is not None and self._has_begun else None
@@ -192,8 +192,8 @@ class Follower:
     def _open(self) -> None:
         self._stop()
         self._has_begun = False
-        found = Store.found(self._settings.folder, self.name, self.identity)
-        self._store = found or Store(self.name, self.identity, new_run())
+        found = PageStore.found(self._settings.folder, self.name, self.identity)
+        self._store = found or PageStore(self.name, self.identity, new_run())
         if found is None:
             self._store.save(self._settings.folder)
         for left in self._store.left(self._settings.folder):
@@ -246,10 +246,10 @@ class Follower:
         if store is None:
             return
         self._leave()
-        Store(self.name, self.identity, new_run()).save(self._settings.folder)
+        PageStore(self.name, self.identity, new_run()).save(self._settings.folder)
         self._set_aside(store, why, was_confirmed=self._was_confirmed)
 
-    def _set_aside(self, store: Store, why: str, *, was_confirmed: bool = True) -> None:
+    def _set_aside(self, store: PageStore, why: str, *, was_confirmed: bool = True) -> None:
         """It may be the only copy of what PostgreSQL has lost. One of which nothing was ever confirmed is no copy, and deleted."""
         folder = self._settings.folder
         path = move_aside(folder, store)
@@ -272,7 +272,7 @@ class Follower:
     def _said(self, aside: SetAside) -> str:
         return sentence(self.name, self._settings.machine, aside.report(self._settings.folder))
 
-    def _where(self, store: Path) -> Where | None:
+    def _where(self, store: Path) -> ServedBounds | None:
         """What a store has that is not in use; None where it cannot be opened. It has no table: nobody is answered."""
         try:
             process = self._settings.start(store, self.identity)
@@ -359,7 +359,7 @@ class Follower:
         secure = (
             None if self._process.secure is None else self._process.secure.text(self._store.run)
         )
-        entry = Entry(
+        entry = PageServerEntry(
             self._store.run,
             self.identity,
             self._settings.machine,

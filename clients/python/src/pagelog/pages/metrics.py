@@ -10,13 +10,13 @@ from prometheus_client.core import GaugeMetricFamily, Metric
 from prometheus_client.registry import Collector
 
 from pagelog.keeper.certificate import CertificateError, Pair, Watched
-from pagelog.pages.process import Where
+from pagelog.pages.process import ServedBounds
 
 
 class PagesCollector(Collector):
     """Those of a machine: where each is, by database, and of TLS the `file` with the certificate that they show."""
 
-    def __init__(self, states: Callable[[], Mapping[str, Where]], file: Path | None) -> None:
+    def __init__(self, states: Callable[[], Mapping[str, ServedBounds]], file: Path | None) -> None:
         self._states = states
         self._file = None if file is None else Watched(file, Pair)
 

@@ -30,7 +30,7 @@ class OtherChain(PagelogError):
 
 
 @dataclass(frozen=True)
-class Where:
+class ServedBounds:
     """Pages are served up to `confirmed`, blocks are there up to `written`, a crash leaves what is up to `persisted`, and positions from
     `oldest` on are kept."""
 
@@ -133,7 +133,7 @@ class PagesProcess:
         """Brings what is in memory to the disk."""
         self._tell(b"flush\n")
 
-    def ask(self) -> Where:
+    def ask(self) -> ServedBounds:
         """Where it is now."""
         self._tell(b"where\n")
         return self.where
@@ -179,8 +179,8 @@ class PagesProcess:
             raise StoreFailed(f"the page server has ended, with {line!r}")
         return rest
 
-    def _read_where(self) -> Where:
-        return Where(*map(int, self._line("at").split()))
+    def _read_where(self) -> ServedBounds:
+        return ServedBounds(*map(int, self._line("at").split()))
 
 
 def pieces(blocks: Sequence[bytes]) -> list[list[bytes]]:

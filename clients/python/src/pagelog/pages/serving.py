@@ -13,8 +13,8 @@ from pagelog.errors import PagelogError
 from pagelog.keeper.referee import KeeperError, Referee
 from pagelog.keeper.schema import FORMAT
 from pagelog.pages.directory import names
-from pagelog.pages.following import Follower, Settings
-from pagelog.pages.process import Where
+from pagelog.pages.following import Follower, PageServerSettings
+from pagelog.pages.process import ServedBounds
 from pagelog.repeating import Repeats
 
 _NAMES = 5.0
@@ -31,7 +31,7 @@ class PageServers:
 
     def __init__(
         self,
-        settings: Settings,
+        settings: PageServerSettings,
         referee: Callable[[str], Referee],
         wanted: Collection[str],
         say: Callable[[str, str], None],
@@ -46,7 +46,7 @@ class PageServers:
         """It ends soon. For a signal too."""
         self._ends.set()
 
-    def states(self) -> dict[str, Where]:
+    def states(self) -> dict[str, ServedBounds]:
         """Where those are that answer, by database."""
         found = {follower.name: follower.where for follower, _ in [*self._running.values()]}
         return {name: where for name, where in found.items() if where is not None}

@@ -23,7 +23,7 @@ _OLDEST = ".oldest"
 
 
 @dataclass(frozen=True)
-class Store:
+class PageStore:
     """A store on the disk: of which database it is, and the run that its tokens are made of. A new store has another one."""
 
     name: str
@@ -44,11 +44,11 @@ class Store:
         _write(folder / f"{self.name}.{self.identity}.json", vars(self))
 
     @classmethod
-    def found(cls, folder: Path, name: str, identity: str) -> Store | None:
+    def found(cls, folder: Path, name: str, identity: str) -> PageStore | None:
         """The one that is in use."""
         return _read(cls, folder / f"{name}.{identity}.json")
 
-    def left(self, folder: Path) -> list[Store]:
+    def left(self, folder: Path) -> list[PageStore]:
         """Others of the same database, of which nothing is noted."""
         of_it = f"{self.name}.{self.identity}.*"
         beside = {each.name for each in folder.glob(of_it) if each.is_dir()} - {self.stem}
@@ -56,7 +56,7 @@ class Store:
             each.stem for each in asides_in(folder)
         }
         return [
-            Store(self.name, self.identity, name.rpartition(".")[2])
+            PageStore(self.name, self.identity, name.rpartition(".")[2])
             for name in sorted(beside | aside)
         ]
 
@@ -77,7 +77,7 @@ class SetAside:
     @property
     def stem(self) -> str:
         """How its files are called."""
-        return Store(self.name, self.identity, self.run).stem
+        return PageStore(self.name, self.identity, self.run).stem
 
     def path(self, folder: Path) -> Path:
         """Where it is now, in the folder of the page server."""
@@ -93,7 +93,7 @@ class SetAside:
         }
 
 
-def move_aside(folder: Path, store: Store) -> Path:
+def move_aside(folder: Path, store: PageStore) -> Path:
     """Moves it, and returns where it is then. Cut off, it is moved the next time: what belongs to it goes first."""
     aside = folder / _ASIDE
     aside.mkdir(mode=0o700, exist_ok=True)
@@ -103,7 +103,9 @@ def move_aside(folder: Path, store: Store) -> Path:
     return aside / store.stem
 
 
-def note_aside(folder: Path, store: Store, positions: tuple[int, int] | None, why: str) -> SetAside:
+def note_aside(
+    folder: Path, store: PageStore, positions: tuple[int, int] | None, why: str
+) -> SetAside:
     """Notes what one has that was moved."""
     oldest, last = positions or (None, None)
     number = (
@@ -125,9 +127,9 @@ def asides_in(folder: Path) -> list[SetAside]:
     return sorted(there, key=lambda each: (each.name, each.identity, each.number))
 
 
-def not_aside_in(folder: Path) -> list[Store]:
+def not_aside_in(folder: Path) -> list[PageStore]:
     """Those that are in use, or were when PostgreSQL had their databases."""
-    found = (_read(Store, file) for file in sorted(folder.glob("*.json")))
+    found = (_read(PageStore, file) for file in sorted(folder.glob("*.json")))
     return [each for each in found if each is not None and each.folder(folder).is_dir()]
 
 

@@ -82,7 +82,7 @@ def _has(store: Store, row: ObjectRow | OtherObject) -> bool:
 
 
 @dataclass
-class Verified:
+class VerifiedStore:
     """What was read of the store: so many objects, blocks and images."""
 
     objects: int = 0
@@ -101,10 +101,10 @@ def verify(
     settings: StoreSettings,
     told: Callable[[int, int], None],
     is_read: Callable[[str], bool] = lambda key: True,
-) -> Verified:
+) -> VerifiedStore:
     """Reads all objects of a database, or those whose key `is_read`, whole, and compares each with its row, its blocks with the digests between
     them, and its images with what the pack says of each. Raises `BrokenArchive`."""
-    store, done = store_of(settings), Verified()
+    store, done = store_of(settings), VerifiedStore()
     rows = [row for row in objects_of(referee, log) if is_read(row.key)]
     others = [other for other in packs_of(referee, log) if is_read(other.key)]
     for number, other in enumerate(others, 1):

@@ -17,7 +17,15 @@ from pagelog.keeper.referee import BrokenArchive, Doubt, Referee, digest
 from pagelog.store import tables
 from pagelog.store.packing import PackMover, is_there
 from pagelog.store.place import Store, StoreError
-from pagelog.store.segment import LEVEL, Head, Sealed, Segment, encode, folder_of, named
+from pagelog.store.segment import (
+    LEVEL,
+    SegmentHead,
+    SealedSegment,
+    Segment,
+    encode,
+    folder_of,
+    named,
+)
 from pagelog.store.settings import StoreSettings
 from pagelog.store.through import moment_of
 
@@ -53,7 +61,7 @@ class OpenObject:
 
 
 @dataclass
-class Done:
+class MoverTally:
     """What was done, and how often a statement was refused, as somebody else had been there, or PostgreSQL went back."""
 
     sealed: int = 0
@@ -98,11 +106,11 @@ class Mover:
         self._referee, self._store, self._log, self._settings = referee, store, log, settings
         self._identity, self._folder = uuid.UUID(identity), folder_of(name, uuid.UUID(identity))
         self._passing, self._level = passing, level
-        self._ready: Sealed | None = None
+        self._ready: SealedSegment | None = None
         """What was encoded last: usually it is put next."""
         self._each = 1024.0
         """Bytes of a block, about."""
-        self.done = Done()
+        self.done = MoverTally()
         self.images = PackMover(self._ask, store, self._identity, passing, level)
 
     def _ask(self, statement: str, *, binary: bool = False, **values: Any) -> list[Any]:
@@ -166,7 +174,7 @@ class Mover:
             raise BrokenArchive(
                 f"the blocks {moved + 1} to {archived} are not those that were archived"
             )
-        head = Head(self._identity, moved + 1, last, bytes(chain), run.chain, generation)
+        head = SegmentHead(self._identity, moved + 1, last, bytes(chain), run.chain, generation)
         segment = Segment(head, b"".join(run.parts), run.lengths, run.came)
         run.parts.clear()
         sealed = encode(segment, folder, self._level)
@@ -180,7 +188,7 @@ class Mover:
         found = self._ask(tables.MOVED, age=self._settings.age)
         return not found or found[0][1] != moved
 
-    def _note(self, segment: Segment, sealed: Sealed) -> bool:
+    def _note(self, segment: Segment, sealed: SealedSegment) -> bool:
         """Whether it was sealed: else somebody was before, or PostgreSQL has other blocks by now."""
         head = segment.head
         found = self._ask(
@@ -287,14 +295,16 @@ class Mover:
     def _is_there(self, row: OpenObject) -> bool:
         return is_there(self._store, row.key, row.digest)
 
-    def _encoded_again(self, row: OpenObject) -> Sealed | None:
+    def _encoded_again(self, row: OpenObject) -> SealedSegment | None:
         """The same blocks, which one has sealed that died. Where the zstd here makes other bytes of them these get another key."""
         said = named(row.key)
         if said is None:
             raise BrokenArchive(f"{row.key} is no key of blocks")
         run = self._read(row.first, row.last, said.before)
         segment = Segment(
-            Head(self._identity, row.first, row.last, said.before, row.after, said.generation),
+            SegmentHead(
+                self._identity, row.first, row.last, said.before, row.after, said.generation
+            ),
             b"".join(run.parts),
             run.lengths,
             run.came,

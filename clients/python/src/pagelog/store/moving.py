@@ -53,7 +53,7 @@ class Wish:
 
 
 @dataclass
-class Report:
+class MoverReport:
     """Of one database: up to which position it is in the store, and is there alone; for how many seconds the oldest block waits that is not;
     objects that PostgreSQL does not know, and what is broken."""
 
@@ -69,12 +69,12 @@ class Report:
 
 
 @dataclass
-class Moved:
+class MovedDatabase:
     """One database, while it is held."""
 
     mover: Mover
     generation: int = -1
-    report: Report = field(default_factory=Report)
+    report: MoverReport = field(default_factory=MoverReport)
     waits: Backoff = field(default_factory=lambda: Backoff(1.0, LONGEST))
     not_before: float = 0.0
     has_more: bool = True
@@ -88,7 +88,7 @@ class Moving:
     ) -> None:
         self._wish, self._told, self._store = wish, told, store
         self._referee = Referee(wish.url, "of a store", requires_standby=wish.requires_standby)
-        self._moved: dict[str, Moved] = {}
+        self._moved: dict[str, MovedDatabase] = {}
         self._last: dict[str, Any] = {}
         self._last_at = 0.0
         self.pause = min(TOLD, max(0.1, wish.store.age / 8))
@@ -103,7 +103,7 @@ class Moving:
         for log, name, identity, generation, cut, stored, behind in held:
             one = self._moved.get(identity)
             if one is None:
-                one = self._moved[identity] = Moved(
+                one = self._moved[identity] = MovedDatabase(
                     Mover(self._referee, self._opened(), log, name, identity, self._wish.store)
                 )
             one.report.stored, one.report.cut, one.report.behind = (
@@ -123,7 +123,7 @@ class Moving:
             self._store = store_of(self._wish.store)
         return self._store
 
-    def _step(self, one: Moved, identity: str, generation: int) -> None:
+    def _step(self, one: MovedDatabase, identity: str, generation: int) -> None:
         report = one.report
         one.has_more = False
         try:

@@ -18,7 +18,14 @@ from pagelog.keeper.schema import CHANNEL, FORMAT
 from pagelog.store.histories import History, NoHistory, Part, folders_of, histories
 from pagelog.store.pack import Manifest, named_base, read_manifest
 from pagelog.store.place import Missing, Store
-from pagelog.store.segment import HEAD_SIZE, BrokenObject, Facts, Head, decode, head_of
+from pagelog.store.segment import (
+    HEAD_SIZE,
+    BrokenObject,
+    SegmentFacts,
+    SegmentHead,
+    decode,
+    head_of,
+)
 from pagelog.store.through import fetched, moment_of
 
 GAP = 1000
@@ -173,12 +180,12 @@ def rescue(
     )
 
 
-def _head(store: Store, part: Part) -> tuple[Head, Facts]:
+def _head(store: Store, part: Part) -> tuple[SegmentHead, SegmentFacts]:
     return head_of(store.get(part.key, 0, HEAD_SIZE), part.key)
 
 
 def _identity(
-    store: Store, folder: str, heads: list[tuple[Head, Facts]], bases: list[str]
+    store: Store, folder: str, heads: list[tuple[SegmentHead, SegmentFacts]], bases: list[str]
 ) -> uuid.UUID:
     """The identity of the database, which its own objects have: those of what a branch began with have another."""
     for head, _ in reversed(heads):
@@ -191,7 +198,7 @@ def _write(
     referee: Referee,
     values: dict[str, Any],
     history: History,
-    heads: list[tuple[Head, Facts]],
+    heads: list[tuple[SegmentHead, SegmentFacts]],
     bases: Iterable[Manifest],
 ) -> datetime | None:
     """One transaction: keepers see the database once all is there. Returns when the last block was archived."""

@@ -47,7 +47,7 @@ class BrokenObject(PagelogError):
 
 
 @dataclass(frozen=True)
-class Head:
+class SegmentHead:
     """Which run it is: blocks `first` to `last`. `before` and `after` are the digests of all blocks below them, and with them."""
 
     identity: uuid.UUID
@@ -64,7 +64,7 @@ class Head:
 
 
 @dataclass(frozen=True)
-class Facts:
+class SegmentFacts:
     """What the head of an object says beside that: the bytes of its blocks, their SHA-256, and when the first and the latest was archived."""
 
     size: int
@@ -91,7 +91,7 @@ class Segment:
     where that is not known."""
 
     def __init__(
-        self, head: Head, body: bytes, lengths: Sequence[int], came: Sequence[int]
+        self, head: SegmentHead, body: bytes, lengths: Sequence[int], came: Sequence[int]
     ) -> None:
         self.head, self.body, self.came = head, body, array("q", came)
         self._ends = array("Q", accumulate(lengths))
@@ -128,7 +128,7 @@ class Segment:
 
 
 @dataclass(frozen=True)
-class Sealed:
+class SealedSegment:
     """An object that is to be put: its key, its bytes and what a row says of them."""
 
     key: str
@@ -141,7 +141,7 @@ def folder_of(name: str, identity: uuid.UUID) -> str:
     return f"{name}.{str(identity)[:8]}"
 
 
-def encode(segment: Segment, folder: str, level: int = LEVEL) -> Sealed:
+def encode(segment: Segment, folder: str, level: int = LEVEL) -> SealedSegment:
     """The object of a run."""
     head, count = segment.head, segment.head.count
     packed = _HEAD.pack(
@@ -179,7 +179,7 @@ def encode(segment: Segment, folder: str, level: int = LEVEL) -> Sealed:
         f"{folder}/blocks/{head.first:016x}-{head.last:016x}.g{head.generation}.{head.before.hex() or '-'}.{head.after.hex()}."
         f"{digest.hex()[:16]}.zst"
     )
-    return Sealed(key, data, digest)
+    return SealedSegment(key, data, digest)
 
 
 def named(key: str) -> Named | None:
@@ -221,7 +221,7 @@ def decode(data: bytes, key: str) -> Segment:
     return made
 
 
-def head_of(data: bytes, key: str) -> tuple[Head, Facts]:
+def head_of(data: bytes, key: str) -> tuple[SegmentHead, SegmentFacts]:
     """The head of an object, of which its first `HEAD_SIZE` bytes are enough. Raises `BrokenObject` where it is not the one of this key."""
     said = named(key)
     if said is None or len(data) < _HEAD.size:
@@ -248,6 +248,6 @@ def head_of(data: bytes, key: str) -> tuple[Head, Facts]:
         raise BrokenObject(f"{key}: its head is another's")
     if size > LARGEST or last - first >= LARGEST:
         raise BrokenObject(f"{key}: it is larger than any")
-    return Head(uuid.UUID(bytes=uid), first, last, said.before, after, generation), Facts(
-        size, digest, came, until
-    )
+    return SegmentHead(
+        uuid.UUID(bytes=uid), first, last, said.before, after, generation
+    ), SegmentFacts(size, digest, came, until)

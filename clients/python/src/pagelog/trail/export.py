@@ -13,11 +13,11 @@ from typing import BinaryIO, Callable, Iterable, Iterator, Sequence
 from pagelog.reply import Kind
 from pagelog.request import AUDIT_MAX
 from pagelog.trail.logs import Log
-from pagelog.trail.replay import Beginning, Difference, Replay, Told, beginning, lines_of
+from pagelog.trail.replay import ListBeginning, Difference, TrailReplay, Told, beginning, lines_of
 from pagelog.trail.store import Start, Trail, TrailList
 from pagelog.trail.texts import TrailError
 from pagelog_model import wire
-from pagelog_model.lines import Line
+from pagelog_model.lines import ModelLine
 from pagelog_model.rules import ALLOWED, Verdict
 
 Logs = Callable[[TrailList], AbstractContextManager[Log | None]]
@@ -97,7 +97,7 @@ class _List:
         self,
         trail: Trail,
         one: TrailList,
-        begun: Beginning,
+        begun: ListBeginning,
         log: Log | None,
         folder: Path,
         told: Told,
@@ -130,20 +130,20 @@ class _List:
             followed.differs,
         )
 
-    def _lines(self) -> Iterator[Line]:
+    def _lines(self) -> Iterator[ModelLine]:
         for count, line in enumerate(lines_of(self._trail, self._one), 1):
             if count % 4096 == 0:
                 self._told(count, self._one.kept)
             yield line
 
 
-class _Follower(Replay):
+class _Follower(TrailReplay):
     """Decides the lines, and writes each block as it is hardened: the first block of the file has LSN 1, and so on.
 
     `texts` are those that lines brought. From a line that is decided otherwise on it follows no more.
     """
 
-    def __init__(self, begun: Beginning, log: Log | None, out: BinaryIO) -> None:
+    def __init__(self, begun: ListBeginning, log: Log | None, out: BinaryIO) -> None:
         self._archived = iter(()) if log is None else log.blocks()
         self._out = out
         self.blocks = 0
@@ -153,7 +153,7 @@ class _Follower(Replay):
         self._ends: list[tuple[int, int]] = []
         super().__init__(begun.start, self._as_written(), begun.texts, begun.given)
 
-    def follow(self, lines: Iterator[Line], count: int) -> int:
+    def follow(self, lines: Iterator[ModelLine], count: int) -> int:
         """Returns the last line that can be written, of so many."""
         last = 0
         try:
@@ -169,7 +169,7 @@ class _Follower(Replay):
             pass  # the digests of what is behind are of the blocks before, too
         return last
 
-    def brings(self, number: int, line: Line) -> int:
+    def brings(self, number: int, line: ModelLine) -> int:
         """The number of what a line brings, or 0. Lines have to be asked for in their order."""
         while len(self._ends) > 1 and self._ends[0][0] < number:
             del self._ends[0]
@@ -190,7 +190,7 @@ class _Follower(Replay):
             yield data
         raise _Unarchived
 
-    def _text(self, line: Line, found: list[Verdict]) -> bytes | None:
+    def _text(self, line: ModelLine, found: list[Verdict]) -> bytes | None:
         text = super()._text(line, found)
         if text is not None:
             self._brought[self._line] = self.texts.setdefault(text, len(self.texts) + 1)
@@ -203,10 +203,10 @@ class _Follower(Replay):
 
 
 def _alike(
-    lines: Iterator[Line], last: int, brings: Callable[[int, Line], int]
-) -> Iterator[tuple[int, list[Line]]]:
+    lines: Iterator[ModelLine], last: int, brings: Callable[[int, ModelLine], int]
+) -> Iterator[tuple[int, list[ModelLine]]]:
     """The lines up to the last one, as many at once as bring the same, with its number."""
-    number, some = 0, list[Line]()
+    number, some = 0, list[ModelLine]()
     for count, line in enumerate(lines, 1):
         if count > last:
             break
@@ -220,7 +220,7 @@ def _alike(
         yield number, some
 
 
-def _entries(lines: list[Line]) -> bytes:
+def _entries(lines: list[ModelLine]) -> bytes:
     """The body of the reply that has these lines."""
     return (
         bytes([Kind.ENTRIES])

@@ -12,7 +12,7 @@ from pagelog.keeper.images import PAGES, Image, blocks_of, labelled
 from pagelog.keeper.referee import BrokenArchive, Referee, digest
 from pagelog.trail.pages import redo
 from pagelog.trail.store import TrailList
-from pagelog_model.bodies import Block, read_block
+from pagelog_model.bodies import BlockBody, read_block
 
 IMAGES = 32
 """How many images are compared."""
@@ -137,7 +137,7 @@ class GenerationLog:
                 )
         return len(images)
 
-    def _between(self, older: Base, base: Base) -> Iterator[Block]:
+    def _between(self, older: Base, base: Base) -> Iterator[BlockBody]:
         for piece in self._referee.blocks(self._log, older.position + 1, base.position):
             yield from map(read_block, piece)
 

@@ -23,7 +23,7 @@ _TRIES = 8
 
 
 @dataclass(frozen=True)
-class Step:
+class ListStep:
     """What one question brought: how many lines, and whether they are all of questions by the one who asks."""
 
     lines: int
@@ -75,7 +75,7 @@ class TrailKeeper:
         """The list that is followed, or None before the first step."""
         return self._list
 
-    def step(self) -> Step:
+    def step(self) -> ListStep:
         """Asks once for what is new, and keeps it. Raises `OtherKeeper`, and what the service refuses, as `AuditListFull`."""
         for _ in range(_TRIES):
             one = self._open_list()
@@ -94,7 +94,7 @@ class TrailKeeper:
                 if one.of is None and self.of is not None:
                     one = self.trail.claim(one, self.of)
                 self._list = self.trail.keep(one, b"".join(map(encode_entry, found)), self._clock())
-                return Step(len(found), all(map(self._is_own, found)))
+                return ListStep(len(found), all(map(self._is_own, found)))
             if is_same is False:
                 self._end(
                     one,

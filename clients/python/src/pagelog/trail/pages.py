@@ -13,7 +13,7 @@ from pagelog.reply import Denied, Page, expect
 from pagelog.request import Get
 from pagelog.rules import Section
 from pagelog.trail.logs import Log
-from pagelog_model.bodies import Block, read_block
+from pagelog_model.bodies import BlockBody, read_block
 
 PAGES = 32
 
@@ -53,7 +53,7 @@ def compare_pages(
     return Pages(alike, denied)
 
 
-def _blocks(log: Log, last: int) -> Iterator[Block]:
+def _blocks(log: Log, last: int) -> Iterator[BlockBody]:
     """The blocks from LSN 1 to this one."""
     for _, data in zip(range(last), log.blocks()):
         assert data is not None
@@ -70,7 +70,7 @@ def _drawn(log: Log, hard: int, count: int, chance: random.Random) -> set[tuple[
     return found
 
 
-def redo(block: Block, images: dict[int, bytearray]) -> None:
+def redo(block: BlockBody, images: dict[int, bytearray]) -> None:
     """Changes those of these pages that the block has records of."""
     for number in {page for page, *_ in block.records} & images.keys():
         block.redo(number, images[number])

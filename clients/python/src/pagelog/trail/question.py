@@ -17,7 +17,7 @@ _ENTRIES = b"\x03"
 
 
 @dataclass(frozen=True)
-class Seen:
+class SeenLine:
     """A line, and when it was seen: it was decided by then, and after the line before it."""
 
     run: int
@@ -55,12 +55,12 @@ def entries_of(piece: Piece) -> tuple[Entry, ...]:
     return tuple(found)
 
 
-def answer(trail: Trail, one: TrailList, question: Question, first: int = 1) -> Iterator[Seen]:
+def answer(trail: Trail, one: TrailList, question: Question, first: int = 1) -> Iterator[SeenLine]:
     """The lines of a list that are asked for, from number `first` on."""
     for piece in trail.pieces(one, first, since=question.since, until=question.until):
         for entry in entries_of(piece):
             if entry.number >= first and question.takes(entry):
-                yield Seen(one.run, piece.seen, entry)
+                yield SeenLine(one.run, piece.seen, entry)
 
 
 def micros(when: datetime) -> int:
@@ -82,7 +82,7 @@ class Summary:
     generations: list[tuple[int, int]] = field(default_factory=list)
     """When the first line of a generation was seen, and its number."""
 
-    def take(self, lines: Iterable[Seen], generation: int = 0) -> None:
+    def take(self, lines: Iterable[SeenLine], generation: int = 0) -> None:
         """Counts these lines too, which are of one list; 0 is no generation."""
         for line in lines:
             entry = line.entry

@@ -8,7 +8,7 @@ from __future__ import annotations
 import hashlib
 from typing import Iterator
 
-from pagelog.archive import Archive, BrokenArchive
+from pagelog.archive import Archive, DamagedArchive
 from pagelog.block import Block
 from pagelog.trail.store import NO_DIGEST, Trail
 
@@ -22,7 +22,7 @@ def digest_behind(before: bytes, block: Block) -> bytes:
 
 
 def seal(trail: Trail, archive: Archive) -> int:
-    """Seals what was archived since the last seal, as it is now. Returns the LSN of the last seal. Raises `BrokenArchive`."""
+    """Seals what was archived since the last seal, as it is now. Returns the LSN of the last seal. Raises `DamagedArchive`."""
     seals = trail.seals()
     last = max(seals, default=0)
     digest, archived = seals.get(last, NO_DIGEST), archive.archived
@@ -34,13 +34,13 @@ def seal(trail: Trail, archive: Archive) -> int:
 
 
 def sealed_blocks(trail: Trail, archive: Archive) -> Iterator[Block]:
-    """The archived blocks, each checked, and with them the seals. Raises `BrokenArchive`."""
+    """The archived blocks, each checked, and with them the seals. Raises `DamagedArchive`."""
     seals, digest, last = trail.seals(), NO_DIGEST, 0
     for block in archive.blocks():
         digest = digest_behind(digest, block)
         if block.lsn in seals:
             if seals[block.lsn] != digest:
-                raise BrokenArchive(
+                raise DamagedArchive(
                     block.lsn,
                     f"LSN {last + 1} to this one are not the blocks that the trail has sealed",
                 )
