@@ -298,7 +298,7 @@ class Torture(LongRun):
         if self.folder is not None:
             self.keeping.stores(self.folder, seal="64KiB", age="1s", tail="1s")
         self.done: Counter[str] = Counter()
-        self.is_first_round, self.shut = True, 0
+        self.is_first_round, self.shut, self.shut_pages = True, 0, 0
         self.died: list[str] = []
         """Keepers that ended by themselves, or that somebody else has ended."""
         self.deeds: list[tuple[int, Callable[[], None]]] = [
@@ -316,6 +316,7 @@ class Torture(LongRun):
             (1, self.zombie_postgresql),
             (2, self.kill_pages),
             (2, self.stop_pages),
+            (2, self.cut_pages),
         ]
         if by_tls:
             self.deeds += [(3, self.kill_front), (1, self.stop_front), (1, self.renew)]
@@ -440,9 +441,12 @@ class Torture(LongRun):
             self.service(),
         ]
         pid = self.chance.choice(processes)
-        share = self.chance.choice([0.3, 1.0])
         if pid is not None:
-            self.shut += sum(shut(line) for line in lines_of(pid) if self.chance.random() < share)
+            self.shut += self.shut_some(pid)
+
+    def shut_some(self, pid: int) -> int:
+        share = self.chance.choice([0.3, 1.0])
+        return sum(shut(line) for line in lines_of(pid) if self.chance.random() < share)
 
     def fail_over_postgresql(self) -> None:
         self.pair.fail_over()
@@ -482,6 +486,12 @@ class Torture(LongRun):
 
     def stop_pages(self) -> None:
         self.hold(*self.copies.hold())
+
+    def cut_pages(self) -> None:
+        """Of a page server, lines are cut at its end: to readers, to keepers, or to PostgreSQL. Nobody is told. Some times, as it has few."""
+        for _ in range(20):
+            self.shut_pages += sum(map(self.shut_some, self.copies.hold()))
+            time.sleep(self.chance.uniform(0, 0.1))
 
     # The run.
 
@@ -549,7 +559,7 @@ class Torture(LongRun):
         print(
             "faults: "
             + ", ".join(f"{name} {count}" for name, count in self.done.most_common())
-            + f"; {self.shut} lines were shut"
+            + f"; {self.shut} lines were shut, and {self.shut_pages} of page servers"
         )
         print(
             "page servers: "
