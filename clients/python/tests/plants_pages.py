@@ -136,7 +136,7 @@ PLANTS = {
     "pages, waited for in vain": Plant("../cli/table_changes", "return (\n            self._beats.may_answer(each.run)\n            if each.is_pages\n            else self._beats.may_be_alive(each.keeper)\n        )", "return each.is_pages or self._beats.may_be_alive(each.keeper)", "pages",
                                        "rotated_token"),
     "pages, ended and named": Plant("../pages/following", "                note_end(self._referee, self._store.run)\n", "                pass\n", "pages", "rotated_token"),
-    "pages, silent and waited for": Plant("../cli/table_changes", 'float("-inf") if each.is_gone and each.run not in self._pages else now', "now", "pages", "rotated_token"),
+    "pages, silent and waited for": Plant("../cli/heartbeats", 'float("-inf") if each.is_gone and each.run not in self._pages else now', "now", "pages", "rotated_token"),
     "pages, by a keeper's word": Plant(_FOLLOWING, "        if digest(self._chain, blocks) != told.chain:\n", "        if False:\n", "pages", "have_that_digest"),
     "pages, behind and silent": Plant(_FOLLOWING, "                self._enter()  # it is behind, and not gone\n", "                pass\n", "pages",
                                       "while_it_catches_up"),

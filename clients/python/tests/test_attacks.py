@@ -44,7 +44,8 @@ from pagelog.keeper.rows import Batch, Kept as KeptBatch
 from pagelog.keeper.run import ProcessFacts, Run
 from pagelog.keeper.session import Session
 from pagelog.keeper.shared import Shared
-from pagelog.keeper.table import KEEPER, keeper_of
+from pagelog.keeper.table import keeper_of
+from pagelog.run_tokens import KEEPER
 from pagelog.place import GenerationFate, Keepers, Place
 from pagelog.reply import State
 from service import PATIENCE, PROGRAM, SOURCE, accept_each, stand_still

@@ -35,7 +35,7 @@ from pagelog.keeper.schema import NUMBERS
 from pagelog.keeper.served import Served
 from pagelog.keeper.settings import Settings
 from pagelog.keeper.switch import Switch, begun, may_begin, number, succeed
-from pagelog.keeper.table import token_of
+from pagelog.run_tokens import token_of
 from pagelog.place import WrongToken
 from pagelog.rules import UnknownPrincipal
 from pagelog.table_editing import (

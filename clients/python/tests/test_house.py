@@ -1,4 +1,4 @@
-"""What the source keeps to, whatever it does: names of classes, and who writes what of a service."""
+"""What the source keeps to, whatever it does: names of classes, imports, and who writes what of a service."""
 
 from __future__ import annotations
 
@@ -7,7 +7,7 @@ import unittest
 from collections import defaultdict
 from dataclasses import fields
 from pathlib import Path
-from typing import Iterator
+from typing import Collection, Iterator, Mapping
 
 from pagelog.keeper.served import Health, Lack, RunLog, Served
 from service import PATIENCE, SOURCE
@@ -41,6 +41,64 @@ class Names(unittest.TestCase):
                     found[node.name].append(module)
         self.assertGreater(len(found), 400)
         self.assertEqual({name: of for name, of in found.items() if len(of) > 1}, {})
+
+
+def imported(source: ast.Module, modules: Collection[str]) -> set[str]:
+    """The modules that one imports, also in a function; not what a checker of types alone sees."""
+    for node in ast.walk(source):
+        if isinstance(node, ast.If) and ast.unparse(node.test) == "TYPE_CHECKING":
+            node.body = []
+    found = set()
+    for node in ast.walk(source):
+        if isinstance(node, ast.Import):
+            found |= {each.name for each in node.names}
+        elif isinstance(node, ast.ImportFrom) and node.module is not None:
+            names = (f"{node.module}.{each.name}" for each in node.names)
+            found |= {name if name in modules else node.module for name in names}
+    return found & set(modules)
+
+
+def cycles(graph: Mapping[str, set[str]]) -> list[list[str]]:
+    """Groups of those that are reached from one another."""
+    reached = {}
+    for start in graph:
+        seen, left = set[str](), [start]
+        while left:
+            for each in graph[left.pop()] - seen:
+                seen.add(each)
+                left.append(each)
+        reached[start] = seen
+    groups = {
+        frozenset({one} | {other for other in reached[one] if one in reached[other]})
+        for one in graph
+    }
+    return sorted(sorted(group) for group in groups if len(group) > 1)
+
+
+class Imports(unittest.TestCase):
+    def setUp(self) -> None:
+        found = sources()
+        self.graph = {name: imported(source, found) - {name} for name, source in found.items()}
+
+    def test_no_module_imports_itself_by_others(self) -> None:
+        """But for what makes the client of a named database, which is asked of the plain one: `Primary.named`, `Reader.named`."""
+        for one, other in (("primary", "named"), ("reader", "named_reader")):
+            self.graph[f"pagelog.{one}"].remove(f"pagelog.{other}")
+        self.assertEqual(cycles(self.graph), [])
+
+    def test_no_package_imports_itself_by_others(self) -> None:
+        """But for a keeper, its store and its trail, which are one program: each reads what another has kept in PostgreSQL."""
+        of = {
+            name: name.split(".")[1] for name in self.graph if self.is_of_a_package(name)
+        }  # not the client's, which are flat
+        graph: dict[str, set[str]] = {package: set() for package in of.values()}
+        for name, package in of.items():
+            graph[package] |= {of[each] for each in self.graph[name] if each in of} - {package}
+        self.assertEqual(cycles(graph), [["keeper", "store", "trail"]])
+
+    def is_of_a_package(self, name: str) -> bool:
+        """Whether a module is of one of those below `pagelog`."""
+        return name.startswith("pagelog.") and (SOURCE / Path(*name.split(".")[:2])).is_dir()
 
 
 class States(unittest.TestCase):

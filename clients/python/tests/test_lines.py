@@ -11,7 +11,7 @@ from pathlib import Path
 from pagelog import place
 from pagelog.following import NamedAccount
 from pagelog.keeper import lines
-from pagelog.keeper.table import proof_of
+from pagelog.run_tokens import proof_of
 from service import SOURCE
 
 ROOT = Path(__file__).resolve().parents[3]

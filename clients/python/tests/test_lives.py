@@ -21,7 +21,7 @@ from pagelog.connection import Connection
 from pagelog.credentials import Credentials
 from pagelog.keeper.referee import Referee, digest
 from pagelog.keeper.schema import FORMAT
-from pagelog.keeper.table import token_of
+from pagelog.run_tokens import token_of
 from service import PATIENCE, stand_still, token
 from sqlite_named import connected
 

@@ -21,7 +21,7 @@ from pathlib import Path
 import pagelog
 
 from pagelog.archive import Archive
-from pagelog.cli.durations import duration
+from pagelog.times import duration
 from pagelog.cli.watch import Watch
 from pagelog.keeping import Archiver
 from pagelog.request import Pull

@@ -20,7 +20,8 @@ from pagelog.keeper.rows import Row
 from pagelog.keeper.run import Program, Run
 from pagelog.keeper.served import FEW, Served
 from pagelog.keeper.session import Session
-from pagelog.keeper.table import keeper_of, token_of
+from pagelog.keeper.table import keeper_of
+from pagelog.run_tokens import token_of
 from pagelog.keeper.waits import Waits
 from pagelog.keeper.work import Work
 from service import PATIENCE, PROGRAM, WIDE_TABLE, accept_each, silent_address, stand_still, token

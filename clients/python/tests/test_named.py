@@ -24,7 +24,8 @@ from pagelog.following import CONFIRM
 from pagelog.keeper.referee import digest
 from pagelog.keeper.run import Program
 from pagelog.keeper.served import Served
-from pagelog.keeper.table import KEEPER, Form, table_of_run, token_of
+from pagelog.keeper.table import Form, table_of_run
+from pagelog.run_tokens import KEEPER, token_of
 from pagelog.place import Dropped, GenerationFate, Keepers, OlderKeepers, Place, UnknownName, _Line
 from service import PATIENCE, PROGRAM, WIDE_TABLE, Service, accept_each, interrupted, put, token
 

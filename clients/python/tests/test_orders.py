@@ -15,7 +15,7 @@ from unittest.mock import patch
 
 from pagelog import ConnectionLost, InDoubt, Lost, NamedPrimary, OlderEpoch, Section
 from pagelog.block import Block
-from pagelog.keeper.table import KEEPER
+from pagelog.run_tokens import KEEPER
 from pagelog.place import GenerationFate, Place
 from pagelog.reader import Span
 from pagelog.reply import State

@@ -36,7 +36,7 @@ from pagelog.keeper.bases import make_base
 from pagelog.keeper.images import Replay
 from pagelog.keeper.referee import BrokenArchive, Doubt, Referee, digest
 from pagelog.keeper.rows import PagesRow
-from pagelog.keeper.table import token_of
+from pagelog.run_tokens import token_of
 from pagelog.pages import following
 from pagelog.pages.bell import Told as Word
 from pagelog.pages.following import Follower, PageServerSettings

@@ -15,7 +15,7 @@ from pagelog.keeper.fates import Questions, tell_block, tell_fate
 from pagelog.keeper.lines import Line
 from pagelog.keeper.referee import Referee
 from pagelog.keeper.session import Session
-from pagelog.keeper.table import proof_of
+from pagelog.run_tokens import proof_of
 from pagelog.keeper.turns import Turns
 from pagelog.place import Keepers
 from service import PATIENCE, WIDE_TABLE, token

@@ -17,7 +17,7 @@ from pagelog.connection import Connection
 from pagelog.credentials import Credentials
 from pagelog.keeper.acknowledged import memory_of
 from pagelog.keeper.definition import Definition, Seal
-from pagelog.keeper.table import token_of
+from pagelog.run_tokens import token_of
 from pagelog.operator import Operator
 from pagelog.rules import TableRow
 from service import token

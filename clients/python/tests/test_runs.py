@@ -57,14 +57,13 @@ from pagelog.keeper.run import (
 from pagelog.keeper.served import Served
 from pagelog.keeper.succession import _closed
 from pagelog.keeper.table import (
-    KEEPER,
     Form,
     keeper_of,
     quorum_of,
     read_table,
     table_of_run,
-    token_of,
 )
+from pagelog.run_tokens import KEEPER, token_of
 from pagelog.keeper.waits import Waits
 from service import PATIENCE, PROGRAM, TABLE, WIDE_TABLE, Port, token
 

@@ -18,7 +18,7 @@ from unittest.mock import patch
 import pagelog
 from keepers import eventually
 from pagelog import ConnectionLost, CredentialsError, NoKeeper, PagelogError, Trust, Unreachable
-from pagelog.keeper.table import token_of
+from pagelog.run_tokens import token_of
 from pagelog.place import Keepers
 from pagelog.polling import poll_of
 from pagelog.secure import Secured, of_environment, trust_of

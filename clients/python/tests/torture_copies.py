@@ -19,7 +19,7 @@ from by_tls import environment, trust
 from keepers import Keeping, eventually
 from long_runs import STOP
 from pagelog import Block, Connection, Credentials, PagelogError, Reader
-from pagelog.keeper.table import token_of
+from pagelog.run_tokens import token_of
 from pagelog.pages.stores import asides_in
 from service import PATIENCE, token
 

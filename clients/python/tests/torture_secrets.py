@@ -18,7 +18,8 @@ import psycopg
 from keepers import Keeping
 from pagelog.keeper.referee import KeeperError, Referee
 from pagelog.keeper.sealed import Keys
-from pagelog.keeper.table import keeper_of, token_of, tokens_of
+from pagelog.keeper.table import keeper_of, tokens_of
+from pagelog.run_tokens import token_of
 
 
 _PIECES = "pagelog_trail_piece"

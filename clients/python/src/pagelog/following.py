@@ -16,9 +16,9 @@ from pagelog.errors import (
     TurnsSpent,
     Unreachable,
 )
-from pagelog.keeper.table import proof_of, token_of
 from pagelog.place import Keepers, Place, WrongToken
 from pagelog.rules import UnknownPrincipal
+from pagelog.run_tokens import proof_of, token_of
 from pagelog.secure import Trust
 
 GONE = (

@@ -18,7 +18,6 @@ from pagelog.client import FIRST_EPOCH
 from pagelog.credentials import Credentials
 from pagelog.errors import InDoubt, OutOfMemory, PagelogError, TimedOut
 from pagelog.following import GONE, Following, NamedAccount
-from pagelog.keeper.table import KEEPER
 from pagelog.operator import Operator
 from pagelog.packing import PackedBlocks
 from pagelog.place import QUICKEST, SLOWEST, Dropped, GenerationFate, Lost, Place
@@ -35,6 +34,7 @@ from pagelog.rules import (
     UnknownPrincipal,
     UnlistedPrimary,
 )
+from pagelog.run_tokens import KEEPER
 from pagelog.secure import SecurityError, Trust
 
 TAIL = 16 << 20

@@ -72,6 +72,10 @@ class Operation(IntEnum):
         return self.name.lower()
 
 
+READS = (Operation.GET, Operation.PULL)
+"""What reads the log or pages."""
+
+
 def _number(name: str, value: int, least: int, most: int, size: int) -> bytes:
     if not isinstance(value, int):
         raise TypeError(f"{name} is a whole number, and not {type(value).__name__}")

@@ -10,8 +10,14 @@ from typing import TYPE_CHECKING
 import click
 
 from pagelog.credentials import Accounts
-from pagelog.cli.keeper_words import url_of_referee
-from pagelog.cli.options import context_of_file, credentials_option, fail, faults, tls_option
+from pagelog.cli.options import (
+    context_of_file,
+    credentials_option,
+    fail,
+    faults,
+    tls_option,
+    url_of_referee,
+)
 from pagelog.keeper.machine import ROLL_AT, SUCCEED_AT
 
 if TYPE_CHECKING:

@@ -10,8 +10,8 @@ import click
 from pagelog.credentials import Accounts
 from pagelog.cli.deleting import agree, counted
 from pagelog.cli.keeper_words import Asked, named, referee_of
-from pagelog.cli.options import AGAIN, bar, credentials_option, fail, faults
-from pagelog.cli.table_changes import Heartbeats, ttl_of
+from pagelog.cli.options import AGAIN, bar, credentials_option, fail, faults, settings_of
+from pagelog.cli.heartbeats import Heartbeats, ttl_of
 from pagelog.keeper.aside import asides_of
 from pagelog.keeper.history import extent_of
 from pagelog.keeper.referee import Referee
@@ -40,7 +40,6 @@ def forward_word(accounts: Accounts, name: str, yes: bool) -> None:
     Example:
       pagelogctl store forward shop --credentials keeper.toml
     """
-    from pagelog.cli.store_words import settings_of
     from pagelog.store.forwarding import bring, found_ahead
     from pagelog.store.place import store_of
 

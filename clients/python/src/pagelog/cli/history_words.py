@@ -11,7 +11,7 @@ from pagelog.cli.deleting import agree, counted, yes_option
 from pagelog.cli.hold_words import refuse_held
 from pagelog.cli.keeper_words import named, referee_of, referee_word
 from pagelog.cli.options import WRONG, credentials_option, fail, faults
-from pagelog.cli.seal_words import refuse_keepers_without
+from pagelog.cli.heartbeats import refuse_keepers_without
 from pagelog.keeper.bases import Bases
 from pagelog.keeper.history import begin_again, below, extent_of, position_at, spans
 from pagelog.keeper.referee import Referee

@@ -9,7 +9,7 @@ import click
 from pagelog.credentials import Accounts
 from pagelog.cli.deleting import counted
 from pagelog.cli.keeper_words import Asked, named, referee_of
-from pagelog.cli.options import bar, credentials_option, fail, faults
+from pagelog.cli.options import bar, credentials_option, fail, faults, settings_of
 from pagelog.keeper.history import extent_of
 from pagelog.keeper.holding import held_since, hold, let_go
 from pagelog.keeper.referee import Referee
@@ -88,7 +88,6 @@ def _release(accounts: Accounts, referee: Referee, row: Row) -> None:
 
 
 def _holding(accounts: Accounts) -> Holding:
-    from pagelog.cli.store_words import settings_of
     from pagelog.store.legal_holds import holding
     from pagelog.store.place import store_of
 

@@ -20,7 +20,7 @@ import click
 import psycopg
 
 from pagelog.credentials import Accounts
-from pagelog.cli.options import AGAIN, URL_VARIABLE, credentials_option, fail, faults
+from pagelog.cli.options import AGAIN, credentials_option, fail, faults, url_of_referee
 from pagelog.keeper.hosts import is_loopback
 from pagelog.keeper.referee import LONGEST, NAME, Away, Doubt, Referee, Refused, Sealed
 from pagelog.keeper.rows import Look, Row
@@ -30,16 +30,6 @@ from pagelog.keeper.table import Form, read_table, table_of_run
 
 if TYPE_CHECKING:
     from pagelog.keeper.keeping import Keeper
-
-
-def url_of_referee(accounts: Accounts) -> str:
-    """The URL of the referee's PostgreSQL. Ends where there is none."""
-    url = os.environ.get(URL_VARIABLE) or accounts.archive_url
-    if not url or not url.startswith("postgresql"):
-        fail(
-            "named databases need PostgreSQL: put its url into the section [archive] of the credentials"
-        )
-    return url
 
 
 def named(name: str) -> str:
@@ -287,7 +277,7 @@ def create_word(referee: Referee, name: str, table: Path) -> None:
     """
     text = text_of_table(table, named(name))
     referee.prepare()
-    from pagelog.cli.seal_words import refuse_keepers_without
+    from pagelog.cli.heartbeats import refuse_keepers_without
 
     refuse_keepers_without(referee)
     if not referee.create(name, text, secrets.token_bytes(16)):

@@ -13,7 +13,7 @@ import click
 from pagelog.audit_list import MOST_ENTRIES
 from pagelog.connection import Connection
 from pagelog.credentials import Accounts
-from pagelog.cli.durations import duration
+from pagelog.times import duration
 from pagelog.cli.options import (
     AGAIN,
     FAULT,

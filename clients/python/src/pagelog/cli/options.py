@@ -10,9 +10,10 @@ import ssl
 import sys
 import time
 from contextlib import contextmanager
+from dataclasses import replace
 from pathlib import Path
 from types import FrameType
-from typing import Any, Callable, Iterator, NoReturn, TypeVar
+from typing import TYPE_CHECKING, Any, Callable, Iterator, NoReturn, TypeVar
 
 import click
 from click.core import ParameterSource
@@ -20,10 +21,11 @@ from click.core import ParameterSource
 from pagelog.client import Client
 from pagelog.connection import Connection
 from pagelog.credentials import FILE_VARIABLE, Accounts, load
-from pagelog.cli.durations import duration
+from pagelog.times import duration
 from pagelog.errors import (
     AuditListFull,
     ConnectionLost,
+    CredentialsError,
     InDoubt,
     OutOfMemory,
     PagelogError,
@@ -31,6 +33,9 @@ from pagelog.errors import (
 )
 from pagelog.rules import BelowQuorum, NoSuchCopy
 from pagelog.secure import WORDS
+
+if TYPE_CHECKING:
+    from pagelog.store.settings import StoreSettings
 
 Word = TypeVar("Word", bound=Callable[..., Any])
 Kind = TypeVar("Kind", bound=Client)
@@ -371,3 +376,28 @@ class Ended(BaseException):
 
 def _end(_: int, __: FrameType | None) -> None:
     raise Ended("ended by SIGTERM")
+
+
+def url_of_referee(accounts: Accounts) -> str:
+    """The URL of the referee's PostgreSQL. Ends where there is none."""
+    url = os.environ.get(URL_VARIABLE) or accounts.archive_url
+    if not url or not url.startswith("postgresql"):
+        fail(
+            "named databases need PostgreSQL: put its url into the section [archive] of the credentials"
+        )
+    return url
+
+
+def settings_of(accounts: Accounts, url: str | None = None) -> StoreSettings:
+    """Those of the file, or of another place with the same options."""
+    from pagelog.store.settings import StoreSettings, check_url
+
+    if url is None:
+        if accounts.store is None:
+            fail("the credentials name no store: put `store` into the section [archive]")
+        return accounts.store
+    try:
+        check_url(url)
+    except CredentialsError:
+        fail(f"{url!r} is no store: file:///FOLDER or s3://BUCKET/PREFIX")
+    return StoreSettings(url) if accounts.store is None else replace(accounts.store, url=url)

@@ -16,8 +16,8 @@ from typing import TYPE_CHECKING, Any, Mapping
 import click
 
 from pagelog.credentials import Accounts
-from pagelog.cli.keeper_words import named, url_of_referee
-from pagelog.cli.options import credentials_option, fail, faults
+from pagelog.cli.keeper_words import named
+from pagelog.cli.options import credentials_option, fail, faults, url_of_referee
 from pagelog.cli.waiting_words import write_private
 from pagelog.keeper.hosts import is_loopback
 from pagelog.pages.following import PageServerSettings

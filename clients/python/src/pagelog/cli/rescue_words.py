@@ -15,7 +15,7 @@ from pagelog.credentials import Accounts
 from pagelog.cli.deleting import agree, counted, yes_option
 from pagelog.cli.keeper_words import Asked, named, referee_of
 from pagelog.cli.options import bar, credentials_option, fail, faults, timeout
-from pagelog.cli.seal_words import refuse_keepers_without
+from pagelog.cli.heartbeats import refuse_keepers_without
 from pagelog.errors import PagelogError
 from pagelog.keeper.aside import asides_of
 from pagelog.keeper.definition import Definition

@@ -7,35 +7,13 @@ import time
 import click
 
 from pagelog.credentials import Accounts
+from pagelog.cli.heartbeats import refuse_keepers_without
 from pagelog.cli.keeper_words import referee_of
 from pagelog.cli.options import AGAIN, WRONG, credentials_option, fail, faults
 from pagelog.keeper.referee import Referee
 from pagelog.keeper.sealed import KEYS, Keys
 from pagelog.keeper.settings import TTL
 from pagelog.repeating import Backoff
-
-
-def refuse_keepers_without(referee: Referee, ttl: float = TTL) -> None:
-    """Ends where a keeper that lives has not the key by which this process would write: it could not serve the database."""
-    from pagelog.cli.table_changes import Heartbeats
-
-    key, beats, waits = referee.keys.writes_by, Heartbeats(ttl), Backoff(0.02, 0.5)
-    while key is not None:
-        look = referee.everything()
-        beats.see(look)
-        without = [
-            each.name
-            for each in look.keepers
-            if key not in each.report.get(KEYS, {}).get("ids", ()) and beats.may_be_alive(each.name)
-        ]
-        if not without:
-            return
-        if living := [name for name in without if beats.has_moved(name)]:
-            fail(
-                f"nothing was done: keeper {living[0]} has not key {key}, by which tables are sealed: its [archive] key_file is to have it, "
-                "and it is to be of this version"
-            )
-        time.sleep(waits.next())
 
 
 @click.command("seal")

@@ -15,8 +15,7 @@ from pagelog.credentials import Accounts
 from pagelog.cli.deleting import agree, counted, yes_option
 from pagelog.cli.forward_words import forward_word
 from pagelog.cli.keeper_words import Asked, named, referee_of, text_of_table
-from pagelog.cli.options import bar, credentials_option, fail, faults
-from pagelog.errors import CredentialsError
+from pagelog.cli.options import bar, credentials_option, fail, faults, settings_of
 from pagelog.times import in_both_zones
 
 if TYPE_CHECKING:
@@ -38,21 +37,6 @@ def store_word() -> None:
 
 
 store_word.add_command(forward_word)
-
-
-def settings_of(accounts: Accounts, url: str | None = None) -> StoreSettings:
-    """Those of the file, or of another place with the same options."""
-    from pagelog.store.settings import StoreSettings, check_url
-
-    if url is None:
-        if accounts.store is None:
-            fail("the credentials name no store: put `store` into the section [archive]")
-        return accounts.store
-    try:
-        check_url(url)
-    except CredentialsError:
-        fail(f"{url!r} is no store: file:///FOLDER or s3://BUCKET/PREFIX")
-    return StoreSettings(url) if accounts.store is None else replace(accounts.store, url=url)
 
 
 @store_word.command("check")

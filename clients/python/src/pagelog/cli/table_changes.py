@@ -10,7 +10,7 @@ import click
 
 from pagelog.credentials import Accounts
 from pagelog.cli.options import AGAIN, fail
-from pagelog.cli.seal_words import refuse_keepers_without
+from pagelog.cli.heartbeats import Heartbeats, refuse_keepers_without
 from pagelog.errors import TableError
 from pagelog.keeper.aside import asides_of
 from pagelog.keeper.machine import PATIENCE
@@ -28,10 +28,6 @@ WITHIN = 300.0
 """Seconds after which a run that still has an older table is ended, though its keeper is alive."""
 
 
-_PAGES = 3.0
-"""Seconds for which the heartbeat of a page server may stand still at least: it has one each second."""
-
-
 @dataclass(frozen=True)
 class Older:
     """A run with an older table, which a keeper has still, or a page server of this machine. `is_aside`: no keeper ends it."""
@@ -41,52 +37,6 @@ class Older:
     what: str
     is_aside: bool = False
     is_pages: bool = False
-
-
-class Heartbeats:
-    """Which keepers are alive, by one's own clock: those whose heartbeat has moved within a ttl and a half."""
-
-    def __init__(self, ttl: float) -> None:
-        self._ttl = ttl
-        self._seen: dict[str, tuple[object, float]] = {}
-        self._moved: set[str] = set()
-        self._pages: dict[str, tuple[int, float]] = {}
-
-    def see(self, look: Look) -> None:
-        """Takes what was looked up."""
-        now = time.monotonic()
-        for keeper in look.keepers:
-            before = self._seen.get(keeper.name)
-            if before is None or before[0] != (keeper.run, keeper.beat):
-                self._seen[keeper.name] = (keeper.run, keeper.beat), now
-                if before is not None:
-                    self._moved.add(keeper.name)
-        for each in look.pages:
-            if each.run not in self._pages or self._pages[each.run][0] != each.beat:
-                # of one that has been silent for long it is known without a wait
-                self._pages[each.run] = (
-                    each.beat,
-                    float("-inf") if each.is_gone and each.run not in self._pages else now,
-                )
-
-    def has_moved(self, keeper: str) -> bool:
-        """Whether it was seen to move."""
-        return keeper in self._moved
-
-    def may_be_alive(self, keeper: str | None) -> bool:
-        """Whether it has moved lately, or was not watched for so long."""
-        seen = self._seen.get(keeper or "")
-        return seen is not None and time.monotonic() - seen[1] < PATIENCE * self._ttl
-
-    def may_answer(self, run: str) -> bool:
-        """The same of a page server."""
-        return time.monotonic() - self._pages[run][1] < max(PATIENCE * self._ttl, _PAGES)
-
-
-def ttl_of(accounts: Accounts) -> float:
-    """How long a heartbeat may stand still. The keepers' own file says it; another file may."""
-    ttl = accounts.keeper.get("ttl", TTL)
-    return float(ttl) if isinstance(ttl, (int, float)) and ttl > 0 else TTL
 
 
 def check(text: str) -> None:

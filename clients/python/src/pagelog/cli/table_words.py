@@ -9,9 +9,10 @@ from pathlib import Path
 import click
 
 from pagelog.credentials import Accounts
+from pagelog.cli.heartbeats import ttl_of
 from pagelog.cli.keeper_words import Asked, named, referee_of
 from pagelog.cli.options import client, credentials_option, db_option, fail, faults
-from pagelog.cli.table_changes import WITHIN, TableChange, check_of_service, row_of, say, ttl_of
+from pagelog.cli.table_changes import WITHIN, TableChange, check_of_service, row_of, say
 from pagelog.errors import PagelogError
 from pagelog.operator import Operator
 from pagelog.table_editing import with_tokens_of, without_tokens

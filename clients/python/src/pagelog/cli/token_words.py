@@ -11,9 +11,10 @@ from typing import Callable
 import click
 
 from pagelog.credentials import Accounts
+from pagelog.cli.heartbeats import ttl_of
 from pagelog.cli.keeper_words import Asked, named, referee_of
 from pagelog.cli.options import credentials_option, db_option, fail, faults
-from pagelog.cli.table_changes import TableChange, check_of_service, row_of, say, ttl_of
+from pagelog.cli.table_changes import TableChange, check_of_service, row_of, say
 from pagelog.cli.table_words import read_file, set_at_service, within_option
 from pagelog.cli.waiting_words import write_private
 from pagelog.table_editing import (

@@ -10,7 +10,7 @@ from rich.panel import Panel
 from rich.table import Table
 from rich.text import Text
 
-from pagelog.cli.durations import duration
+from pagelog.times import duration
 from pagelog.cli.watch import WatchedLook
 from pagelog.request import PULL_MAX
 

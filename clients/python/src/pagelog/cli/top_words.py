@@ -11,7 +11,6 @@ from typing import TYPE_CHECKING, Any, Callable, Iterator
 import click
 
 from pagelog.credentials import Accounts
-from pagelog.cli.keeper_words import url_of_referee
 from pagelog.cli.looking_words import dbs_option, limit_option, watch_of
 from pagelog.cli.options import (
     credentials_option,
@@ -20,6 +19,7 @@ from pagelog.cli.options import (
     stopping,
     timeout,
     url_of,
+    url_of_referee,
     url_options,
 )
 from pagelog.cli.side_by_side import Task, look_at_all

@@ -12,10 +12,9 @@ from pagelog.errors import LogWentBack, PagelogError
 from pagelog.operator import Operator
 from pagelog.reader import Reader
 from pagelog.reply import Entry, State
-from pagelog.request import AUDIT_MAX, Operation, Role
+from pagelog.request import AUDIT_MAX, READS, Operation, Role
 from pagelog.rules import Section
 
-READS = (Operation.GET, Operation.PULL)
 _AUDITS_OF_A_LOOK = 64
 _MOST_APPLIED = 64
 """Of how many partitions a look asks for the applied LSN, which is a request each."""

@@ -6,7 +6,7 @@ from dataclasses import dataclass
 from enum import Enum
 from typing import Any, Mapping
 
-from pagelog.cli.durations import duration
+from pagelog.times import duration
 from pagelog.keeper.machine import NEAR
 from pagelog.keeper.rows import Row
 

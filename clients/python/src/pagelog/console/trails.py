@@ -5,11 +5,10 @@ from __future__ import annotations
 from collections import Counter, deque
 from dataclasses import dataclass
 
-from pagelog.cli.watch import READS
 from pagelog.console.source import PAST, Recorded
-from pagelog.keeper.table import KEEPER
+from pagelog.run_tokens import KEEPER
 from pagelog.reply import Entry
-from pagelog.request import Operation
+from pagelog.request import READS, Operation
 from pagelog.trail.question import entries_of
 
 RECENT = 30.0

@@ -9,6 +9,7 @@ from typing import Any, Callable, Coroutine
 
 from pagelog.errors import PagelogError
 from pagelog.keeper.front import Front, Tls
+from pagelog.keeper.fronted import FrontedLine
 from pagelog.keeper.haproxy import LINES
 from pagelog.keeper.lines import Server
 from pagelog.keeper.run import has_services
@@ -37,7 +38,7 @@ class FrontCare:
     async def begin(self, server: Server) -> None:
         """Hears the lines that come through the front, and has that begin. What fails is tried again with each look. Raises `OSError`."""
         self._has_begun = True
-        await server.start_behind(private_socket(self._folder, LINES))
+        await server.start_behind(private_socket(self._folder, LINES), FrontedLine)
         await self._done(self.front.begin)
 
     def secure_lines(self, life: str) -> str | None:

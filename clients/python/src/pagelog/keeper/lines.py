@@ -369,14 +369,14 @@ class Server:
         )
         return f"{host}:{self._server.sockets[0].getsockname()[1]}"
 
-    async def start_behind(self, listener: socket.socket) -> None:
-        """Hears the lines that come through the keeper's front: it alone reaches this socket."""
-        from pagelog.keeper.fronted import FrontedLine
-
+    async def start_behind(
+        self, listener: socket.socket, line: Callable[[Answers, OpenLines], Line]
+    ) -> None:
+        """Hears the lines that come through the keeper's front: it alone reaches this socket. Each is made by `line`."""
         loop = asyncio.get_running_loop()
         loop.set_exception_handler(self._hear_of_fault)
         self._behind = await loop.create_unix_server(
-            lambda: FrontedLine(self._answers, self._open), sock=listener
+            lambda: line(self._answers, self._open), sock=listener
         )
 
     async def stop(self) -> None:

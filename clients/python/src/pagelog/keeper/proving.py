@@ -17,7 +17,8 @@ from enum import Enum
 from typing import TYPE_CHECKING, Any, Callable, Coroutine, Mapping
 
 from pagelog.errors import PagelogError
-from pagelog.keeper.table import proof_of, tokens_of
+from pagelog.keeper.table import tokens_of
+from pagelog.run_tokens import proof_of
 
 if TYPE_CHECKING:
     from pagelog.keeper.database import Database

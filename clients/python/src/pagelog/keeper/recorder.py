@@ -15,7 +15,7 @@ from pagelog.libpq import plain_url
 from pagelog.keeper.refusal import line_of
 from pagelog.keeper.rows import Lines
 from pagelog.keeper.served import Served
-from pagelog.keeper.table import KEEPER
+from pagelog.run_tokens import KEEPER
 from pagelog.reply import Entry, encode_entry
 from pagelog.request import AUDIT_MAX
 from pagelog.trail.keeper import DAY, TrailKeeper, now

@@ -18,9 +18,20 @@ from uuid import uuid4
 import psycopg
 from psycopg.conninfo import make_conninfo
 
-from pagelog.errors import CredentialsError, PagelogError
+from pagelog.errors import CredentialsError
 from pagelog.keeper import statements
 from pagelog.keeper.batches import array_of, statement_of, values_of
+from pagelog.keeper.errors import KeeperError as KeeperError
+from pagelog.keeper.errors import Away as Away
+from pagelog.keeper.errors import Refused as Refused
+from pagelog.keeper.errors import Sealed as Sealed
+from pagelog.keeper.errors import Doubt as Doubt
+from pagelog.keeper.errors import OneDisk as OneDisk
+from pagelog.keeper.errors import Superseded as Superseded
+from pagelog.keeper.errors import NameInUse as NameInUse
+from pagelog.keeper.errors import BrokenArchive as BrokenArchive
+from pagelog.keeper.errors import BrokenBase as BrokenBase
+from pagelog.keeper.errors import Pruned as Pruned
 from pagelog.keeper.hosts import shut_down
 from pagelog.keeper.fate import Fate, FateRow, Of, fate_of_rows
 from pagelog.keeper.refusal import is_refusal, line_of
@@ -50,54 +61,6 @@ LONGEST = 60.0
 """Seconds after which a read of one piece is cut, as from a server that stands still."""
 NAME = re.compile(r"[A-Za-z0-9_][A-Za-z0-9_.-]{0,62}")
 """What a name of a database or a keeper may be."""
-
-
-class KeeperError(PagelogError):
-    """Something is wrong with a keeper, or with what the referee knows."""
-
-
-class Away(KeeperError):
-    """PostgreSQL cannot be reached. Nothing was asked."""
-
-    may_pass = True
-
-
-class Refused(KeeperError):
-    """PostgreSQL refused the statement, as for want of room on its disk. Nothing was changed."""
-
-
-class Sealed(Refused):
-    """A table of principals cannot be read here, or not be written: this process has not the key."""
-
-
-class Doubt(KeeperError):
-    """It is not known whether the statement was committed and replicated. Another statement that writes finds out."""
-
-    may_pass = True
-
-
-class OneDisk(Doubt):
-    """A synchronous standby is required, and PostgreSQL has none: what was committed may be on one disk alone."""
-
-
-class Superseded(KeeperError):
-    """Another keeper has this keeper's name by now."""
-
-
-class NameInUse(KeeperError):
-    """A keeper that lives has the name."""
-
-
-class BrokenArchive(KeeperError):
-    """A block of the archive is missing or damaged; or all of them together are not those that were archived."""
-
-
-class BrokenBase(BrokenArchive):
-    """Images of a base are missing or damaged: an older base may do."""
-
-
-class Pruned(BrokenArchive):
-    """What was read was pruned meanwhile: who needs it begins again with a newer base."""
 
 
 def digest(chain: bytes, blocks: Iterable[bytes]) -> bytes:

@@ -16,7 +16,7 @@ from pagelog.errors import PagelogError
 from pagelog.keeper.acknowledged import Acknowledged, acknowledged_of, memory_of, new_memory
 from pagelog.keeper.definition import Definition, Seal
 from pagelog.keeper.runner import Hired, Runner, RunnerError, is_allowed, kill
-from pagelog.keeper.table import KEEPER
+from pagelog.run_tokens import KEEPER
 
 WORKERS = 4
 """Threads of a service."""

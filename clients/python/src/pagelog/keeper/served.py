@@ -27,7 +27,8 @@ from pagelog.keeper.referee import BrokenArchive, Referee, digest
 from pagelog.keeper.rows import TableOf, Where
 from pagelog.keeper.run import NotStarted, Program, Run
 from pagelog.keeper.runner import RunnerError
-from pagelog.keeper.table import KEEPER, Form, keeper_of, quorum_of, table_of_run
+from pagelog.keeper.table import Form, keeper_of, quorum_of, table_of_run
+from pagelog.run_tokens import KEEPER
 from pagelog.keeper.ways import NOWHERE, Way
 from pagelog.operator import Operator
 from pagelog.reader import Reader, Span

@@ -10,22 +10,10 @@ from pathlib import Path
 from typing import Iterator, Protocol
 from urllib.parse import unquote, urlsplit
 
-from pagelog.errors import PagelogError
+from pagelog.store.errors import Missing as Missing
+from pagelog.store.errors import StoreAway as StoreAway
+from pagelog.store.errors import StoreError as StoreError
 from pagelog.store.settings import StoreSettings
-
-
-class StoreError(PagelogError):
-    """The store refuses something, or is not as it has to be."""
-
-
-class StoreAway(StoreError):
-    """The store cannot be reached, or does not answer now."""
-
-    may_pass = True
-
-
-class Missing(StoreError):
-    """The store has no object of this key."""
 
 
 class Store(Protocol):

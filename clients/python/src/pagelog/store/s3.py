@@ -9,7 +9,7 @@ from contextlib import contextmanager, suppress
 from typing import Any, Iterator
 from urllib.parse import urlsplit
 
-from pagelog.store.place import Missing, StoreAway, StoreError
+from pagelog.store.errors import Missing, StoreAway, StoreError
 from pagelog.store.settings import StoreSettings
 
 try:

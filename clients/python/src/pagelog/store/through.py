@@ -11,7 +11,7 @@ from datetime import datetime, timedelta, timezone
 from typing import TYPE_CHECKING, Any, Callable, Iterable, Iterator, Sequence, TypeVar
 
 from pagelog.keeper.images import Image
-from pagelog.keeper.referee import Away, BrokenArchive, KeeperError
+from pagelog.keeper.errors import Away, BrokenArchive, KeeperError
 from pagelog.store import tables
 from pagelog.store.pack import Packed, image_of, is_packed
 from pagelog.store.place import Missing, Store, StoreAway, StoreError, store_of

@@ -4,7 +4,7 @@ from __future__ import annotations
 
 import random
 from dataclasses import dataclass
-from typing import Iterator
+from typing import TYPE_CHECKING, Iterator
 
 from pagelog.block import PAGE_SIZE
 from pagelog.keeping import OtherLog
@@ -12,8 +12,10 @@ from pagelog.reader import Reader
 from pagelog.reply import Denied, Page, expect
 from pagelog.request import Get
 from pagelog.rules import Section
-from pagelog.trail.logs import Log
 from pagelog_model.bodies import BlockBody, read_block
+
+if TYPE_CHECKING:
+    from pagelog.trail.logs import Log
 
 PAGES = 32
 
