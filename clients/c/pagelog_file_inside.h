@@ -74,6 +74,10 @@ struct pending {
  * this one. */
 enum { WHY_BYTES = 320 };
 
+/* A wait goes on for a reply of the service; or for a time, while who waits may end it; or it was ended
+ * because the generation is over. */
+enum wait { FOR_A_REPLY, FOR_A_TIME, OVERTAKEN };
+
 struct named {
     struct pagelog_keepers *keepers; /* NULL: the database has no name, and one address */
     struct pagelog_place place;
@@ -92,9 +96,8 @@ struct named {
     unsigned hurry_ms;
     bool (*goes_on)(void *argument); /* by whom waits are ended; NULL: by nobody */
     void *argument;
-    bool is_overtaken;   /* the last wait was ended because it does not */
+    enum wait wait;
     bool is_suspect;     /* keepers may have gone on without the run that is read: the next begin asks */
-    bool is_pausing;     /* who waits is asked, and no service is waited for */
     uint32_t epoch;      /* the last one whose primary was asked for */
     bool is_closing;     /* that was the keeper, which closes the generation */
     const char *dropped; /* why the database is no more, and nothing goes on; NULL: it is there */

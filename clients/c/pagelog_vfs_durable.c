@@ -46,7 +46,7 @@ void pagelog_ring_once_sent(struct connection *connection) {
 static int doubt(struct connection *connection) {
     static const char reason[] = "in doubt: it is in the log, and no keeper has said that it is durable";
     struct database *database = connection->database;
-    connection->decision = IN_DOUBT;
+    pagelog_end_with(connection, IN_DOUBT);
     strcpy(database->error, reason);
     pagelog_tell(SQLITE_IOERR_FSYNC, database->shows_errors, "%s", reason);
     return SQLITE_IOERR_FSYNC;

@@ -166,29 +166,49 @@ static int note_error(sqlite3_file *file, int code) {
     return code;
 }
 
+/* From each state, where it may go: a bit for each of them. */
+static const uint8_t ends[] = {
+    [PENDING] = 1 << PENDING | 1 << COMMITTED | 1 << REFUSED,
+    [COMMITTED] = 1 << PENDING | 1 << COMMITTED | 1 << REFUSED | 1 << IN_DOUBT,
+    [REFUSED] = 1 << PENDING | 1 << COMMITTED | 1 << REFUSED,
+    [IN_DOUBT] = 1 << PENDING | 1 << ROLLED_BACK,
+    [ROLLED_BACK] = 1 << PENDING | 1 << ROLLED_BACK,
+};
+
+void pagelog_end_with(struct connection *connection, enum last last) {
+    pagelog_assert(ends[connection->last] >> last & 1);
+    connection->last = last;
+}
+
+/* Whether what SQLite writes is dropped. */
+static bool is_in_doubt(const struct connection *connection) {
+    return connection->last == IN_DOUBT || connection->last == ROLLED_BACK;
+}
+
 /* A refusal right after another one is of the rollback. SQLite is told an error that it knows, so that it
  * reads its cache again even where it keeps the lock (locking_mode=exclusive), and does not ask whether that
  * is old. */
 static int note_refusal(struct connection *connection, int code) {
-    if (connection->is_refused) code = as_io_error(code);
-    connection->is_refused = code != SQLITE_OK;
+    if (connection->last == REFUSED) code = as_io_error(code);
+    pagelog_end_with(connection, code == SQLITE_OK ? COMMITTED : REFUSED);
     return code;
 }
 
 /* What SQLite writes after a COMMIT that is in doubt: of its rollback nothing is done, and the next
  * transaction, of a connection that keeps the lock, is refused. SQLITE_NOTFOUND where nothing is in doubt. */
 static int drop_write(const struct connection *connection) {
-    if (connection->decision == DECIDED) return SQLITE_NOTFOUND;
-    return connection->decision == IN_DOUBT ? SQLITE_OK : SQLITE_IOERR;
+    if (!is_in_doubt(connection)) return SQLITE_NOTFOUND;
+    return connection->last == IN_DOUBT ? SQLITE_OK : SQLITE_IOERR;
 }
 
 static int file_write(sqlite3_file *file, const void *bytes, int length, sqlite3_int64 offset) {
+    struct connection *connection = (struct connection *)file;
     struct database *database = enter(file);
-    int decided = drop_write((struct connection *)file);
+    int decided = drop_write(connection);
     if (decided != SQLITE_NOTFOUND) return leave(database, decided);
-    pagelog_hold_turn((struct connection *)file);
-    ((struct connection *)file)->is_committed = false;
-    forget_wal((struct connection *)file, bytes, length, offset);
+    pagelog_hold_turn(connection);
+    if (connection->last == COMMITTED) pagelog_end_with(connection, PENDING);
+    forget_wal(connection, bytes, length, offset);
     int code =
         pagelog_result(database, pagelog_file_write(database->file, (uint64_t)offset, bytes, (size_t)length));
     return leave(database, note_error(file, as_io_error(code)));
@@ -198,7 +218,7 @@ static int file_write(sqlite3_file *file, const void *bytes, int length, sqlite3
  * The file stays longer then, as by a crash at that moment: SQLite goes by the number of pages in its first
  * one. Only where the file has lost commits that nobody waited for it is told. */
 static int file_truncate(sqlite3_file *file, sqlite3_int64 size) {
-    bool is_committed = ((struct connection *)file)->is_committed;
+    bool is_committed = ((struct connection *)file)->last == COMMITTED;
     struct database *database = enter(file);
     int decided = drop_write((struct connection *)file);
     if (decided != SQLITE_NOTFOUND) return leave(database, decided);
@@ -226,7 +246,7 @@ static bool becomes_shorter(const struct database *database) {
 static void give_turn_before_wait(struct connection *connection) {
     struct database *database = connection->database;
     bool may_write_on = connection->is_exclusive || connection->is_of_several;
-    if (connection->synchronous < SYNCHRONOUS_FULL || may_write_on || !connection->is_committed) return;
+    if (connection->synchronous < SYNCHRONOUS_FULL || may_write_on || connection->last != COMMITTED) return;
     if (database->turn_of == connection && !becomes_shorter(database)) pagelog_give_turn(connection);
 }
 
@@ -235,7 +255,7 @@ static int file_sync(sqlite3_file *file, int flags) {
     (void)flags;
     struct connection *connection = (struct connection *)file;
     struct database *database = enter(file);
-    if (connection->decision != DECIDED) return leave(database, SQLITE_OK); /* of a rollback */
+    if (is_in_doubt(connection)) return leave(database, SQLITE_OK); /* of a rollback */
     int code = pagelog_result(database, pagelog_file_settle(database->file));
     if (code == SQLITE_OK) give_turn_before_wait(connection);
     if (code == SQLITE_OK) code = pagelog_wait_until_durable(connection);
@@ -266,12 +286,12 @@ static int file_device_characteristics(sqlite3_file *file) {
  * pagelog_error` still reports why the commit was. */
 static int commit(struct connection *connection) {
     struct database *database = connection->database;
-    if (connection->decision != DECIDED) {
-        connection->decision = ROLLED_BACK;
+    if (is_in_doubt(connection)) {
+        pagelog_end_with(connection, ROLLED_BACK);
         return SQLITE_OK;
     }
     char error[ERROR_BYTES];
-    bool is_rollback = connection->is_refused;
+    bool is_rollback = connection->last == REFUSED;
     uint64_t lsn = pagelog_file_lsn(database->file);
     memcpy(error, database->error, sizeof error);
     pagelog_ring_once_sent(connection);
@@ -292,7 +312,6 @@ static int file_control(sqlite3_file *file, int operation, void *argument) {
         code = commit(connection);
         if (code == SQLITE_OK) pagelog_warn_of_full_list(database);
         note_error(file, code);
-        connection->is_committed = code == SQLITE_OK;
         connection->lsn = pagelog_file_lsn(database->file);
         break;
     case SQLITE_FCNTL_COMMIT_PHASETWO: /* a VACUUM makes the file shorter after its commit */
@@ -338,7 +357,7 @@ static const sqlite3_io_methods file_methods = {
 
 void pagelog_open_connection(struct connection *connection, sqlite3_filename name) {
     connection->lock = SQLITE_LOCK_NONE;
-    connection->is_sized = connection->is_refused = connection->is_committed = false;
+    connection->is_sized = false;
     connection->is_exclusive = connection->is_of_several = false;
     connection->busy = NULL;
     connection->sqlite = NULL;
@@ -347,7 +366,7 @@ void pagelog_open_connection(struct connection *connection, sqlite3_filename nam
     connection->next_waiting = NULL;
     connection->woken = -1;
     connection->committed = 0;
-    connection->decision = DECIDED;
+    connection->last = PENDING;
     connection->synchronous = SYNCHRONOUS_FULL; /* as SQLite begins */
     connection->journal_mode = "delete";
     *connection->sentence = 0;

@@ -75,9 +75,18 @@ struct database {
     char error[ERROR_BYTES];
 };
 
-/* Whether the last COMMIT, which is in the log, could not be told to be durable. SQLite rolls back then: what
- * it writes for that is dropped, so that the COMMIT stays in doubt, and is not undone by another one. */
-enum decision { DECIDED, IN_DOUBT, ROLLED_BACK };
+/* What became of the last commit, or end of a rollback, since the lock was taken:
+ *
+ *   PENDING      there was none, or something was written after it
+ *   COMMITTED    it was done
+ *   REFUSED      it was not; the next one is of SQLite's rollback
+ *   IN_DOUBT     it is in the log, and could not be told to be durable. SQLite rolls back then: what it
+ * writes for that is dropped, so that the COMMIT stays in doubt, and is not undone by another one ROLLED_BACK
+ * that rollback has ended
+ *
+ * The first three follow one another in any order, but that what is refused stays so where SQLite writes;
+ * after them come the others, in this order; and once the lock is lowered it is the first again. */
+enum last { PENDING, COMMITTED, REFUSED, IN_DOUBT, ROLLED_BACK };
 
 /* Of `PRAGMA synchronous`. */
 enum { SYNCHRONOUS_OFF, SYNCHRONOUS_NORMAL, SYNCHRONOUS_FULL, SYNCHRONOUS_EXTRA };
@@ -90,9 +99,8 @@ struct connection {
     int lock;
     /* Of the file, as SQLite's own cache has it: the history, and the transaction. */
     uint64_t history, lsn;
-    bool is_sized;     /* SQLite has asked for the size of a sector */
-    bool is_refused;   /* the last commit or end of a rollback was, and the lock was kept since */
-    bool is_committed; /* the last commit was done, the lock was kept since, and nothing was written */
+    bool is_sized;  /* SQLite has asked for the size of a sector */
+    enum last last; /* changes by pagelog_end_with alone */
     /* SQLite's busy handler of the connection, with its argument, and the connection of SQLite's. */
     int (*busy)(void *);
     void *busy_argument;
@@ -100,7 +108,6 @@ struct connection {
     bool has_waited; /* the handler has let the present call wait */
     /* Of a named database: who is asked what is durable, while others use the file. */
     struct pagelog_keepers *keepers;
-    enum decision decision;
     bool wants_turn; /* it was refused the turn: the next begin waits for it */
     bool wants_lock; /* another of this process had the write lock: the next begin waits in line */
     struct connection *next_waiting;
@@ -251,6 +258,9 @@ void pagelog_take_kept_pages(struct database *database);
 
 /* A call of whose error SQLite does not hear. Where it loses commits the next statement tells it. */
 void pagelog_call_untold(struct database *database, enum pagelog_outcome (*call)(struct pagelog_file *file));
+
+/* The last commit of a connection has become that. */
+void pagelog_end_with(struct connection *connection, enum last last);
 
 /* Makes a file of SQLite's a connection to its database, which is open. */
 void pagelog_open_connection(struct connection *connection, sqlite3_filename name);

@@ -18,8 +18,7 @@ void pagelog_lower_lock(struct database *database, struct connection *connection
         pagelog_wake_next(database);
     }
     connection->lock = lock;
-    connection->decision = DECIDED;
-    connection->is_refused = connection->is_committed = false;
+    pagelog_end_with(connection, PENDING);
 }
 
 /* The first of those that share the database begins a transaction of the file. */

@@ -19,8 +19,9 @@ static bool waits_on(void *argument) {
     struct pagelog_file *file = argument;
     struct named *named = &file->named;
     if (named->goes_on && !named->goes_on(named->argument)) return false;
-    named->is_overtaken = !named->is_pausing && pagelog_file_is_overtaken(file);
-    return !named->is_overtaken;
+    if (named->wait == FOR_A_TIME) return true;
+    named->wait = pagelog_file_is_overtaken(file) ? OVERTAKEN : FOR_A_REPLY;
+    return named->wait == FOR_A_REPLY;
 }
 
 void pagelog_file_set_waiting(struct pagelog_file *file, bool (*goes_on)(void *argument), void *argument) {
@@ -31,15 +32,15 @@ void pagelog_file_set_waiting(struct pagelog_file *file, bool (*goes_on)(void *a
     }
     named->goes_on = goes_on;
     named->argument = argument;
-    named->is_overtaken = false;
+    named->wait = FOR_A_REPLY;
     pagelog_set_waiting(file->log, waits_on, file);
     pagelog_keepers_set_waiting(named->keepers, goes_on, argument);
 }
 
 void pagelog_wait_again(struct pagelog_file *file) {
     struct named *named = &file->named;
-    if (!named->is_overtaken) return;
-    named->is_overtaken = false;
+    if (named->wait != OVERTAKEN) return;
+    named->wait = FOR_A_REPLY;
     pagelog_set_waiting(file->log, waits_on, file);
 }
 
@@ -54,8 +55,8 @@ const char *pagelog_explain_wait(struct pagelog_file *file, const char *sentence
 
 bool pagelog_may_pause(struct pagelog_file *file) {
     pagelog_wait_again(file);
-    file->named.is_pausing = true;
+    file->named.wait = FOR_A_TIME;
     bool may_pause = pagelog_goes_on(file->log);
-    file->named.is_pausing = false;
+    file->named.wait = FOR_A_REPLY;
     return may_pause;
 }

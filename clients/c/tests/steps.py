@@ -56,8 +56,7 @@ def steps_made(step, names, table, file):
 def test_steps_that_are_none_end_a_checked_build():
     """So that a test which comes to one fails. Each of the others is made."""
     wanted = [
-        {old: new for old, (_, new) in table.items()}
-        for table in (STANDING_STEPS, READING_STEPS)
+        {old: new for old, (_, new) in table.items()} for table in (STANDING_STEPS, READING_STEPS)
     ]
     with File(None, 2, operator=1, name="shop", keepers=NOWHERE) as file:
         same(
@@ -68,9 +67,7 @@ def test_steps_that_are_none_end_a_checked_build():
                 steps_made(lib.pagelog_have, READINGS, READING_STEPS, file),
             ],
         )
-    with File(NOWHERE, 2, reads_only=True) as reader, File(
-        NOWHERE, 2, operator=1
-    ) as plain:
+    with File(NOWHERE, 2, reads_only=True) as reader, File(NOWHERE, 2, operator=1) as plain:
         same("who only reads", False, makes(lib.pagelog_stand, reader, [1]))
         same("who may write", True, makes(lib.pagelog_stand, plain, [1]))
         same(
@@ -90,9 +87,7 @@ def kept(keeper, principal, **more):
 def states(file):
     """By what callers see."""
     state = file.state
-    standing = (
-        "broken" if state.is_broken else "writing" if state.is_writer else "following"
-    )
+    standing = "broken" if state.is_broken else "writing" if state.is_writer else "following"
     reading = "over" if state.is_over else "gone" if state.is_gone else "open"
     return standing, reading
 
@@ -125,9 +120,7 @@ def test_a_file_goes_through_its_states():
             break_off(file, rule)
             same("half of it is there", ("broken", "open"), states(file))
             file.undo()
-            same(
-                "until a begin", (DONE, CONFLICT), (file.write(0, b"b"), file.commit())
-            )
+            same("until a begin", (DONE, CONFLICT), (file.write(0, b"b"), file.commit()))
             same("it looks", (DONE, ("writing", "open")), (file.begin(), states(file)))
             break_off(file, rule)
             with opened(service.address, 5) as other:
@@ -140,41 +133,35 @@ def test_a_file_goes_through_its_states():
                 same("it is told", (DONE, FENCED), (file.write(0, b"x"), file.commit()))
 
 
+class Cuts:
+    """A proxy's rule: armed, it cuts each connection that asks something."""
+
+    is_armed = False
+
+    def __call__(self, frame):
+        return None if self.is_armed else frame
+
+
 def test_a_file_that_loses_commits():
     """Which nobody waited for: of a writer whose epoch is over, and of one whose connections are cut."""
-    done, rule = (DONE, DONE, DONE), CutsOff()
+    done = (DONE, DONE, DONE)
     for is_cut in (False, True):
-        with Service() as service, Proxy(
-            service.address, between=rule
-        ) as proxy, opened(
-            proxy.address, 2, unwaited=64, patience_ms=200
-        ) as file, opened(
-            service.address, 3, reads_only=True
-        ) as reader:
-            same("first", done, commit(file, b"a" * 10))
-            same("is there", DONE, file.settle())
-            if is_cut:
-                rule.__init__()
-                rule.is_armed = True
-                same(
-                    "half of one",
-                    done,
-                    commit(file, random.Random(5).randbytes(150000)),
-                )
-                true("is lost", file.settle() in (LOST, IN_DOUBT))
-                rule.is_armed = False
-            else:
+        rule = Cuts()
+        with Service() as service, Proxy(service.address, between=rule) as proxy, opened(
+            proxy.address, 2, unwaited=64, check_ms=3600000, patience_ms=200
+        ) as file, opened(service.address, 3, reads_only=True) as reader:
+            same("first", (done, DONE), (commit(file, b"a" * 10), file.settle()))
+            rule.is_armed = is_cut
+            if not is_cut:
                 with opened(service.address, 5) as other:
                     same("another", done, commit(other, b"n"))
-                same("too late", (DONE, DONE), (file.write(0, b"bb"), file.commit()))
-                same("is lost", FENCED, file.begin())
+            same("nobody waits", done, commit(file, b"bb"))
+            outcome = file.settle()
+            true("it is lost", outcome in (LOST, IN_DOUBT) if is_cut else outcome == FENCED)
+            rule.is_armed = False
             standing = "broken" if is_cut else "following"
             same("over", (standing, "over"), states(file))
-            same(
-                "until a begin",
-                (CONFLICT, CONFLICT),
-                (file.read(0, 1)[0], file.settle()),
-            )
+            same("until a begin", (CONFLICT, CONFLICT), (file.read(0, 1)[0], file.settle()))
             standing = "writing" if is_cut else "following"
             same("begins", (DONE, (standing, "open")), (file.begin(), states(file)))
             same("a reader", (DONE, file.whole()), (reader.begin(), reader.whole()))
@@ -184,9 +171,7 @@ def gone_on(new):
     """Another writer, in a generation that no keeper has told of yet."""
 
     def tokens(principal):
-        return Token(
-            *token_of(bytes.fromhex(TOKENS[principal]), new.keeper.name, new.run)
-        )
+        return Token(*token_of(bytes.fromhex(TOKENS[principal]), new.keeper.name, new.run))
 
     with File(new.service.address, 2, operator=1, tokens=tokens) as other:
         same(
@@ -214,9 +199,7 @@ def test_a_file_of_a_named_database_moves():
             (commit(file, b"b"), states(file)),
         )
         with kept(keeper, 3, reads_only=True) as reader:
-            same(
-                "reads", (DONE, ("following", "open")), (reader.begin(), states(reader))
-            )
+            same("reads", (DONE, ("following", "open")), (reader.begin(), states(reader)))
             keeper.die(lost=1, others=gone_on)
             same(
                 "nowhere",
