@@ -781,7 +781,7 @@ inline note_durable(p) {
     fi
 }
 
-// pagelog_durable.c: pagelog_file_take_fate
+// pagelog_durable.c: take_of_writer
                     // ..
                     // if (named->told < awaited->position && named->durable < awaited->position)
                     // return pagelog_file_fail(file, PAGELOG_CONFLICT

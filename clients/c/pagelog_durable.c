@@ -33,8 +33,10 @@ bool pagelog_file_is_durable(const struct pagelog_file *file, struct pagelog_awa
     return false;
 }
 
-enum pagelog_outcome pagelog_file_take_fate(struct pagelog_file *file, const struct pagelog_awaited *awaited,
-                                            enum pagelog_outcome outcome, const struct pagelog_fate *fate) {
+/* DONE: it may be asked whether it is durable. LOST: no keeper has said it, and it may be asked again.
+ * CONFLICT: it is not in the database, and never will be. Else as of a begin that finds commits lost. */
+static enum pagelog_outcome take_of_writer(struct pagelog_file *file, const struct pagelog_awaited *awaited,
+                                           enum pagelog_outcome outcome, const struct pagelog_fate *fate) {
     struct named *named = &file->named;
     struct pagelog_place place;
     file->reason = NULL;
@@ -59,19 +61,39 @@ bool pagelog_file_may_wait(struct pagelog_file *file, struct pagelog_file_patien
     return true;
 }
 
-/* Waits until a position is durable, for `move_ms` at most. */
-static enum pagelog_outcome wait_until_durable(struct pagelog_file *file, uint64_t position) {
+/* One question, while which others may use the file, where they are let in. */
+static enum pagelog_outcome ask(const struct pagelog_asking *asking, const struct pagelog_awaited *awaited,
+                                struct pagelog_fate *fate) {
+    if (asking->let_in) asking->let_in(asking->argument);
+    enum pagelog_outcome outcome =
+        pagelog_fate_of(asking->keepers, awaited->place.lines, &awaited->place, awaited->position, fate);
+    if (asking->go_on) asking->go_on(asking->argument);
+    return outcome;
+}
+
+/* What the answer to a question says. */
+typedef enum pagelog_outcome take_fate(struct pagelog_file *file, const struct pagelog_awaited *awaited,
+                                       enum pagelog_outcome outcome, const struct pagelog_fate *fate);
+
+/* The one wait for what becomes durable. LOST: it is asked again, as long as whoever waits goes on. */
+static enum pagelog_outcome await(struct pagelog_file *file, uint64_t position,
+                                  const struct pagelog_asking *asking, take_fate *take) {
     struct pagelog_awaited awaited = {.position = position};
     struct pagelog_file_patience patience = pagelog_file_patience(file);
     while (!pagelog_file_is_durable(file, &awaited)) {
         struct pagelog_fate fate;
-        enum pagelog_outcome outcome =
-            pagelog_fate_of(file->named.keepers, awaited.place.lines, &awaited.place, position, &fate);
-        outcome = pagelog_file_take_fate(file, &awaited, outcome, &fate);
+        enum pagelog_outcome outcome = ask(asking, &awaited, &fate);
+        outcome = take(file, &awaited, outcome, &fate);
         if (outcome == PAGELOG_DONE) continue;
-        if (outcome != PAGELOG_LOST || !pagelog_file_may_wait(file, &patience)) return outcome;
+        bool goes_on = outcome == PAGELOG_LOST && pagelog_keepers_wait_on(asking->keepers);
+        if (!goes_on || !pagelog_file_may_wait(file, &patience)) return outcome;
     }
     return PAGELOG_DONE;
+}
+
+enum pagelog_outcome pagelog_file_await(struct pagelog_file *file, uint64_t position,
+                                        const struct pagelog_asking *asking) {
+    return await(file, position, asking, take_of_writer);
 }
 
 /* How many bytes the tail gets more. */
@@ -113,7 +135,8 @@ enum pagelog_outcome pagelog_hold_blocks(struct pagelog_file *file) {
     enum pagelog_outcome outcome = PAGELOG_DONE;
     size_t length, more = bytes_of(file->blocks), part = more > A_PART ? more : A_PART;
     if (pagelog_tail_bytes(&named->tail) + more > MOST_TAIL)
-        outcome = wait_until_durable(file, pagelog_tail_after(&named->tail, part));
+        outcome = pagelog_file_await(file, pagelog_tail_after(&named->tail, part),
+                                     &(struct pagelog_asking){.keepers = named->keepers});
     if (outcome == PAGELOG_DONE && !is_writer(file)) outcome = pagelog_write_on(file);
     if (outcome == PAGELOG_DONE) outcome = hold_before(file);
     for (size_t i = 0; i < pagelog_blocks_count(file->blocks) && outcome == PAGELOG_DONE; i++) {
@@ -188,25 +211,26 @@ static enum pagelog_outcome hurry(struct pagelog_file *file) {
     return PAGELOG_DONE;
 }
 
+/* The same of one that reads what is durable alone. */
+static enum pagelog_outcome take_of_reader(struct pagelog_file *file, const struct pagelog_awaited *awaited,
+                                           enum pagelog_outcome outcome, const struct pagelog_fate *fate) {
+    outcome = outcome == PAGELOG_DONE ? pagelog_note_fate(file, &awaited->place, fate, awaited->position)
+                                      : pagelog_glance(file);
+    bool is_awaited = outcome == PAGELOG_DONE && file->named.durable < awaited->position;
+    return is_awaited ? PAGELOG_LOST : outcome;
+}
+
 enum pagelog_outcome pagelog_file_reach(struct pagelog_file *file, uint64_t position) {
     struct named *named = &file->named;
-    struct pagelog_file_patience patience = pagelog_file_patience(file);
     file->reason = NULL;
     if (position <= named->durable) return PAGELOG_DONE;
     if (named->place.is_page_server) return pagelog_reach_at_page_server(file, position);
-    while (named->durable < position) {
-        struct pagelog_place place = named->place;
-        struct pagelog_fate fate;
-        enum pagelog_outcome outcome = pagelog_fate_of(named->keepers, place.lines, &place, position, &fate);
-        bool is_told = outcome == PAGELOG_DONE;
-        outcome = is_told ? pagelog_note_fate(file, &place, &fate, position) : pagelog_glance(file);
-        if (outcome != PAGELOG_DONE) return outcome;
-        if (named->durable < position && !pagelog_file_may_wait(file, &patience))
-            return pagelog_file_fail(file, PAGELOG_LOST,
-                                     "no keeper says that what was read before is durable");
-    }
-    file->is_checked = false;
-    return PAGELOG_DONE;
+    struct pagelog_asking asking = {.keepers = named->keepers};
+    enum pagelog_outcome outcome = await(file, position, &asking, take_of_reader);
+    if (outcome == PAGELOG_LOST && !file->reason)
+        return pagelog_file_fail(file, outcome, "no keeper says that what was read before is durable");
+    if (outcome == PAGELOG_DONE) file->is_checked = false;
+    return outcome;
 }
 
 /* Whether PostgreSQL went back, and has lost the run with what this file has committed there. Its next commit

@@ -244,11 +244,20 @@ struct pagelog_awaited {
 /* Whether a position is known to be durable; else who is to be asked. */
 bool pagelog_file_is_durable(const struct pagelog_file *file, struct pagelog_awaited *awaited);
 
-/* Takes an answer of the keepers, as of pagelog_fate_of, which was waited for without the file. DONE: it may
- * be asked whether it is durable. LOST: no keeper has said it, and it may be asked again. CONFLICT: it is not
- * in the database, and never will be. Else as of a begin that finds commits lost. */
-enum pagelog_outcome pagelog_file_take_fate(struct pagelog_file *file, const struct pagelog_awaited *awaited,
-                                            enum pagelog_outcome outcome, const struct pagelog_fate *fate);
+/* Of a wait: who is asked, and by whom others may be let in to use the file amid each question, and go out
+ * again before its answer is taken; NULL: by nobody. */
+struct pagelog_asking {
+    struct pagelog_keepers *keepers;
+    void (*let_in)(void *argument);
+    void (*go_on)(void *argument);
+    void *argument;
+};
+
+/* Waits until a position of this file's own is durable, for `move_ms` at most. LOST: no keeper has said it in
+ * time, or who waits has ended the wait. CONFLICT: it is not in the database, and never will be. Else as of a
+ * begin that finds commits lost. */
+enum pagelog_outcome pagelog_file_await(struct pagelog_file *file, uint64_t position,
+                                        const struct pagelog_asking *asking);
 
 /* Until when a call that begins now waits, in milliseconds of pagelog's clock; and whether it waits on: it
  * sleeps then, longer each time. */

@@ -8,8 +8,19 @@
  * the end. One that its keeper closes is waited for. */
 enum { MOST_MOVES = 16 };
 
-static bool may_try(struct pagelog_file *file, unsigned moves, struct pagelog_file_patience *patience) {
-    return moves < MOST_MOVES || (file->named.is_closing && pagelog_file_may_wait(file, patience));
+struct tries {
+    unsigned moves;
+    struct pagelog_file_patience patience; /* from the first one on */
+};
+
+/* Whether a call that had this outcome is made again: the file has moved to where the database is by then. */
+static bool is_made_again(struct pagelog_file *file, enum pagelog_outcome *outcome, struct tries *tries) {
+    if (*outcome == PAGELOG_DONE || file->reason || !pagelog_may_move(file, *outcome)) return false;
+    if (tries->moves == 0) tries->patience = pagelog_file_patience(file);
+    bool may_try = tries->moves++ < MOST_MOVES ||
+                   (file->named.is_closing && pagelog_file_may_wait(file, &tries->patience));
+    if (may_try) *outcome = pagelog_move(file, *outcome);
+    return may_try && *outcome == PAGELOG_DONE;
 }
 
 /* Blocks that are pulled when a file opens, so that their loss is not this file's too. */
@@ -58,14 +69,9 @@ static enum pagelog_outcome take_newest(struct pagelog_file *file) {
 /* Asks until it is done, wherever the database is by then. */
 static enum pagelog_outcome ask_wherever(struct pagelog_file *file, enum pagelog_outcome outcome,
                                          enum pagelog_outcome (*call)(struct pagelog_file *file)) {
-    if (outcome == PAGELOG_DONE) return outcome;
-    struct pagelog_file_patience patience = pagelog_file_patience(file);
-    for (unsigned moves = 0;
-         !file->reason && pagelog_may_move(file, outcome) && may_try(file, moves, &patience); moves++) {
-        outcome = pagelog_move(file, outcome);
-        if (outcome != PAGELOG_DONE) return outcome;
+    struct tries tries = {0};
+    while (is_made_again(file, &outcome, &tries))
         outcome = is_gone(file) ? take_newest(file) : call(file);
-    }
     return outcome;
 }
 
@@ -155,12 +161,9 @@ enum pagelog_outcome pagelog_fetch_wherever(struct pagelog_file *file, uint64_t 
     if (outcome != PAGELOG_DONE) return outcome;
     if (is_gone(file) && !was_gone) return pagelog_refuse_gone(file);
     outcome = pagelog_fetch_here(file, lsn_of(file, position), wanted, out);
-    if (outcome == PAGELOG_DONE) return outcome;
     wanted.ahead = 0;
-    struct pagelog_file_patience patience = pagelog_file_patience(file);
-    for (unsigned moves = 0; pagelog_may_move(file, outcome) && may_try(file, moves, &patience); moves++) {
-        outcome = pagelog_move(file, outcome);
-        if (outcome != PAGELOG_DONE) return outcome;
+    struct tries tries = {0};
+    while (is_made_again(file, &outcome, &tries)) {
         if (is_gone(file)) return was_gone ? PAGELOG_LOST : pagelog_refuse_gone(file);
         outcome = pagelog_fetch_here(file, lsn_of(file, position), wanted, out);
     }
@@ -259,11 +262,8 @@ enum pagelog_outcome pagelog_file_reserve(struct pagelog_file *file) {
         return PAGELOG_FENCED;
     if (is_writer(file)) return PAGELOG_DONE;
     outcome = become_writer(file);
-    struct pagelog_file_patience patience = pagelog_file_patience(file);
-    for (unsigned moves = 0;
-         !file->reason && pagelog_may_move(file, outcome) && may_try(file, moves, &patience); moves++) {
-        outcome = pagelog_move(file, outcome);
-        if (outcome != PAGELOG_DONE) return outcome;
+    struct tries tries = {0};
+    while (is_made_again(file, &outcome, &tries)) {
         if (is_gone(file)) return pagelog_refuse_gone(file);
         outcome = is_writer(file) ? PAGELOG_DONE : become_writer(file);
     }

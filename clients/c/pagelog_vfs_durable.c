@@ -13,20 +13,36 @@ static struct pagelog_keepers *keepers_of(struct connection *connection) {
     return connection->keepers;
 }
 
-/* One question, without the mutex: readers of this process wait for nobody's durability. Who closes has no
- * lock, so that it lets nobody in where another is amid a commit. */
-static enum pagelog_outcome ask(struct connection *connection, const struct pagelog_awaited *awaited,
-                                struct pagelog_fate *fate) {
-    struct database *database = connection->database;
-    bool is_commit = database->reserved == connection;
-    database->durable_waits += is_commit;
+/* A wait of a connection, and how often its file had lost commits before the last answer. Who closes has no
+ * lock, and lets nobody in where another is amid a commit. */
+struct wait_of {
+    struct connection *connection;
+    bool is_commit;
+    uint64_t losses;
+};
+
+/* What is lost meanwhile the next statement tells, where this call does not. */
+static void note_losses(const struct wait_of *wait) {
+    struct database *database = wait->connection->database;
+    if (pagelog_file_losses(database->file) > wait->losses) database->is_loss_untold = true;
+}
+
+/* A question is asked without the mutex: readers of this process wait for nobody's durability. */
+static void let_in(void *argument) {
+    struct wait_of *wait = argument;
+    struct database *database = wait->connection->database;
+    note_losses(wait);
+    database->durable_waits += wait->is_commit;
     sqlite3_mutex_leave(database->mutex);
-    enum pagelog_outcome outcome =
-        pagelog_fate_of(connection->keepers, awaited->place.lines, &awaited->place, awaited->position, fate);
+}
+
+static void go_on(void *argument) {
+    struct wait_of *wait = argument;
+    struct database *database = wait->connection->database;
     sqlite3_mutex_enter(database->mutex);
-    database->durable_waits -= is_commit;
-    pagelog_file_set_waiting(database->file, pagelog_connection_waits_on, connection);
-    return outcome;
+    database->durable_waits -= wait->is_commit;
+    pagelog_file_set_waiting(database->file, pagelog_connection_waits_on, wait->connection);
+    wait->losses = pagelog_file_losses(database->file);
 }
 
 /* Blocks were sent. The keeper has them archived while the service's reply is on its way. */
@@ -52,26 +68,19 @@ static int doubt(struct connection *connection) {
     return SQLITE_IOERR_FSYNC;
 }
 
-/* Waits until a position is durable. LOST: no keeper has said it in time. What is lost meanwhile the next
- * statement tells, where this call does not. */
+/* Waits until a position is durable. LOST: no keeper has said it in time. */
 static enum pagelog_outcome wait_for(struct connection *connection, uint64_t position) {
-    struct database *database = connection->database;
-    struct pagelog_file *file = database->file;
-    struct pagelog_awaited awaited = {.position = position};
-    struct pagelog_file_patience patience = pagelog_file_patience(file);
-    if (!keepers_of(connection)) return PAGELOG_LOST;
-    pagelog_keepers_set_waiting(connection->keepers, pagelog_connection_waits_on, connection);
-    while (!pagelog_file_is_durable(file, &awaited)) {
-        struct pagelog_fate fate;
-        enum pagelog_outcome outcome = ask(connection, &awaited, &fate);
-        uint64_t losses = pagelog_file_losses(file);
-        outcome = pagelog_file_take_fate(file, &awaited, outcome, &fate);
-        if (pagelog_file_losses(file) > losses) database->is_loss_untold = true;
-        if (outcome == PAGELOG_DONE) continue;
-        bool goes_on = outcome == PAGELOG_LOST && pagelog_keepers_wait_on(connection->keepers);
-        if (!goes_on || !pagelog_file_may_wait(file, &patience)) return outcome;
-    }
-    return PAGELOG_DONE;
+    const struct database *database = connection->database;
+    struct wait_of wait = {.connection = connection,
+                           .is_commit = database->reserved == connection,
+                           .losses = pagelog_file_losses(database->file)};
+    struct pagelog_asking asking = {
+        .keepers = keepers_of(connection), .let_in = let_in, .go_on = go_on, .argument = &wait};
+    if (!asking.keepers) return PAGELOG_LOST;
+    pagelog_keepers_set_waiting(asking.keepers, pagelog_connection_waits_on, connection);
+    enum pagelog_outcome outcome = pagelog_file_await(database->file, position, &asking);
+    note_losses(&wait);
+    return outcome;
 }
 
 int pagelog_wait_until_durable(struct connection *connection) {

@@ -1,4 +1,4 @@
-"""Of the states of a file and the steps between them: edits of clients/c."""
+"""Of the states of a file and the steps between them, and of its waits: edits of clients/c."""
 
 from plant import Plant
 
@@ -28,4 +28,7 @@ PLANTS = {
     "steps, over for good": Plant(_FILE, "    if (file->reading == OVER) pagelog_have(file, is_named(file) ? GONE : OPEN);\n", "", "c/steps", _LOSES),
     "steps, not gone": Plant(_MOVE, "    if (file->reading != OVER) pagelog_have(file, GONE);\n", "", "c/steps", _MOVES),
     "steps, gone for good": Plant("c/pagelog_mark.c", "    if (file->reading == GONE) pagelog_have(file, OPEN);\n", "", "c/steps", _MOVES),
+    "steps, no doubt": Plant("c/pagelog_vfs_durable.c", "    pagelog_end_with(connection, IN_DOUBT);\n", "", "c/generations", "wait_for_the_archive_ends"),
+    "steps, words of a rollback": Plant("c/pagelog_vfs_file.c", "    bool is_rollback = connection->last == REFUSED;\n", "    bool is_rollback = false;\n", "c/vfs_settings", "words_of_a_commit_in_doubt"),
+    "waits, without a pause": Plant("c/pagelog_durable.c", "        if (!goes_on || !pagelog_file_may_wait(file, &patience)) return outcome;\n", "        if (!goes_on) return outcome;\n", "c/generations", "asks_more_and_more"),
 }  # fmt: skip
