@@ -12,7 +12,10 @@
 #include <sys/socket.h>
 #include <unistd.h>
 
-enum { CONNECT_MS = 1000 }; /* for all addresses of a host together */
+enum {
+    CONNECT_MS = 1000, /* for all addresses of a host together */
+    LOOK_MS = 10,      /* after what has come last, no look whether the connection has ended */
+};
 
 static const char greeting[] = "hello 2\n";
 
@@ -40,7 +43,7 @@ void pagelog_line_leave(struct pagelog_line *line) {
     if (secure && *pagelog_secure_why(secure))
         snprintf(line->why, sizeof line->why, "%s", pagelog_secure_why(secure));
     pagelog_secure_end(secure);
-    line->is_asked = line->is_connecting = line->is_shaking = line->awaits_shake = false;
+    line->is_asked = line->is_connecting = line->is_shaking = line->awaits_shake = line->is_believed = false;
     line->unheard = line->version = 0;
     line->length = line->greeted = line->proving_length = line->proving_sent = 0;
     line->nonce[0] = line->proved[0] = 0;
@@ -76,12 +79,12 @@ uint64_t pagelog_line_ends(const struct pagelog_line *line, uint64_t deadline) {
     return line->is_connecting && line->until < deadline ? line->until : deadline;
 }
 
-/* A connection is gone: it was refused, and the next address is tried, or the question goes unanswered. */
 void pagelog_line_lose(struct pagelog_line *line) {
-    bool was_refused = line->is_connecting;
+    bool was_refused = line->is_connecting, was_believed = line->is_believed;
     pagelog_line_leave(line);
-    if (!was_refused) return;
-    line->refused++;
+    if (!was_refused && !was_believed) return;
+    line->refused += was_refused;
+    line->sent = 0;
     begin_connect(line);
     line->is_asked = line->socket >= 0;
 }
@@ -94,14 +97,24 @@ static bool has_ended(const struct pagelog_line *line) {
     return count == 0 || (count < 0 && errno != EAGAIN && errno != EWOULDBLOCK && errno != EINTR);
 }
 
-void pagelog_line_ask(struct pagelog_line *line) {
-    if (line->socket >= 0 && has_ended(line)) pagelog_line_leave(line);
+static void ask(struct pagelog_line *line, bool is_believed) {
+    if (line->socket >= 0 && !is_believed && has_ended(line)) pagelog_line_leave(line);
+    line->is_believed = is_believed;
     line->refused = 0;
     line->is_silent = false;
     *line->why = 0;
     if (line->socket < 0) begin_connect(line);
     line->is_asked = line->socket >= 0;
     line->sent = 0;
+}
+
+void pagelog_line_ask(struct pagelog_line *line) {
+    ask(line, false);
+}
+
+void pagelog_line_ask_on(struct pagelog_line *line) {
+    bool is_open = line->socket >= 0 && !line->is_connecting;
+    ask(line, is_open && pagelog_now() - line->heard < LOOK_MS);
 }
 
 /* Sends what has not left of a text, after `*sent` bytes of it. False where the connection is gone. */
@@ -186,6 +199,7 @@ bool pagelog_line_read(struct pagelog_line *line) {
                                  : recv(line->socket, to, room, MSG_DONTWAIT);
     if (count < 0) return errno == EAGAIN || errno == EWOULDBLOCK || errno == EINTR;
     line->length += (size_t)count;
+    line->heard = pagelog_now();
     return count > 0 && (line->length < sizeof line->input || memchr(line->input, '\n', line->length));
 }
 

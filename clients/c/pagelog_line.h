@@ -25,6 +25,8 @@ struct pagelog_line {
     uint64_t until;                /* when the address that is connecting has had its share of the time */
     unsigned refused;            /* addresses of its host that have refused the connect that is being made */
     bool is_silent;              /* one of them has not even refused it in time */
+    uint64_t heard;              /* when something came last */
+    bool is_believed;            /* the question was begun without a look whether the connection has ended */
     char why[PAGELOG_WHY_BYTES]; /* what was wrong with TLS, of the last question; empty: nothing */
     unsigned unheard;            /* answers before that, which nobody waits for any more */
     bool is_bare;                /* no greeting goes before the question */
@@ -55,11 +57,16 @@ bool pagelog_line_holds(const struct pagelog_line *line);
 /* Begins a question: connects where it is not connected, or no longer. */
 void pagelog_line_ask(struct pagelog_line *line);
 
+/* The same of a question that may be asked twice: where something came a moment ago it looks not whether the
+ * connection has ended since. If it has, it connects once more, and the question is asked again. */
+void pagelog_line_ask_on(struct pagelog_line *line);
+
 /* When there is something to do about it at the latest, though nothing comes: at `deadline`, or where its
  * host has an address that is silent before that. Then it is to be lost. */
 uint64_t pagelog_line_ends(const struct pagelog_line *line, uint64_t deadline);
 
-/* The connection is gone: it was refused, and the next address is tried, or the question goes unanswered. */
+/* The connection is gone: it was refused, and the next address is tried; or it had ended before the question,
+ * which is asked again; or that goes unanswered. */
 void pagelog_line_lose(struct pagelog_line *line);
 
 /* Whether something is to be sent before anything comes: of a question before which something is to be proved

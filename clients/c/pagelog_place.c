@@ -133,6 +133,17 @@ const char *pagelog_keepers_why(const struct pagelog_keepers *keepers) {
 
 /* ---- A question ---- */
 
+/* Whether an answer is waited for. What can be sent at once is, before the system is asked whether it can. */
+static bool is_waited_for(struct pagelog_line *keeper, const char *line, size_t length, uint64_t now) {
+    if (keeper->is_asked && pagelog_line_ends(keeper, UINT64_MAX) <= now) {
+        keeper->is_silent = true;
+        pagelog_line_lose(keeper);
+    }
+    bool sends = keeper->is_asked && !keeper->is_connecting && pagelog_line_has_more(keeper, length);
+    if (sends && !pagelog_line_send(keeper, line, length)) pagelog_line_lose(keeper);
+    return keeper->is_asked;
+}
+
 /* One round of a poll, of so many milliseconds at most: those that are asked send and read. Returns how many
  * had something to do; -1 where nobody is asked. */
 static int poll_once(struct pagelog_keepers *keepers, const char *line, uint64_t ms) {
@@ -143,11 +154,7 @@ static int poll_once(struct pagelog_keepers *keepers, const char *line, uint64_t
     uint64_t now = pagelog_now();
     for (size_t i = 0; i <= PAGELOG_MOST_KEEPERS; i++) {
         struct pagelog_line *keeper = &keepers->keepers[i];
-        if (keeper->is_asked && pagelog_line_ends(keeper, UINT64_MAX) <= now) {
-            keeper->is_silent = true;
-            pagelog_line_lose(keeper);
-        }
-        if (!keeper->is_asked) continue;
+        if (!is_waited_for(keeper, line, length, now)) continue;
         polled[count] = (struct pollfd){.fd = keeper->socket, .events = pagelog_line_events(keeper, length)};
         has_held |= pagelog_line_holds(keeper);
         of[count++] = keeper;
@@ -439,7 +446,7 @@ static void prove(struct pagelog_keepers *keepers, struct pagelog_line *keeper, 
 /* The answer of one keeper. One that does not come would be mixed with later ones: the connection is left. */
 static size_t ask_one(struct pagelog_keepers *keepers, struct pagelog_line *keeper, const char *line,
                       uint64_t ms, char answer[PAGELOG_LINE_BYTES], char *words[MOST_WORDS]) {
-    pagelog_line_ask(keeper);
+    pagelog_line_ask_on(keeper);
     size_t count = next_answer(keepers, line, pagelog_after(ms), answer) ? split(answer, words) : 0;
     stop_asking(keepers, line, false);
     return count;

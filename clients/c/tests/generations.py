@@ -486,6 +486,28 @@ def test_what_has_become_of_a_position():
         )
 
 
+def test_a_line_that_has_ended_right_after_an_answer_is_asked_again():
+    """Nobody looks then whether it has: the question goes over another connection to the same keeper, once."""
+    with StubKeeper() as keeper, Keepers(keeper.address) as keepers:
+        same("durable", DONE, answered(keepers.fate, 1, 0)[0])
+        for _ in range(20):
+            keeper.cut_lines()
+            since = time.monotonic()
+            outcome, _ = keepers.fate(1, 0)
+            true("it is, or the machine is slow", outcome == DONE or time.monotonic() - since >= 3)
+        answer, asked = keeper.answer, []
+
+        def ends(words):
+            if words[0] == "durable":
+                asked.append(words)
+                keeper.cut_lines()
+            return answer(words)
+
+        keeper.answer = ends
+        same("it is not asked for ever", LOST, keepers.fate(1, 0)[0])
+        true(f"but twice at most: {asked}", len(asked) <= 2)
+
+
 # ---- Settings and pragmas ----
 
 
