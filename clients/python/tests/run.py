@@ -90,6 +90,7 @@ PARTS = {
     "test_meanwhile": "what changes while a keeper waits for something",
     "test_beginnings": "what changes while a service is filled, adopted, or follows",
     "test_turns": "whose turn it is to write",
+    "test_fast_turns": "the thread that gives turns",
     "test_postgresql_page": "the commands of docs/POSTGRESQL.md, as they are printed",
     "test_pages": "page servers beside the service",
     "test_pages_compared": "page servers beside one another",

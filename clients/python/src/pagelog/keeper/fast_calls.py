@@ -15,8 +15,8 @@ if TYPE_CHECKING:
     from pagelog.trail.store import TrailList
 
 DIGEST, SHA, LINE = 16, 32, 1024
-LINE_BACK, ARCHIVED, ENDED, SESSION_BACK = range(4)
-"""What is said of a way, or of a session."""
+LINE_BACK, ARCHIVED, ENDED, SESSION_BACK, WRITER_BACK, WRITER_SAID, WRITERS_ENDED = range(7)
+"""What is said of a way, of a session, or of the writers of a database."""
 
 
 class List(ctypes.Structure):
@@ -94,6 +94,33 @@ class SessionStart(ctypes.Structure):
     ]
 
 
+class WritersStart(ctypes.Structure):
+    """The writers of a database."""
+
+    _fields_ = [
+        ("key", ctypes.c_uint64),
+        ("name", ctypes.c_char_p),
+        ("generation", ctypes.c_uint64),
+        ("ttl_ms", ctypes.c_int),
+    ]
+
+
+class WritersOrder(ctypes.Structure):
+    """What they are to do."""
+
+    _fields_ = [
+        ("word", ctypes.c_int),
+        ("line", ctypes.c_uint64),
+        ("asker", ctypes.c_uint64),
+        ("how", ctypes.c_int),
+        ("epoch", ctypes.c_int64),
+        ("generation", ctypes.c_uint64),
+        ("descriptor", ctypes.c_int),
+        ("of", ctypes.c_char_p),
+        ("heard", ctypes.c_uint64),
+    ]
+
+
 class Event(ctypes.Structure):
     """What is said."""
 
@@ -137,10 +164,11 @@ def library() -> ctypes.CDLL:
         raise KeeperError(f"the compiled part of a keeper cannot be loaded: {error}") from error
     if made.PQlibVersion() != pq.version():
         raise KeeperError("the compiled part of a keeper has another libpq than psycopg")
-    made.plane_new.restype = made.way_new.restype = ctypes.c_void_p
+    for maker in (made.plane_new, made.way_new, made.writers_new):
+        maker.restype = ctypes.c_void_p
     made.way_reached.restype = made.way_done.restype = ctypes.c_uint64
     made.plane_due.restype = ctypes.c_size_t
-    plane = way = ctypes.c_void_p
+    plane = way = writers = ctypes.c_void_p
     for name, kinds in (
         ("plane_new", [ctypes.c_int]),
         ("plane_run", [plane]),
@@ -158,6 +186,8 @@ def library() -> ctypes.CDLL:
         ("way_free", [way]),
         ("way_watch", [way, ctypes.c_int]),
         ("way_list_of", [way, ctypes.POINTER(List)]),
+        ("writers_new", [plane, ctypes.POINTER(WritersStart)]),
+        ("writers_do", [writers, ctypes.POINTER(WritersOrder)]),
         ("way_reached", [way, ctypes.c_uint8 * DIGEST, ctypes.POINTER(ctypes.c_size_t)]),
     ):
         getattr(made, name).argtypes = kinds

@@ -84,13 +84,17 @@ enum way_news {
     WAY_ARCHIVED = 1,           /* what it was kicked for is archived, or is not there */
     WAY_ENDED = 2,              /* the last that is said of it, but for `way_reached`, until `way_free` */
     WAY_SESSION_BACK = 3,       /* a connection to PostgreSQL is the keeper's again */
+    WRITER_BACK = 4,            /* a writer's line is the keeper's again; what is said of it has its number as the position */
+    WRITER_SAID = 5,            /* this is to be told over a line that the keeper has; an empty one: its turn went on to another */
+    WRITERS_ENDED = 6,          /* the last that is said of a database's writers */
 };
 
 /* What is said of a way, or of a session. */
 struct way_event {
     uint64_t key;
     int news;                   /* way_news */
-    int end;                    /* of a way that ended: why; of a session: whether something of a statement may be left in it */
+    int end;                    /* of a way that ended: why; of a session: whether something of a statement may be left in it; of a writer's
+                                 * line: whether it has the turn, or waits for it */
     int descriptor;             /* of a line; and what follows too */
     uint64_t position;          /* what is waited for over it; 0: nothing */
     size_t len;                 /* what was read of it, and not answered; of a doubt what PostgreSQL has said */
@@ -152,6 +156,74 @@ void way_list_of(const struct way *, struct way_list *);
 
 /* After `WAY_ENDED`. */
 void way_free(struct way *);
+
+/* How a turn is asked for. */
+enum { TURN_NOW = 1, TURN_MINE = 2, TURN_HEARTBEAT = 4, TURN_SLICES = 8 };
+
+/* Says a text over a line; an empty one: its turn went on to another, and nothing is said. */
+typedef void turns_say(void *of, uint64_t line, const char *text);
+
+struct turns;
+
+/* The rules of turns (turns.py) by themselves, of a database in one generation after the other. Lines have numbers, and times are in
+ * milliseconds. NULL without memory. */
+struct turns *turns_new(const char *name, uint64_t generation, int64_t ttl, int64_t now, turns_say *say, void *of);
+
+/* The words of lines. False without memory. An epoch of -1 was not said. */
+int turns_ask(struct turns *, uint64_t line, uint64_t asker, int how, int64_t now);
+void turns_back(struct turns *, uint64_t line, int64_t epoch, int64_t now);
+void turns_hold(struct turns *, uint64_t line);
+void turns_gone(struct turns *, uint64_t line, int64_t now);
+
+/* Whether it has the turn, or waits for it. */
+int turns_has(const struct turns *, uint64_t line);
+
+void turns_next(struct turns *, uint64_t generation, int64_t now);
+void turns_expect(struct turns *, int64_t now);
+
+/* Does what is due. Returns when something is due next. */
+int64_t turns_see_clock(struct turns *, int64_t now);
+
+/* Ends all turns. */
+void turns_free(struct turns *);
+
+/* The writers of a database, whose turns the thread gives. */
+struct writers_start {
+    uint64_t key;               /* what is said of them has this number; no way has it */
+    const char *name;
+    uint64_t generation;
+    int ttl_ms;
+};
+
+enum writers_word {
+    WRITERS_TURN = 0,           /* a line asks for the turn */
+    WRITERS_BACK = 1,           /* gives it back, or waits no more */
+    WRITERS_HOLD = 2,           /* has it in use */
+    WRITERS_GONE = 3,           /* is closed */
+    WRITERS_EXPECT = 4,         /* somebody has asked what became of the generation before */
+    WRITERS_NEXT = 5,           /* another generation has begun: all lines are the keeper's */
+    WRITERS_END = 6,            /* the keeper has the database no more */
+};
+
+/* What the keeper has them do. */
+struct writers_order {
+    int word;                   /* writers_word */
+    uint64_t line, asker;       /* numbers */
+    int how;                    /* of a turn */
+    int64_t epoch;              /* of a back; -1: it was not said */
+    uint64_t generation;        /* the next one */
+    int descriptor;             /* of a turn: from now on the thread reads this line, of which nothing is left unread; -1: it does not */
+    const char *of;             /* what all that is said over it names: "of=DATABASE/RUN" */
+    uint64_t heard;             /* how many times the keeper has done what `WRITER_SAID` says */
+};
+
+struct writers;
+
+/* NULL without memory, or where the plane has ended. They are the thread's until `WRITERS_ENDED`. */
+struct writers *writers_new(struct plane *, const struct writers_start *start);
+
+/* False without memory, or where they have ended. */
+int writers_do(struct writers *, const struct writers_order *order);
 
 #pragma GCC visibility pop
 

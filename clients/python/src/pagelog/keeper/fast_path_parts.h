@@ -25,7 +25,7 @@ enum {
 };
 
 /* What epoll has is one of these; it begins with its kind. */
-enum kind { CONTROL, SERVICE, LINE, SESSION };
+enum kind { CONTROL, SERVICE, LINE, SESSION, WRITER };
 
 /* Something that is said once the turn is over: until then nothing that was given back is freed. */
 struct event {
@@ -143,6 +143,53 @@ struct session {
     size_t len, room;
 };
 
+/* A line of one that writes, while the thread reads it. */
+struct writer {
+    enum kind kind;
+    struct event event;
+    struct writer *next, **place;       /* in the list of its database */
+    struct writers *writers;
+    uint64_t number, asker;
+    int descriptor;
+    char *of;
+    bool is_back;                       /* it is the keeper's */
+    bool has_turn;                      /* or waits for it, as it was given back */
+    int64_t heard_at;
+    size_t len;
+    char data[WAY_LINE];
+};
+
+struct writers {
+    struct plane *plane;
+    struct writers *next, **place;
+    struct event ended;
+    uint64_t key;
+    char *name;
+    int64_t ttl;
+    struct turns *turns;
+    struct writer *lines;
+    uint64_t said;                      /* times that the keeper was to tell something */
+    int64_t looks_at;                   /* when lines are looked for that nobody uses */
+    bool takes_none;                    /* under the plane's lock */
+};
+
+/* What the keeper says to them. */
+struct order {
+    struct order *next;
+    struct writers *writers;
+    struct writer *added;               /* a line that the thread is to read; NULL: none */
+    bool begins;
+    struct writers_order what;
+};
+
+/* Something that the keeper is to tell. */
+struct said {
+    struct event event;
+    uint64_t key, number;
+    size_t len;
+    char text[];
+};
+
 struct plane {
     int epoll, control, news;
 
@@ -151,7 +198,9 @@ struct plane {
     struct way *touched;
     struct session *lent, *sessions;    /* those that come, and those that are there */
     struct event *said, **last_said;
+    struct order *orders, **last_order;
 
+    struct writers *writers;
     struct event *events, **last_event; /* of this turn */
     struct way *ways, *active, *first_due, **last_due;
     atomic_size_t due;                  /* how many there are of those */
@@ -302,6 +351,23 @@ void leave_if_free(struct session *session);
 int64_t see_clock(struct session *session, int64_t now);
 
 void free_session(struct session *session);
+
+/* fast_path_writers.c */
+
+/* Does what the keeper has said. */
+void take_writers_orders(struct plane *plane);
+
+/* Hears the line of a writer that has something to say. */
+void hear_writer(struct writer *line);
+
+/* Does what is due. Returns when something is due next. */
+int64_t see_writers_clock(struct writers *writers, int64_t now);
+
+/* All lines are the keeper's, and nobody has a turn. */
+void end_writers(struct writers *writers);
+
+void free_writer(struct writer *line);
+void free_writers(struct writers *writers);
 
 /* fast_path_statement.c */
 

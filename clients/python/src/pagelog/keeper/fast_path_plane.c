@@ -20,6 +20,7 @@ struct plane *plane_new(int news) {
     plane->last_said = &plane->said;
     plane->last_event = &plane->events;
     plane->last_due = &plane->first_due;
+    plane->last_order = &plane->orders;
     static enum kind control = CONTROL;
     if (plane->epoll < 0 || plane->control < 0 || !watch(plane, plane->control, &control)) {
         plane_free(plane);
@@ -134,10 +135,42 @@ static void tell_of_line(const struct line *line, struct way_event *told) {
     memcpy(told->data, line->data, line->len);
 }
 
+static void tell_of_writer(const struct writer *line, struct way_event *told) {
+    told->key = line->writers->key;
+    told->end = line->has_turn;
+    told->descriptor = line->descriptor;
+    told->position = line->number;
+    told->len = line->len;
+    memcpy(told->data, line->data, line->len);
+}
+
+static void tell_said(const struct said *said, struct way_event *told) {
+    told->key = said->key;
+    told->position = said->number;
+    told->len = said->len < WAY_LINE ? said->len : WAY_LINE;
+    memcpy(told->data, said->text, told->len);
+}
+
+/* Says what an event of writers says, and frees what nobody needs any more. */
+static void tell_of_writers(enum way_news news, void *owner, struct way_event *told) {
+    if (news == WRITER_BACK) {
+        tell_of_writer(owner, told);
+        free_writer(owner);
+    } else if (news == WRITER_SAID) {
+        tell_said(owner, told);
+        free(owner);
+    } else {
+        told->key = ((const struct writers *)owner)->key;
+        free_writers(owner);
+    }
+}
+
 /* Says what an event says, and frees what nobody needs any more. */
 static void tell_event(enum way_news news, void *owner, struct way_event *told) {
     *told = (struct way_event){.news = (int)news};
-    if (news == WAY_LINE_BACK) {
+    if (news >= WRITER_BACK) {
+        tell_of_writers(news, owner, told);
+    } else if (news == WAY_LINE_BACK) {
         struct line *line = owner;
         tell_of_line(line, told);
         free(line);
@@ -237,6 +270,10 @@ static void take_orders(struct plane *plane) {
     for (way = plane->is_over ? plane->ways : NULL; way != NULL; way = way->next) {
         take_order(way, NULL, true, 0);
     }
+    take_writers_orders(plane);
+    while (plane->is_over && plane->writers != NULL) {
+        end_writers(plane->writers);
+    }
 }
 
 /* Turns. */
@@ -283,6 +320,9 @@ static void hear(struct plane *plane, void *source) {
     case SESSION:
         go_on_keeping(source);
         break;
+    case WRITER:
+        hear_writer(source);
+        break;
     }
 }
 
@@ -303,6 +343,9 @@ static void see_clocks(struct plane *plane) {
     for (struct session *session = plane->sessions, *next; session != NULL; session = next) {
         next = session->next;
         wake_by(plane, see_clock(session, now));
+    }
+    for (struct writers *writers = plane->writers; writers != NULL; writers = writers->next) {
+        wake_by(plane, see_writers_clock(writers, now));
     }
 }
 
@@ -328,7 +371,8 @@ static void leave_sessions(struct plane *plane) {
 /* Whether there is something to wait for. Where there is not, nothing more is taken. */
 static bool goes_on(struct plane *plane) {
     pthread_mutex_lock(&plane->lock);
-    plane->takes_none = plane->is_over && plane->ways == NULL && plane->sessions == NULL && plane->touched == NULL && plane->lent == NULL;
+    bool has_none = plane->ways == NULL && plane->sessions == NULL && plane->writers == NULL;
+    plane->takes_none = plane->is_over && has_none && plane->touched == NULL && plane->lent == NULL && plane->orders == NULL;
     pthread_mutex_unlock(&plane->lock);
     return !plane->takes_none;
 }

@@ -13,6 +13,7 @@ from pagelog.keeper import fast_calls, statements
 from pagelog.keeper.quick import Prepared, QuickReferee
 from pagelog.keeper.fast_calls import Event, SessionStart
 from pagelog.keeper.fast_path import FastPath
+from pagelog.keeper.fast_turns import FastTurns
 from pagelog.keeper.referee import KeeperError
 from pagelog.keeper.refusal import line_of
 from pagelog.keeper.rows import Row
@@ -88,6 +89,7 @@ class FastPlane:
         self._thread = ThreadPoolExecutor(1, "fast-path")
         self.sessions = [QuickSessionOf(self, key, make()) for key in range(most)]
         self._ways: dict[int, FastPath] = {}
+        self._turns: dict[int, FastTurns] = {}
         self._last_key = most
         self._address: int | None = None
         self._running: asyncio.Future[object] | None = None
@@ -138,6 +140,18 @@ class FastPlane:
             return None
         self.connect_more()
         return way
+
+    def turns_of(self, name: str, generation: int, ttl: float) -> FastTurns | None:
+        """Those of a database, which the thread gives from now on; None where it cannot."""
+        try:
+            self._begin()
+            self._last_key += 1
+            turns = self._turns[self._last_key] = FastTurns(
+                self, self._last_key, name, generation, ttl
+            )
+        except (MemoryError, OSError):
+            return None
+        return turns
 
     # Its sessions.
 
@@ -236,6 +250,10 @@ class FastPlane:
                 self.connect_more()
             elif event.news == fast_calls.ENDED:
                 self._ways.pop(event.key).hear(event)
+            elif event.news == fast_calls.WRITERS_ENDED:
+                self._turns.pop(event.key).hear(event)
+            elif event.key in self._turns:
+                self._turns[event.key].hear(event)
             else:
                 self._ways[event.key].hear(event)
 

@@ -124,7 +124,9 @@ class Keeper:
         self._places = Places(self.where)
         self._moving = Quota(EACH_WHERE, ALL_WHERE)
         """The answers to `where` that wait."""
-        self._turns = AllTurns(ttl=settings.ttl)
+        self._turns = AllTurns(
+            ttl=settings.ttl, fast=lambda *what: self._shared.ways.turns_of(*what)
+        )
         self._storing = self._new_storing()
         self._rival: NamedLife | None = None
         """Who had the name when it was asked for last."""
@@ -884,7 +886,7 @@ class Keeper:
             else self._shared.proving.refusal(line, database)
         )
         if not is_of_another and why is None:
-            self._turns.take(line, words, held, epoch)
+            self._turns.take(line, words, held, epoch, of)
         elif word == "turn":
             line.say(
                 *(("elsewhere", name) if why is None else ("denied", name, why.value)), *of_word(of)

@@ -222,10 +222,11 @@ class Line(asyncio.Protocol):
         if self._transport is not None:
             self._transport.close()
 
-    def lend(self) -> int | None:
+    def lend(self, *, rings: bool = True) -> int | None:
         """A descriptor of its socket, for one who reads it in place of this, and closes it; until `take_back`. None where something is left
-        to be read or written, or may not be done, or there is no descriptor to be had."""
-        transport = self._transport if self.may_ring else None
+        to be read or written, or may not be done, or there is no descriptor to be had. `rings`: that one takes a `ring` from it.
+        """
+        transport = self._transport if self.may_ring or not rings else None
         if (
             transport is None
             or transport.is_closing()

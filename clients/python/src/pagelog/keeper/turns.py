@@ -30,9 +30,13 @@ from __future__ import annotations
 import asyncio
 import time
 from collections import deque
-from typing import Callable
+from typing import TYPE_CHECKING, Callable
 
 from pagelog.keeper.lines import Key, Line
+
+if TYPE_CHECKING:
+    from pagelog.keeper.fast_turns import FastTurns
+    from pagelog.keeper.fate import Of
 
 MANY = 16
 """Turns in a row that nobody else has asked for, after which the next one is kept."""
@@ -57,7 +61,8 @@ a while until it is seen that a service stands still."""
 
 
 class Turns:
-    """Of one database, in one generation."""
+    """Of one database, in one generation. These are the rules; the thread of the fast path has them too (fast_path_turns.c), and gives the
+    turns wherever it can."""
 
     def __init__(
         self,
@@ -113,6 +118,22 @@ class Turns:
         turns = Turns(self.name, generation, self._after, was_idle=was_idle, ttl=self._ttl)
         turns._given_back = self._given_back
         return turns
+
+    def take(self, line: Line, words: list[str], epoch: int | None, of: Of | None = None) -> None:
+        """Does what a line says. `epoch` is what it says of itself; of which run all is that it says, nobody asks here."""
+        match words:
+            case ["turn", _, *how]:
+                self.ask(
+                    line,
+                    now="now" in how,
+                    mine="mine" in how,
+                    heartbeat="heartbeat" in how,
+                    slices="slices" in how,
+                )
+            case ["back", _]:
+                self.back(line, epoch)
+            case ["hold", _]:
+                self.hold(line)
 
     def ask(
         self,
@@ -297,36 +318,33 @@ class AllTurns:
     """Of the databases that a keeper holds."""
 
     def __init__(
-        self, after: Callable[..., asyncio.TimerHandle] | None = None, *, ttl: float = TTL
+        self,
+        after: Callable[..., asyncio.TimerHandle] | None = None,
+        *,
+        ttl: float = TTL,
+        fast: Callable[[str, int, float], FastTurns | None] = lambda *_: None,
     ) -> None:
-        self._after, self._ttl = after, ttl
-        self._turns: dict[str, Turns] = {}
+        """`fast` has the thread give those of a database from a generation on, with this ttl; None where it cannot."""
+        self._after, self._ttl, self._fast = after, ttl, fast
+        self._turns: dict[str, Turns | FastTurns] = {}
 
     def take(
-        self, line: Line, words: list[str], generation: int | None, epoch: int | None = None
+        self,
+        line: Line,
+        words: list[str],
+        generation: int | None,
+        epoch: int | None = None,
+        of: Of | None = None,
     ) -> None:
-        """Does what a line asks. `generation` is the one that is held here, or None; `epoch` what it says of itself."""
+        """Does what a line asks. `generation` is the one that is held here, or None; `epoch` and `of` what it says of itself."""
         word, name = words[:2]
         turns = self.changed(name, generation)
-        if turns is None:
-            if word == "turn":
-                line.say("elsewhere", name)
-            return
-        match words:
-            case ["turn", _, *how]:
-                turns.ask(
-                    line,
-                    now="now" in how,
-                    mine="mine" in how,
-                    heartbeat="heartbeat" in how,
-                    slices="slices" in how,
-                )
-            case ["back", _]:
-                turns.back(line, epoch)
-            case ["hold", _]:
-                turns.hold(line)
+        if turns is not None:
+            turns.take(line, words, epoch, of)
+        elif word == "turn":
+            line.say("elsewhere", name)
 
-    def changed(self, name: str, generation: int | None) -> Turns | None:
+    def changed(self, name: str, generation: int | None) -> Turns | FastTurns | None:
         """The turns of the generation that is held here, which begin as soon as it is known."""
         turns = self._turns.get(name)
         if generation is None:
@@ -334,10 +352,14 @@ class AllTurns:
                 self._turns.pop(name).end()
             return None
         if turns is None:
-            turns = self._turns[name] = Turns(name, generation, self._after, ttl=self._ttl)
+            turns = self._turns[name] = self._begun(name, generation)
         elif turns.generation != generation:
             turns = self._turns[name] = turns.next(generation)
         return turns
+
+    def _begun(self, name: str, generation: int) -> Turns | FastTurns:
+        fast = self._fast(name, generation, self._ttl)
+        return fast if fast is not None else Turns(name, generation, self._after, ttl=self._ttl)
 
     def expect(self, name: str, generation: int) -> None:
         """In this generation, which is held here, somebody asks for what became of another."""

@@ -1,0 +1,52 @@
+"""Of the thread that gives turns."""
+
+from plant import Plant
+
+_C, _LINES, _PY = "fast_path_turns.c", "fast_path_writers.c", "fast_turns"
+_PART, _SAME = "fast_turns", "say_what_the_rules"
+
+PLANTS = {
+    "thread, same": Plant(_C, "bool is_same = seat == turns->last,", "bool is_same = false,", _PART, _SAME),
+    "thread, epoch": Plant(_C, "turns->epoch = epoch < 0 ? turns->epoch : epoch;", "turns->epoch = epoch;", _PART, _SAME),
+    "thread, epoch of who waits": Plant(_C, "        turns->given_back = now;\n        turns->epoch = epoch < 0 ? turns->epoch : epoch;\n",
+                                        "        turns->given_back = now;\n    }\n    turns->epoch = epoch < 0 ? turns->epoch : epoch;\n    if (seat == turns->holder) {\n",
+                                        _PART, _SAME),
+    "thread, epoch of the generation before": Plant(_C, "    turns->epoch = -1;\n", "", _PART, _SAME),
+    "thread, a slice": Plant(_C, "seat->takes_slices && !is_same;", "seat->takes_slices;", _PART, _SAME),
+    "thread, a slice without a heartbeat": Plant(_C, "seat->takes_slices = has_heartbeat && ", "seat->takes_slices = ", _PART, _SAME),
+    "thread, a slice without an end": Plant(_C, "    if (is_due(turns->slice, now)) {\n        end_slice(turns, now);\n    }\n", "", _PART, _SAME),
+    "thread, a slice of the one before": Plant(_C, "turns->grace = turns->slice = 0;", "turns->grace = 0;", _PART, _SAME),
+    "thread, kept": Plant(_C, "turns->in_a_row >= MANY && turns->first == NULL", "turns->in_a_row >= MANY", _PART, _SAME),
+    "thread, kept too soon": Plant(_C, "    MANY = 16,", "    MANY = 12,", _PART, "again_and_again"),
+    "thread, the row": Plant(_C, "    turns->in_a_row = 0;\n    bool is_soon", "    bool is_soon", _PART, _SAME),
+    "thread, a grace": Plant(_C, "    } else if (turns->is_kept) {\n        turns->grace = now + GRACE;\n", "", _PART, "again_and_again"),
+    "thread, taken in a transaction": Plant(_C, "    turns->unheard = 0;\n    if (!turns->is_early) {", "    if (!turns->is_early) {", _PART, "one_that_answers_keeps"),
+    "thread, kept by a stopped one": Plant(_C, " || turns->unheard >= BEATS", "", _PART, "stands_still"),
+    "thread, kept by a dead one": Plant(_LINES, "        turns_gone(line->writers->turns, line->number, now); /* before the keeper has seen it */\n", "", _PART,
+                                        "with_its_connection_at_once"),
+    "thread, gone": Plant(_C, "    turns_back(turns, line, -1, now);\n", "", _PART, _SAME),
+    "thread, hurried": Plant(_C, "    if (!turns->is_kept) {\n        refuse_hurried(turns);\n    }\n", "", _PART, _SAME),
+    "thread, early": Plant(_C, "generation > 1 && !was_idle;", "false;", _PART, _SAME),
+    "thread, idle before": Plant(_C, "generation > 1 && !was_idle;", "generation > 1;", _PART, _SAME),
+    "thread, given back lately": Plant(_C, "turns->holder != NULL || was_lately;", "turns->holder != NULL;", _PART, _SAME),
+    "thread, expected for ever": Plant(_C, "turns->is_early && now < turns->latest", "turns->is_early", _PART, _SAME),
+    "thread, mine": Plant(_C, "bool is_first = is_mine && turns->is_early;", "bool is_first = false;", _PART, _SAME),
+    "thread, lost count": Plant(_C, "    if (seat == turns->holder) {\n        pass_on(turns, now); /*", "    if (false) {\n        pass_on(turns, now); /*", _PART, _SAME),
+    "thread, elsewhere": Plant(_C, "        tell(turns, seat, \"elsewhere\", \"\");\n    }\n    turns->last = NULL;", "    }\n    turns->last = NULL;", _PART, _SAME),
+    "thread, many of one": Plant(_C, "count += each->asker == seat->asker;", "count++;", _PART, "so_many_waits"),
+    "thread, of another run": Plant(_LINES, "        if (!is_this && more == 0 &&", "        is_this |= memcmp(word.at, \"of=\", 3) == 0;\n        if (!is_this && more == 0 &&", _PART, "no_such_word"),
+    "thread, of no run": Plant(_LINES, "if (!is_of || !(asks", "if (!(asks", _PART, "no_such_word"),
+    "thread, no epoch": Plant(_LINES, "    return at == end;\n", "    return true;\n", _PART, "no_such_word"),
+    "thread, what comes later first": Plant(_LINES, "if (heard != writers->said || ", "if (", _PART, "comes_first"),
+    "thread, lines of a generation": Plant(_LINES, "        turns_next(writers->turns, what->generation, now);\n        return_all(writers);\n",
+                                           "        turns_next(writers->turns, what->generation, now);\n", _PART, "gives_all_lines_back"),
+    "thread, idle lines": Plant(_LINES, " && turns_has(writers->turns, line->number) == 0) {", ") {", _PART, "nobody_uses"),
+    "thread, idle lines for ever": Plant(_LINES, "    if (now >= writers->looks_at) {\n        look_for_idle(writers, now);\n    }\n", "    (void)look_for_idle;\n", _PART, "nobody_uses"),
+    "thread, not lent": Plant(_PY, "if of is not None and line.version > 1 else None", "if False else None", _PART, "waits_for_no_python"),
+    "thread, keys for version 1": Plant(_PY, "Key(word) if \"=\" in word else word", "word", _PART, "told_no_keys"),
+    "thread, awaits": Plant(_PY, "        if words[:1] not in ([\"turn\"], [\"wanted\"], [\"soon\"]):\n            self._has.discard(line)\n", "", _PART, "told_no_keys"),
+    "thread, awaits for ever": Plant(_C, "        turns->say(turns->of, turns->holder->line, \"\");\n", "", _PART, "awaits_nothing"),
+    "thread, lines that are forgotten": Plant(_PY, "        if not line.is_open and line in self._numbers:\n            self.gone(line)\n", "", _PART, "with_its_connection_at_once"),
+    "thread, its end": Plant(_PY, "                for number in list(self._lent):\n                    self._take_back(number, b\"\")\n", "                pass\n", _PART, "thread_ends"),
+    "thread, without memory": Plant("fast_plane", "        except (MemoryError, OSError):\n            return None\n        return turns\n", "        except OSError:\n            return None\n        return turns\n", _PART, "without_memory"),
+}  # fmt: skip
