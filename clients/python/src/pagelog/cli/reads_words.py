@@ -8,9 +8,10 @@ from datetime import datetime
 import click
 
 from pagelog.credentials import Accounts
+from pagelog.cli.heartbeats import Heartbeats, ttl_of
 from pagelog.cli.keeper_words import Asked, named, referee_of
 from pagelog.cli.options import AGAIN, credentials_option, fail, faults
-from pagelog.cli.table_changes import Heartbeats, row_of, ttl_of
+from pagelog.cli.table_changes import row_of
 from pagelog.keeper.referee import Away, Doubt, Referee
 from pagelog.keeper.rows import PagesRow, Row
 from pagelog.pages.reads import (
