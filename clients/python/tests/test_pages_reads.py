@@ -19,7 +19,7 @@ from pagelog.errors import ConnectionLost, PagelogError, Unreachable
 from pagelog.keeper.referee import Referee
 from pagelog.keeper.rows import PagesRow
 from pagelog.keeper.table import token_of
-from pagelog.pages.following import Follower, Settings
+from pagelog.pages.following import Follower, PageServerSettings
 from pagelog.pages.process import PagesProcess
 from pagelog.pages.reads import audit_reads, let_page_servers_answer
 from pagelog.request import Operation
@@ -179,7 +179,7 @@ class Between(Apart):
         self.enterContext(patch.object(PagesProcess, "set_table", counted))
 
     def follower(self) -> Follower:
-        settings = Settings(
+        settings = PageServerSettings(
             pages_program.program(),
             self.folder,
             "127.0.0.1",

@@ -16,7 +16,7 @@ from pagelog import Put
 from pagelog.keeper.referee import Referee
 from pagelog.keeper.table import token_of
 from pagelog.keeper.ways import Way
-from pagelog.pages.following import Settings
+from pagelog.pages.following import PageServerSettings
 from pagelog.pages.process import PagesProcess, Serving
 from pagelog.pages.serving import PageServers
 from pagelog.secure import Trust
@@ -102,7 +102,7 @@ class Life(unittest.TestCase):
 
         self.enterContext(patch.object(PagesProcess, "_addresses", told))
         serving = None if self.trust is None else Serving(self.keeping.pair, None, True)  # type: ignore[attr-defined]
-        settings = Settings(
+        settings = PageServerSettings(
             pages_program.program(),
             self.keeping.folder / "stores",
             "127.0.0.1",
