@@ -150,10 +150,7 @@ impl State {
         match act {
             Act::Write { copy, block } => Ok(Outcome::done(self.write(copy, block))),
             Act::Offer { block } => Ok(Outcome::done(self.log.offer(block)?)),
-            Act::Report { lsn } => {
-                let _followed = self.report(lsn)?;
-                Ok(Outcome::done(()))
-            }
+            Act::Report { lsn } => Ok(Outcome::done(self.report(lsn)?.unwrap_or(()))),
             Act::Get {
                 page: number,
                 lsn,
