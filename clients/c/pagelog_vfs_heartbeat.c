@@ -111,6 +111,8 @@ void pagelog_stop_heartbeat(struct database *database) {
     while (*at && *at != database)
         at = &(*at)->next_heartbeat;
     if (*at) *at = database->next_heartbeat;
+    if (is_asleep) eventfd_write(woken, 1); /* a socket that it polls would stay open after a close */
+    is_asleep = false;
     pthread_mutex_unlock(&mutex);
     database->has_heartbeat = false;
 }

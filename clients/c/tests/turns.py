@@ -390,6 +390,19 @@ def test_a_turn_that_is_kept_and_unused_comes_back_at_once():
             same("all of it", 30 + (first == "read"), len(rows(connection)))
 
 
+def test_a_turn_that_is_kept_ends_with_the_last_close():
+    """Also where the thread of heartbeats waits for a word of the keeper: the next open of this process would wait for a ttl."""
+    with StubKeeper() as keeper:
+        for _ in range(3):
+            connection = named(keeper)
+            connection.execute("create table if not exists t(a, b)")
+            fill(connection, 30)
+            true("it is kept", keeper.turns._is_kept)
+            time.sleep(0.15)  # the thread sleeps by then, and not by the clock
+            connection.close()
+            until(lambda: keeper.turns._holder is None, "it is free")
+
+
 def test_an_upgrade_waits_for_a_keeper_that_does_not_answer():
     """SQLite asks no busy handler for it: the VFS does."""
     with StubKeeper() as keeper:
