@@ -1,6 +1,6 @@
 """Named databases under keepers, beside PostgreSQL's own commits and plain archiving: needs Debian's packages of clients/python/test.
 
-Usage: python3 -B bench/kept.py [--share SHARE] [--alone] [--blocks N [--pages P]] [PART ..]
+Usage: python3 -B bench/kept.py [--share SHARE] [--alone] [--tls] [--blocks N [--pages P]] [PART ..]
 (parts: commits, loop, many, archiving, kills, restore, switchover, idle; by default all)
 """
 
@@ -28,16 +28,20 @@ sys.path[:0] = [str(CLIENT / "tests"), str(CLIENT / "src")]
 import psycopg  # noqa: E402
 
 import service  # noqa: E402
+from by_tls import trust  # noqa: E402
 from keepers import Keeping, eventually, token  # noqa: E402
 from pagelog import Block, Group, Primary, Put  # noqa: E402
+from pagelog.dialing import dial  # noqa: E402
 from pagelog.keeper.ahead import pieces_of  # noqa: E402
 from pagelog.keeper.referee import Referee, digest  # noqa: E402
 from pagelog.keeper.rows import Batch  # noqa: E402
 from pagelog.keeper.run import Program  # noqa: E402
 from pagelog.keeper.served import Served  # noqa: E402
 from replicated import Pair, Server  # noqa: E402
+from secured import SecureAlone  # noqa: E402
 
 NAME = "shop"
+KINDS = Keeping, SecureAlone
 TTL = 2.0
 WRITERS = 64
 RECORD = Put(0, 0, b"x" * 80)
@@ -92,7 +96,7 @@ def apart(pair, keeper):
 @contextlib.contextmanager
 def keeping(pair, names="a", **options):
     """Keepers of a new database, which somebody serves."""
-    with Keeping(ttl=TTL, url=pair.url, audit=1 << 24, **options) as made:
+    with pair.kind(ttl=TTL, url=pair.url, audit=1 << 24, **options) as made:
         made.referee.prepare()
         made.referee.create(NAME, made.table.read_text(), b"s" * 16)
         made.start(*names)
@@ -210,12 +214,19 @@ def many_writers(kept, primary, one, count):
         )
 
 
+def line_to(place):
+    """A line to the keeper of a place."""
+    host, _, port = place.lines.rpartition(":")
+    made = dial(host, int(port), service.PATIENCE, trust())
+    made.setsockopt(socket.IPPROTO_TCP, socket.TCP_NODELAY, 1)
+    return made
+
+
 def rate_of_lines(primary, count):
     """How many commits a second all lines have answered, and how long each took. One thread has them all: 64 would measure the lock of
     the interpreter."""
     place, times, poll, began = primary.place, [], select.poll(), {}
-    host, _, port = place.lines.rpartition(":")
-    lines = [socket.create_connection((host, int(port)), service.PATIENCE) for _ in range(WRITERS)]
+    lines = [line_to(place) for _ in range(WRITERS)]
     by_number = {line.fileno(): line for line in lines}
 
     def commit(line):
@@ -303,12 +314,12 @@ class DatabaseWriter:
             token=token(2),
             operator=(1, token(1)),
             patience=service.PATIENCE,
+            trust=trust(),
         )
         self.primary.append(RECORD)
         self.primary.commit(durable=True)
         place = self.primary.place
-        host, _, port = place.lines.rpartition(":")
-        self.line = socket.create_connection((host, int(port)), service.PATIENCE)
+        self.line = line_to(place)
         self.question = f"durable {name} {place.generation} "
         self.fileno = self.line.fileno
 
@@ -430,7 +441,7 @@ def many_of(pair, count, trail, seconds):
     options = {"more": f"trail = {trail}\n"} if trail else {}
     with contextlib.ExitStack() as stack:
         kept = stack.enter_context(
-            Keeping(ttl=5.0, url=pair.url, audit=1 << 24, standby=False, **options)
+            pair.kind(ttl=5.0, url=pair.url, audit=1 << 24, standby=False, **options)
         )
         kept.referee.prepare()
         for name in names:
@@ -666,7 +677,7 @@ def commits_until_elsewhere(kept, primary, durable):
 def idle(pair, share):
     """What a keeper of many idle databases takes, with a ttl of 5 s."""
     count, period = round(100 * share), 15.0
-    with Keeping(ttl=5.0, url=pair.url, standby=False) as kept:
+    with pair.kind(ttl=5.0, url=pair.url, standby=False) as kept:
         kept.referee.prepare()
         for number in range(count):
             kept.referee.create(f"idle{number}", kept.table.read_text(), b"s" * 16)
@@ -714,6 +725,7 @@ def main():
         help="of kills and restore, as 1000000 [default: 10,000 and 100,000; 300,000]",
     )
     parser.add_argument("--pages", type=int, default=1, help="that these blocks change, by turns")
+    parser.add_argument("--tls", action="store_true", help="nobody is reached but by TLS")
     parser.add_argument("--alone", action="store_true", help="one PostgreSQL, without a standby")
     words = parser.parse_args()
     unknown = set(words.parts) - set(PARTS)
@@ -721,10 +733,11 @@ def main():
         parser.error(f"there is no part {', '.join(unknown)}")
     Server.connections = 200  # for the sessions of `many`
     pair = Alone() if words.alone else Pair()
-    pair.blocks, pair.pages = words.blocks, words.pages
+    pair.blocks, pair.pages, pair.kind = words.blocks, words.pages, KINDS[words.tls]
     try:
         print(
-            f"PostgreSQL {'without' if words.alone else 'with'} a synchronous standby on this machine; load {os.getloadavg()[0]:.1f} of {os.cpu_count()} processors"
+            f"PostgreSQL {'without' if words.alone else 'with'} a synchronous standby on this machine{', clients by TLS' * words.tls}; "
+            f"load {os.getloadavg()[0]:.1f} of {os.cpu_count()} processors"
         )
         for name in words.parts or PARTS:
             PARTS[name](pair, words.share)

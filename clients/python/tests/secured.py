@@ -2,6 +2,7 @@
 
 from __future__ import annotations
 
+import os
 import select
 import shutil
 import socket
@@ -13,9 +14,11 @@ from contextlib import contextmanager, suppress
 from pathlib import Path
 from typing import Any, Callable, Iterator
 
+from by_tls import VARIABLE, trust
 from keepers import Keeping, end_left
-from pagelog import connection, dialing, place
+from pagelog import NamedPrimary, NamedReader, connection, dialing, place
 from pagelog.keeper.front import end_fronts
+from pagelog.place import Keepers
 from pagelog.secure import Trust
 from service import PATIENCE, Port
 
@@ -246,6 +249,8 @@ def answer_of(address: str, line: str | bytes, context: ssl.SSLContext | None) -
 class Secured(Keeping):
     """Keepers with fronts; `also` are further lines of each one's [keeper]."""
 
+    tls_ports = 8
+
     def __init__(self, *, also: str = "", **options: Any) -> None:
         super().__init__(**options)
         self.certificates = Certificates()
@@ -268,7 +273,7 @@ class Secured(Keeping):
         file = self.folder / f"{name}.toml"
         file.touch(mode=0o600)
         file.write_text(
-            f'{self.file.read_text()}\ntls = "{self.pair}"\ntls_lines = "{self.secure[name].address}"\ntls_ports = 8\n{self.also}\n'
+            f'{self.file.read_text()}\ntls = "{self.pair}"\ntls_lines = "{self.secure[name].address}"\ntls_ports = {self.tls_ports}\n{self.also}\n'
         )
         return file
 
@@ -286,3 +291,32 @@ class Secured(Keeping):
     @property
     def secure_addresses(self) -> list[str]:
         return [self.secure[name].address for name in self.processes]
+
+
+class SecureAlone(Secured):
+    """Keepers that nobody reaches but by TLS, and whose clients find whom they trust in their environment."""
+
+    tls_ports = 64
+
+    def __init__(self, **options: Any) -> None:
+        super().__init__(also="plain = false", **options)
+        os.environ[VARIABLE] = str(self.certificates.ca)
+        trust.cache_clear()
+
+    def __exit__(self, *error: object) -> None:
+        super().__exit__(*error)
+        os.environ.pop(VARIABLE, None)
+        trust.cache_clear()
+
+    @property
+    def addresses(self) -> list[str]:
+        return self.secure_addresses
+
+    def keepers(self, name: str = "shop") -> Keepers:
+        return Keepers(name, self.addresses, PATIENCE, trust())
+
+    def primary(self, name: str = "shop", id: int = 2, **options: Any) -> NamedPrimary:
+        return super().primary(name, id, **{"trust": trust(), **options})
+
+    def reader(self, name: str = "shop", **options: Any) -> NamedReader:
+        return super().reader(name, **{"trust": trust(), **options})

@@ -20,11 +20,14 @@ sys.path[:0] = [str(HERE), str(HERE.parent / "src")]
 
 import psycopg  # noqa: E402
 
+from by_tls import trust  # noqa: E402
 from keepers import Keeping, new_url  # noqa: E402
 from long_runs import STOP, LongRun, is_client, text_of  # noqa: E402
 from pagelog import BelowBase, Block, PagelogError, Primary, Put, Reader  # noqa: E402
 from pagelog.keeper.bases import Bases  # noqa: E402
 from pagelog.keeper.referee import digest  # noqa: E402
+from pagelog.keeper.run import fronts_of  # noqa: E402
+from secured import SecureAlone  # noqa: E402
 from service import PATIENCE, token  # noqa: E402
 
 TTL = 1.0
@@ -32,7 +35,7 @@ LIST = 8000
 """Entries of an audit list: a succession comes every few seconds."""
 NAMES = ("shop", "ship")
 PAGES, CELL = 400, 64
-STORE = "--store"
+STORE, BY_TLS = "--store", "--tls"
 BARS = "▁▂▃▄▅▆▇█"
 
 
@@ -60,6 +63,7 @@ def write(folder: Path, name: str, addresses: list[str], rate: float) -> None:
         operator=(1, token(1)),
         patience=120.0,
         timeout=4 * TTL,
+        trust=trust(),
     )
     number, generation, last, open_commits = 0, 0, time.monotonic(), {}
     while not (stops := (folder / STOP).exists()) or open_commits:
@@ -95,6 +99,7 @@ def read(folder: Path, name: str, addresses: list[str], _: float) -> None:
         durable_only=True,
         patience=120.0,
         timeout=4 * TTL,
+        trust=trust(),
     )
     position = 1
     while not (folder / STOP).exists():
@@ -129,9 +134,11 @@ class Soak(LongRun):
         audit: int = LIST,
         picture: str = "",
         store: bool = False,
+        by_tls: bool = False,
     ) -> None:
         """It goes on for so many seconds, and until there were at least so many successions. `picture` is the file of one. With `store` blocks
-        and images go to one after a second, and what nothing names any more is deleted there."""
+        and images go to one after a second, and what nothing names any more is deleted there. `by_tls` nobody is reached otherwise, and
+        fronts are killed, too."""
         self.picture = picture
         self.seconds, self.chance, self.rate, self.least, self.audit = (
             seconds,
@@ -141,7 +148,8 @@ class Soak(LongRun):
             audit,
         )
         more = "trail = 1\n" * store
-        super().__init__(__file__, Keeping(ttl=TTL, audit=audit, url=new_url(), more=more))
+        kind = SecureAlone if by_tls else Keeping
+        super().__init__(__file__, kind(ttl=TTL, audit=audit, url=new_url(), more=more))
         self.folder = Path(tempfile.mkdtemp(prefix="pagelog-soak-")) if store else None
         if self.folder is not None:
             self.keeping.stores(self.folder, seal="64KiB", age="1s", tail="1s", grace="20s")
@@ -158,6 +166,7 @@ class Soak(LongRun):
         }
         self.commits: list[float] = []
         self.deeds: list[Callable[[], None]] = [self.kill_service, self.kill_keeper, self.kill_next]
+        self.deeds += [self.kill_front] if by_tls else []
 
     # Kills.
 
@@ -193,6 +202,13 @@ class Soak(LongRun):
         name = self.chance.choice(list(self.keeping.processes))
         self.keeping.kill(name)
         self.keeping.start(name)
+
+    def kill_front(self) -> None:
+        for front in fronts_of(
+            self.keeping.folder / self.chance.choice(list(self.keeping.processes))
+        ):
+            front.leave()
+            self.kill(front.facts.pid)
 
     # Measuring.
 
@@ -443,8 +459,8 @@ def percentiles(values: list[float]) -> str:
 def main(words: list[str]) -> int:
     if is_client(words, {"write": write, "read": read}):
         return 0
-    store = STORE in words
-    words = [word for word in words if word != STORE]
+    store, by_tls = STORE in words, BY_TLS in words
+    words = [word for word in words if word not in (STORE, BY_TLS)]
     numbers = [float(word) for word in words[:3]]
     soak = Soak(
         *(numbers[:1] or [60.0]),
@@ -453,6 +469,7 @@ def main(words: list[str]) -> int:
         audit=int(words[3]) if len(words) > 3 else LIST,
         picture="".join(words[4:5]),
         store=store,
+        by_tls=by_tls,
     )
     return soak.whole()
 

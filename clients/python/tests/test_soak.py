@@ -17,3 +17,8 @@ class Short(unittest.TestCase):
         soak = Soak(5, 2, 100.0, least=3, audit=2000, store=True)
         self.addCleanup(soak.stop)
         self.assertEqual(soak.run(), 0)
+
+    def test_and_by_tls(self) -> None:
+        soak = Soak(5, 3, 100.0, least=3, audit=2000, by_tls=True)
+        self.addCleanup(soak.stop)
+        self.assertEqual(soak.run(), 0)

@@ -44,7 +44,7 @@ from pagelog.keeper.rows import Row  # noqa: E402
 from pagelog.keeper.run import fronts_of  # noqa: E402
 from pagelog.place import Keepers  # noqa: E402
 from replicated import Pair  # noqa: E402
-from secured import Secured  # noqa: E402
+from secured import SecureAlone  # noqa: E402
 from service import PATIENCE, TOP, token  # noqa: E402
 from torture_copies import Copies, look
 from torture_processes import end_of, in_own_space, is_in_own_space
@@ -260,21 +260,6 @@ def shut(line: socket.socket) -> bool:
         return True
     except OSError:
         return False
-
-
-class SecureAlone(Secured):
-    """Keepers that nobody reaches but by TLS."""
-
-    def __init__(self, **options: object) -> None:
-        super().__init__(also="plain = false", **options)
-        os.environ[VARIABLE] = str(self.certificates.ca)  # of clients
-
-    @property
-    def addresses(self) -> list[str]:
-        return self.secure_addresses
-
-    def keepers(self, name: str = NAME) -> Keepers:
-        return Keepers(name, self.addresses, PATIENCE, trust())
 
 
 class Torture(LongRun):
