@@ -80,6 +80,7 @@ PARTS = {
     "test_looks": "looks at services, without a thread each",
     "test_fronts": "the front that speaks TLS before the services of a keeper",
     "test_secured": "keepers and clients by TLS",
+    "test_to_tls": "the steps from plain to TLS, and back, beneath writers",
     "test_tapped": "what a wiretap hears at public sockets",
     "test_runs": "a run of a service, its tokens and its process",
     "test_runner": "services that run as another user than their keeper",
@@ -114,6 +115,7 @@ PARTS = {
 }
 LONGEST = (
     "mixed",
+    "to_tls",
     "identity",
     "changes",
     "successions",
