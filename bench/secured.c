@@ -1,7 +1,7 @@
 /* Requests over so many connections of one thread, with or without TLS: how
  * long one takes, and how many a second there are.
  *
- *   secured ADDRESS status|get CONNECTIONS MILLISECONDS [CA]
+ *   secured ADDRESS status|get CONNECTIONS MILLISECONDS [CA|- [TOKEN]]
  *
  * `status`: one in flight on each connection. `get`: pages, 64 in flight on one
  * connection, or one on each of several. It prints the median of rounds in ns,
@@ -40,12 +40,15 @@ int main(int words, char **word) {
     static uint64_t took[ROUNDS];
     static uint8_t pages[AT_ONCE * PAGELOG_PAGE_BYTES];
     char why[256] = "";
-    must("secured ADDRESS status|get CONNECTIONS MILLISECONDS [CA]", words >= 5);
+    must("secured ADDRESS status|get CONNECTIONS MILLISECONDS [CA|- [TOKEN]]", words >= 5);
+    bool is_secure = words > 5 && strcmp(word[5], "-") != 0;
     size_t count = strtoull(word[3], NULL, 10), rounds = 0, each = count;
-    struct pagelog_tls_files files = {.sslrootcert = words > 5 ? word[5] : NULL};
+    struct pagelog_tls_files files = {.sslrootcert = is_secure ? word[5] : NULL};
     struct pagelog_options options = {.address = word[1], .principal = 3};
     memset(options.token, 0x33, PAGELOG_TOKEN_BYTES);
-    if (words > 5) must("the CA is read", (options.tls = pagelog_tls_new(&files, why, sizeof why)) != NULL);
+    for (size_t i = 0; words > 6 && i < PAGELOG_TOKEN_BYTES; i++)
+        must("a token", sscanf(word[6] + 2 * i, "%2hhx", &options.token[i]) == 1);
+    if (is_secure) must("the CA is read", (options.tls = pagelog_tls_new(&files, why, sizeof why)) != NULL);
     must("connections", count > 0 && count <= MOST);
     for (size_t i = 0; i < count; i++)
         must("connect", (logs[i] = pagelog_new(&options)) && pagelog_connect(logs[i]) == PAGELOG_DONE);

@@ -1,9 +1,13 @@
 """What TLS costs: a service asked straight, by way of haproxy without TLS, and with it, in turns.
 
-Usage: python3 -B bench/secured.py [ROUNDS]      (5; with PAGELOG=PROGRAM another service than crates/pagelog's)
+Usage: python3 -B bench/secured.py [ROUNDS] [keepers]      (5; with PAGELOG=PROGRAM another service than crates/pagelog's)
 
 Statuses and pages by the client in C from one thread, over one connection and over 64; SQLite's inserts; commits of the library for
-Python. Needs haproxy. Compare figures of one run alone: it prints the median of the rounds, the ratio to plain, and the load."""
+Python. Needs haproxy. Compare figures of one run alone: it prints the median of the rounds, the ratio to plain, and the load.
+
+`keepers`: the same under a keeper with a front, with and without TLS in turns, where SQLite's FULL and Python's commits are durable; then
+one front before 1,000 runs: its memory, when a run is served, and an idle connection without and with a client's certificate. It needs
+Debian's packages of clients/python/test."""
 
 from __future__ import annotations
 
@@ -19,14 +23,17 @@ from contextlib import closing
 from pathlib import Path
 
 ROOT = Path(__file__).resolve().parent.parent
-sys.path[:0] = [str(ROOT / "scripts"), str(ROOT / "clients" / "python" / "src")]
+sys.path[:0] = [
+    str(ROOT / folder) for folder in ("scripts", "clients/python/src", "clients/python/tests")
+]
 
 import pagelog  # noqa: E402
+import pagelog.place  # noqa: E402
 from rounds import in_turn  # noqa: E402
 from tls_peers import Authority  # noqa: E402
 
 CLIENT = ROOT / "clients" / "c"
-PROGRAM = os.environ.get("PAGELOG", ROOT / "crates" / "pagelog" / "out" / "pagelog")
+PROGRAM = os.environ.setdefault("PAGELOG", str(ROOT / "crates" / "pagelog" / "out" / "pagelog"))
 CONFIGURATION = """global
   maxconn 1000
   nbthread 2
@@ -73,9 +80,11 @@ def built(folder: Path) -> Path:
     return program
 
 
-def requests(program: Path, address: str, kind: str, count: int, ca: str | None) -> float:
+def requests(
+    program: Path, address: str, kind: str, count: int, ca: str | None, token: str = "3" * 32
+) -> float:
     """Seconds that a request took: the median of one connection, else one over the rate."""
-    words = [program, address, kind, count, MILLISECONDS, *([ca] if ca else [])]
+    words = [program, address, kind, count, MILLISECONDS, ca or "-", token]
     said = subprocess.run(
         list(map(str, words)), check=True, capture_output=True, text=True
     ).stdout.split()
@@ -111,8 +120,81 @@ def timed(call) -> float:  # type: ignore[no-untyped-def]
     return statistics.median(took)
 
 
+def keepers(count: int) -> None:
+    """Under a keeper, which serves both kinds of clients."""
+    from keepers import eventually
+    from pagelog.keeper.table import token_of
+    from secured import Secured
+    from service import token
+    from sqlite_named import connected
+
+    with tempfile.TemporaryDirectory() as folder, Secured(standby=False, audit=1 << 24) as kept:
+        program = built(Path(folder))
+        for name in ("lite", "notes"):
+            kept.referee.create(name, kept.table.read_text(), b"s" * 16)
+        kept.start("a")
+        eventually(lambda: kept.knows("lite") and kept.knows("notes"))
+        ca = str(kept.certificates.ca)
+        ways = {"plain": kept.addresses, "TLS": kept.secure_addresses}
+
+        def place(way: str) -> tuple[str, str]:
+            """Where the service of notes is, and a reader's token of its run."""
+            trust = pagelog.Trust(ca) if way == "TLS" else None
+            found = pagelog.place.Keepers("notes", ways[way], trust=trust).place()
+            return found.address, token_of(bytes.fromhex(token(3)), "notes", found.run).hex()
+
+        def sqlite(way: str, level: str) -> float:
+            more = {"sslrootcert": ca} if way == "TLS" else {}
+            with closing(connected(ways[way], level, name="lite", **more)) as made:
+                made.execute("create table if not exists t(x)")
+                return timed(lambda: made.execute("insert into t values (1)"))
+
+        def durable(way: str) -> float:
+            trust = pagelog.Trust(ca) if way == "TLS" else None
+            with kept.primary("notes", keepers=ways[way], trust=trust) as made:
+                put = pagelog.Put(1, 0, b"hello")
+                return timed(lambda: (made.append(put), made.commit(durable=True)))
+
+        def asked(way: str, case: tuple[str, int]) -> float:
+            address, secret = place(way)
+            return requests(program, address, *case, ca if way == "TLS" else None, secret)
+
+        durable("plain")  # there are pages
+        kinds = {
+            "Python, a durable commit": durable,
+            "SQLite, a durable insert": lambda way: sqlite(way, "full"),
+            "SQLite, an insert, normal": lambda way: sqlite(way, "normal"),
+        }
+        kinds |= {
+            what: lambda way, case=case: asked(way, case)
+            for what, case in CASES.items()
+            if what != "pages, on 64"
+        }
+        print(f"load {os.getloadavg()[0]:.0f}, {count} rounds")
+        print(f"{'under a keeper':28}{'plain, us':>10}{'TLS':>8}   (times plain's; its rate)")
+        for what, run in kinds.items():
+            found = in_turn(count, list(ways), run)
+            plain, secure = (statistics.median(found[way]) for way in ways)
+            print(
+                f"{what:28}{1e6 * plain:10.1f}{secure / plain:8.2f}{plain / secure:8.2f}",
+                flush=True,
+            )
+    print(f"load {os.getloadavg()[0]:.0f}")
+
+
+def fronts() -> None:
+    import many_fronts
+
+    for have_certificates in (True, False):
+        many_fronts.main(1000, have_certificates=have_certificates)
+
+
 def main() -> None:
-    count = int(sys.argv[1]) if len(sys.argv) > 1 else 5
+    numbers = [int(word) for word in sys.argv[1:] if word.isdecimal()]
+    count = numbers[0] if numbers else 5
+    if "keepers" in sys.argv:
+        keepers(count)
+        return fronts()
     with tempfile.TemporaryDirectory() as name:
         folder = Path(name)
         program, authority = built(folder), Authority(folder)

@@ -1,6 +1,6 @@
 """Measures the front of a keeper with many runs: its memory, and how soon a run is served. By hand.
 
-Usage: python3 -B clients/python/tests/many_fronts.py [RUNS]
+Usage: python3 -B clients/python/tests/many_fronts.py [RUNS]      (1000; clients have certificates, and then none)
 """
 
 from __future__ import annotations
@@ -39,7 +39,8 @@ def milliseconds(times: list[float]) -> str:
     return f"p50 {times[len(times) // 2]:.1f}, p99 {times[len(times) * 99 // 100]:.1f}, most {times[-1]:.1f} ms"
 
 
-def main(runs: int) -> None:
+def main(runs: int, *, have_certificates: bool) -> None:
+    """`have_certificates`: clients need one, and show it."""
     certificates, folder = Certificates(), Path(tempfile.mkdtemp(prefix="pagelog-fronts-"))
     with ExitStack() as stack:
         stack.callback(shutil.rmtree, folder)
@@ -51,7 +52,13 @@ def main(runs: int) -> None:
         port = Port()
         stack.callback(port.close)
         front = Front(
-            Tls(certificates["good"], "127.0.0.1", port.address, certificates.ca, ports=runs),
+            Tls(
+                certificates["good"],
+                "127.0.0.1",
+                port.address,
+                certificates.ca if have_certificates else None,
+                ports=runs,
+            ),
             folder,
             lambda _: None,
         )
@@ -59,10 +66,10 @@ def main(runs: int) -> None:
         front.begin()
         assert front.process is not None
         print(
-            f"{runs} ports, clients with certificates: it answers after {time.monotonic() - began:.2f} s, {front.process.memory >> 20} MiB"
+            f"{runs} ports, clients {'with' if have_certificates else 'without'} certificates: it answers after {time.monotonic() - began:.2f} s, {front.process.memory >> 20} MiB"
         )
-        led, heard, identity = [], [], "11111111-1111-4111-8111-111111111111"
-        context = certificates.context(certificates.client(identity))
+        led, heard, before, identity = [], [], 0, "11111111-1111-4111-8111-111111111111"
+        context = certificates.context(certificates.client(identity) if have_certificates else None)
         for number, each in enumerate(listeners):
             began = time.monotonic()
             front.serve(f"run{number}", f"127.0.0.1:{each.getsockname()[1]}", identity)
@@ -78,8 +85,11 @@ def main(runs: int) -> None:
             )
             assert line.recv(4) == b"here"
             heard.append(time.monotonic() - began)
+            before = before or (front.process.memory if number + 1 >= runs // 5 else 0)
+        each = (front.process.memory - before) / 1024 / (runs - max(1, runs // 5))
         print(
-            f"connect, handshake and a word: {milliseconds(heard)}; {front.process.memory >> 20} MiB with {runs} connections, one a run"
+            f"connect, handshake and a word: {milliseconds(heard)}; {front.process.memory >> 20} MiB with {runs} connections, one a run; "
+            f"{each:.1f} KiB an idle connection"
         )
         began = time.monotonic()
         front.tend()
@@ -89,4 +99,5 @@ def main(runs: int) -> None:
 
 
 if __name__ == "__main__":
-    main(int(sys.argv[1]) if sys.argv[1:] else 1000)
+    for have_certificates in (True, False):
+        main(int(sys.argv[1]) if sys.argv[1:] else 1000, have_certificates=have_certificates)
