@@ -2,7 +2,8 @@
 killed and stand still, databases change hands and generations, and PostgreSQL is restarted. After each event readers look at all of
 it. What was acknowledged is in the end compared with the ledger.
 
-Usage: kept.py SECONDS [--level full|normal] [--seed N] [--databases N] [--until N]     (so many acknowledged transactions)
+Usage: kept.py SECONDS [--level full|normal] [--seed N] [--databases N] [--until N] [--tls]     (so many acknowledged transactions; nobody is
+reached but by TLS)
 """
 
 import argparse
@@ -22,6 +23,7 @@ sys.dont_write_bytecode = True
 
 from keepers import Keeping  # noqa: E402
 from postgres import postgres  # noqa: E402
+from secured import SecureAlone  # noqa: E402
 
 PATIENCE = 600
 SHOWN_EACH = 60  # seconds
@@ -170,7 +172,7 @@ class Database:
 
 
 class Torture:
-    def __init__(self, seconds, level, seed, databases, until):
+    def __init__(self, seconds, level, seed, databases, until, by_tls=False):
         self.seconds, self.chance, self.level, self.count, self.until = (
             seconds,
             random.Random(seed),
@@ -178,7 +180,8 @@ class Torture:
             databases,
             until,
         )
-        self.keeping = Keeping(ttl=1.5, more="unproved = false\n")
+        kind = SecureAlone if by_tls else Keeping
+        self.keeping = kind(ttl=1.5, more="unproved = false\n")
         self.happened = Counter()
 
     def signal(self, pid, number):
@@ -305,8 +308,9 @@ def main():
     parser.add_argument("--seed", type=int, default=1)
     parser.add_argument("--databases", type=int, default=1)
     parser.add_argument("--until", type=int, default=0)
+    parser.add_argument("--tls", action="store_true")
     words = parser.parse_args()
-    Torture(words.seconds, words.level, words.seed, words.databases, words.until).run()
+    Torture(words.seconds, words.level, words.seed, words.databases, words.until, words.tls).run()
 
 
 if __name__ == "__main__":

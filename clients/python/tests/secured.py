@@ -257,7 +257,7 @@ class Secured(Keeping):
         self.pair = self.folder / "pair.pem"
         self.put("good")
         self.also = also
-        self.secure = {name: Port() for name in "ab"}
+        self.secure = {name: Port() for name in "abcd"}
 
     def put(self, name: str) -> None:
         """The keepers' certificate from now on, whole."""
