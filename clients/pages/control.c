@@ -134,9 +134,11 @@ static bool obey(struct control *control, const char *line) {
 
 static void say_where(const struct control *control) {
     const struct store *store = control->store;
-    fprintf(control->out, "at %llu %llu %llu %llu %u\n", (unsigned long long)store_confirmed(store),
+    const char *damage = store_damage(store);
+    fprintf(control->out, "at %llu %llu %llu %llu %u%s%s\n", (unsigned long long)store_confirmed(store),
             (unsigned long long)store_written(store), (unsigned long long)store_persisted(store),
-            (unsigned long long)store_oldest(store), server_connections(control->server));
+            (unsigned long long)store_oldest(store), server_connections(control->server), damage ? " " : "",
+            damage ? damage : "");
     fflush(control->out);
 }
 

@@ -8,7 +8,7 @@
  *
  * `pagelogctl pages` starts it, gives it the table, images and archived blocks on its standard input, and
  * ends it by closing that. It prints `listening ADDRESS`, with --secure also that one's, and then where it
- * is, after each command. */
+ * is, after each command, and what was found damaged; or `amiss WHY`, and ends. */
 #include "control.h"
 #include "shown.h"
 
@@ -32,6 +32,13 @@ struct settings {
 
 static int fail(const char *what, const char *why) {
     fprintf(stderr, "pagelog-pages: %s: %s\n", what, why);
+    return 1;
+}
+
+/* Who has started it says it. */
+static int amiss(char *why) {
+    printf("amiss %s\n", why);
+    free(why);
     return 1;
 }
 
@@ -176,7 +183,7 @@ int main(int count, char **words) {
     if (settings.secure && !(settings.server.shown = shown_new(&settings.shown, why_not, sizeof why_not)))
         return fail("TLS", why_not);
     struct store *store = store_open(&settings.store, &why);
-    if (!store) return fail(settings.store.folder, why);
+    if (!store) return amiss(why);
     settings.server.store = store;
     const char *nowhere = listen_everywhere(&settings);
     if (nowhere) return fail(nowhere, "nothing can listen there");

@@ -164,6 +164,10 @@ const char *store_why(const struct store *store) {
     return store->why ? store->why : "";
 }
 
+const char *store_damage(const struct store *store) {
+    return store->is_damaged ? store->damage : NULL;
+}
+
 bool store_is_empty(const struct store *store) {
     return !store->has_begun;
 }

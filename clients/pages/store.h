@@ -45,6 +45,8 @@ uint64_t store_persisted(const struct store *store);
 uint64_t store_oldest(const struct store *store);
 /* Why the last call of the writer failed. */
 const char *store_why(const struct store *store);
+/* Why a page or a block could not be read, the first time; NULL: all could. */
+const char *store_damage(const struct store *store);
 
 /* Whether it has nothing yet, so that it may begin with a base: images at one position. The images come
  * first, in any order; `chain` is that of all blocks up to the position. Until `store_begin_at` the store has

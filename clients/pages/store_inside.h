@@ -21,6 +21,8 @@ enum { META_BYTES = 1 + 8 + 8 + 1 + CHAIN_BYTES, META_FORMAT = 1 };
 /* After so many sets of changes of a page an image of it is made. */
 enum { IMAGE_EACH = 64, COUNTERS = 1 << 20 };
 
+enum { DAMAGE_BYTES = 512 };
+
 struct chain {
     uint8_t bytes[CHAIN_BYTES];
     size_t length; /* 0 of no blocks at all */
@@ -37,6 +39,9 @@ struct store {
     char *folder;
     _Atomic uint64_t confirmed, written, persisted, oldest;
     _Atomic uint64_t writes; /* rises with each write, after it */
+    /* Why a row could not be read first: by one thread, which has taken that upon itself. */
+    atomic_bool takes_damage, is_damaged;
+    char damage[DAMAGE_BYTES];
     /* The writer's. */
     struct chain chain; /* up to what was added */
     uint64_t added;

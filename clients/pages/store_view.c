@@ -1,6 +1,7 @@
 /* Reads a store: pages at positions, and blocks. */
 #include "store_inside.h"
 
+#include <stdio.h>
 #include <stdlib.h>
 
 /* Sets of changes behind the newest image; a page has some 64 between two of them, or more where images wait.
@@ -60,6 +61,21 @@ static rocksdb_iterator_t *fresh_rows(struct store_view *view) {
     return view->rows = rocksdb_create_iterator(view->store->db, view->options);
 }
 
+static bool is_damaged(struct store *store, const char *why) {
+    if (atomic_exchange(&store->takes_damage, true)) return true;
+    snprintf(store->damage, sizeof store->damage, "%s", why);
+    for (char *at = store->damage; *at; at++) {
+        if (*at == '\n') *at = ' ';
+    }
+    store->is_damaged = true;
+    return true;
+}
+
+/* False, as a call of the store returns it. */
+static bool is_no_row(struct store *store) {
+    return !is_damaged(store, "Corruption: a row is none of a store's");
+}
+
 static bool keep_set(struct sets *sets, const char *bytes, size_t length) {
     if (sets->count == sets->room) {
         size_t more = sets->room ? 2 * sets->room : 128;
@@ -113,21 +129,23 @@ static bool gather(struct store_view *view, rocksdb_iterator_t *rows, const uint
         size_t key_length, length;
         const char *found = rocksdb_iter_key(rows, &key_length), *value = rocksdb_iter_value(rows, &length);
         if (found[PAGE_KEY - 1] == IMAGE) {
-            if (length != PAGE_BYTES) return false;
+            if (length != PAGE_BYTES) return is_no_row(view->store);
             memcpy(out, value, PAGE_BYTES);
             return true;
         }
-        if (length == 0 || !keep_set(&view->sets, value, length)) return false;
+        if (length == 0) return is_no_row(view->store);
+        if (!keep_set(&view->sets, value, length)) return false;
         if (value[0]) return true;
     }
     return true;
 }
 
-static bool is_sound(rocksdb_iterator_t *rows) {
+static bool is_sound(struct store *store, rocksdb_iterator_t *rows) {
     char *why = NULL;
     rocksdb_iter_get_error(rows, &why);
+    bool is_good = !why || !is_damaged(store, why);
     rocksdb_free(why);
-    return why == NULL;
+    return is_good;
 }
 
 bool store_page(struct store_view *view, uint32_t page, uint64_t position, uint8_t out[PAGE_BYTES]) {
@@ -138,10 +156,10 @@ bool store_page(struct store_view *view, uint32_t page, uint64_t position, uint8
     page_key(key, page, position, IMAGE);
     rocksdb_iterator_t *rows = fresh_rows(view);
     uint64_t from = newest_row(rows, key);
-    if (hot && is_sound(rows) && hot_is_still(hot, page, from, position, out)) return true;
-    bool is_good = gather(view, rows, key, out) && is_sound(rows);
+    if (hot && is_sound(view->store, rows) && hot_is_still(hot, page, from, position, out)) return true;
+    bool is_good = gather(view, rows, key, out) && is_sound(view->store, rows);
     for (size_t n = view->sets.count; is_good && n-- > 0;)
-        is_good = apply_set(&view->sets.found[n], out);
+        is_good = apply_set(&view->sets.found[n], out) || is_no_row(view->store);
     free_sets(&view->sets);
     if (hot && is_good) hot_keep(hot, page, from, position, out);
     return is_good;
@@ -164,5 +182,5 @@ bool store_block(struct store_view *view, uint64_t *position, uint64_t last, uns
         *position = number_at(found + 1, 8);
         return true;
     }
-    return is_sound(view->blocks);
+    return is_sound(view->store, view->blocks);
 }

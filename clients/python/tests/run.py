@@ -96,6 +96,7 @@ PARTS = {
     "test_pages": "page servers beside the service",
     "test_pages_compared": "page servers beside one another",
     "test_pages_reads": "page servers of a database whose reads are audited",
+    "test_pages_rotten": "page servers whose files rot",
     "test_pages_secured": "page servers by TLS",
     "test_pages_sqlite": "SQLite at page servers",
     "test_pages_nearest": "readers beside a service that ask page servers for pages",

@@ -217,7 +217,12 @@ def _serve_metrics(servers: PageServers, serving: Serving | None, listen: str) -
     file, (host, _, port) = None if serving is None else serving.file, listen.rpartition(":")
     context = None if file is None or is_loopback(host) else ShownFile(file).context
     try:
-        bound = serve(PagesCollector(servers.states, file), host.strip("[]"), int(port), context)
+        bound = serve(
+            PagesCollector(servers.states, servers.damages, file),
+            host.strip("[]"),
+            int(port),
+            context,
+        )
     except (OSError, ValueError) as error:
         fail(f"--metrics: {listen}: {error}")
     return f"{host}:{bound}"

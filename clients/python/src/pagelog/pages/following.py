@@ -26,7 +26,14 @@ from pagelog.pages.directory import (
     oldest_kept,
     whole_from,
 )
-from pagelog.pages.process import OtherChain, PagesProcess, Serving, StoreFailed, ServedBounds
+from pagelog.pages.process import (
+    OtherChain,
+    PagesProcess,
+    Serving,
+    StoreFailed,
+    ServedBounds,
+    is_rot,
+)
 from pagelog.pages.stores import (
     MOST_ASIDE,
     SetAside,
@@ -61,6 +68,10 @@ class Gone(PagelogError):
 
 class WentBack(PagelogError):
     """PostgreSQL has another history than the page server, or less of it."""
+
+
+class Rotten(PagelogError):
+    """The disk does not give back what was written, and PostgreSQL has all of it."""
 
 
 @dataclass(frozen=True)
@@ -120,6 +131,12 @@ class Follower:
         """The digest of all that is confirmed."""
         self._was_confirmed = False
         """Whether what the store has was PostgreSQL's at some time."""
+        self._rot = self._noted = ""
+        """Why what its store has is to be made again, and what was found damaged last."""
+        self.damages = 0
+        """How often a store of it was found damaged."""
+        self._known: tuple[int, bytes] | None = None
+        """The position up to which PostgreSQL has confirmed last what its store has, and the digest of all up to there."""
         self._asides: list[dict[str, Any]] = []
         """Those of the database that were quarantined, as its row has them."""
         self._looked = self._flushed = self._pruned = float("-inf")
@@ -157,8 +174,13 @@ class Follower:
                 break
             except (WentBack, OtherChain) as error:
                 other = str(error)
+            except Rotten as error:
+                self._make_again(str(error))
+                self._ends.wait(waits.next())
             except (KeeperError, StoreFailed, OSError) as error:
                 self._say(f"it waits: {error}")
+                if isinstance(error, StoreFailed):
+                    self._note_damage(str(error))
                 self._looked = float("-inf")  # it may be another PostgreSQL that answers next
                 self._ends.wait(waits.next())
         self._bell.end()
@@ -180,8 +202,11 @@ class Follower:
         if self._has_begun:
             return
         self._look()
+        if self._rot and self._has_all():
+            raise Rotten(self._rot)
         self._fill()
         self._catch_up()
+        self._see_damage()
         assert self._process is not None
         self._has_begun = True
         if not self._is_closed:
@@ -201,9 +226,13 @@ class Follower:
         self._asides = reported(self._settings.folder, self.identity)
         self._table_number, self._chain = 0, None
         self._answers = self._is_told = False
-        self._process = self._settings.start(
-            self._store.folder(self._settings.folder), self.identity
-        )
+        folder = self._store.folder(self._settings.folder)
+        try:
+            self._process = self._settings.start(folder, self.identity)
+        except StoreFailed as error:
+            raise StoreFailed(
+                f"{folder} cannot be opened, and another is made once it is moved away: {error}"
+            ) from error
         self.address, self._was_confirmed = self._process.address, self._process.where.confirmed > 0
 
     def _is_alive(self) -> bool:
@@ -240,7 +269,7 @@ class Follower:
         one is denied there."""
         self._say(f"it begins again: {why}")
         process, store = self._process, self._store
-        self._process = None
+        self._process = self._known = None
         if process is not None:
             process.put_away()
         if store is None:
@@ -248,6 +277,47 @@ class Follower:
         self._leave()
         PageStore(self.name, self.identity, new_run()).save(self._settings.folder)
         self._set_aside(store, why, was_confirmed=self._was_confirmed)
+
+    def _note_damage(self, why: str) -> None:
+        """Counts it, once of a store. One that was opened is made again."""
+        if is_rot(why) and why != self._noted and not self._rot:
+            self._noted = why
+            self.damages += 1
+            self._rot = why if self._process is not None else ""
+
+    def _see_damage(self) -> None:
+        """To be called once PostgreSQL has confirmed all that the store has. What could not be read nobody was given."""
+        assert self._process is not None
+        damage = self._process.where.damage
+        self._note_damage(damage)
+        if self._rot:
+            raise Rotten(self._rot)
+        if damage:
+            self._say(f"something could not be read: {damage}")
+
+    def _has_all(self) -> bool:
+        """Whether PostgreSQL has all that its store ever had, by the digest of the blocks behind what was confirmed last: one that is damaged may
+        take no more of them."""
+        assert self._archived is not None
+        found, (position, chain) = self._archived, self._known or (0, b"")
+        if not 0 < position <= found.position:
+            return False
+        for piece in self._referee.blocks(found.log, position + 1, found.position):
+            chain = digest(chain, piece)
+        return chain == found.chain
+
+    def _make_again(self, why: str) -> None:
+        """As a store that is lost: nobody is answered from it any more, and it goes, which is no only copy."""
+        self._repeats.say_now(self.name, f"its store is damaged, and made again: {why}")
+        process, store, self._process = self._process, self._store, None
+        self._rot = self._noted = ""
+        self._known = None
+        if process is not None:
+            process.kill()
+        if store is not None:
+            self._leave()
+            PageStore(self.name, self.identity, new_run()).save(self._settings.folder)
+            delete(store.folder(self._settings.folder))
 
     def _set_aside(self, store: PageStore, why: str, *, was_confirmed: bool = True) -> None:
         """It may be the only copy of what PostgreSQL has lost. One of which nothing was ever confirmed is no copy, and deleted."""
@@ -304,6 +374,7 @@ class Follower:
             if is_news or time.monotonic() - self._looked >= _LOOK:
                 self._look()
                 self._catch_up()
+                self._see_damage()
             if is_news:
                 waits.reset()
             if (
@@ -336,7 +407,7 @@ class Follower:
         if digest(self._chain, blocks) != told.chain:
             return False
         self._process.add(blocks, told.chain)
-        self._chain = told.chain
+        self._chain, self._known = told.chain, (told.position, told.chain)
         return True
 
     def _told_blocks(self, log: int, first: int, last: int) -> list[bytes]:
@@ -351,6 +422,8 @@ class Follower:
 
     def _look(self) -> None:
         """Says where it is, and hears what is archived, by a statement that writes."""
+        assert self._process is not None
+        self._process.ask()
         self._archived = self._enter()
 
     def _enter(self) -> Archived:
@@ -444,6 +517,7 @@ class Follower:
             raise
         self._process.add(last, found.chain or None)
         self._was_confirmed, self._chain = True, found.chain
+        self._known = found.position, found.chain
         self._bell.lead(found.lines, found.position)
         if not self._is_audited and self._wants_table(found):
             self._set_table(found)

@@ -14,10 +14,16 @@ from pagelog.pages.process import ServedBounds
 
 
 class PagesCollector(Collector):
-    """Those of a machine: where each is, by database, and of TLS the `file` with the certificate that they show."""
+    """Those of a machine: where each is, and how many of its stores were damaged, by database, and of TLS the `file` with the certificate that
+    they show."""
 
-    def __init__(self, states: Callable[[], Mapping[str, ServedBounds]], file: Path | None) -> None:
-        self._states = states
+    def __init__(
+        self,
+        states: Callable[[], Mapping[str, ServedBounds]],
+        damages: Callable[[], Mapping[str, int]],
+        file: Path | None,
+    ) -> None:
+        self._states, self._damages = states, damages
         self._file = None if file is None else Watched(file, Pair)
 
     def collect(self) -> Iterable[Metric]:
@@ -31,7 +37,14 @@ class PagesCollector(Collector):
         for name, where in self._states().items():
             position.add_metric([name], where.confirmed)
             connections.add_metric([name], where.connections)
-        yield from (position, connections)
+        damaged = GaugeMetricFamily(
+            "pagelog_pages_damaged",
+            "How many of its stores were found damaged since this process began.",
+            labels=["name"],
+        )
+        for name, count in self._damages().items():
+            damaged.add_metric([name], count)
+        yield from (position, connections, damaged)
         if self._file is not None:
             yield from _of_certificate(self._file)
 

@@ -32,13 +32,14 @@ class OtherChain(PagelogError):
 @dataclass(frozen=True)
 class ServedBounds:
     """Pages are served up to `confirmed`, blocks are there up to `written`, a crash leaves what is up to `persisted`, and positions from
-    `oldest` on are kept."""
+    `oldest` on are kept. `damage` says why something could not be read."""
 
     confirmed: int
     written: int
     persisted: int
     oldest: int
     connections: int
+    damage: str = ""
 
 
 @dataclass(frozen=True)
@@ -180,7 +181,10 @@ class PagesProcess:
         return rest
 
     def _read_where(self) -> ServedBounds:
-        return ServedBounds(*map(int, self._line("at").split()))
+        *numbers, rest = self._line("at").split(" ", 4)
+        connections, _, damage = rest.partition(" ")
+        confirmed, written, persisted, oldest = map(int, numbers)
+        return ServedBounds(confirmed, written, persisted, oldest, int(connections), damage)
 
 
 def pieces(blocks: Sequence[bytes]) -> list[list[bytes]]:
@@ -193,6 +197,11 @@ def pieces(blocks: Sequence[bytes]) -> list[list[bytes]]:
         found[-1].append(block)
         size += len(block)
     return found
+
+
+def is_rot(why: str) -> bool:
+    """Whether a disk has given back what was not written, or nothing."""
+    return "Corruption" in why or "Input/output error" in why
 
 
 def _hex(chain: bytes) -> bytes:

@@ -51,6 +51,10 @@ class PageServers:
         found = {follower.name: follower.where for follower, _ in [*self._running.values()]}
         return {name: where for name, where in found.items() if where is not None}
 
+    def damages(self) -> dict[str, int]:
+        """How many stores of each database were found damaged."""
+        return {follower.name: follower.damages for follower, _ in [*self._running.values()]}
+
     def run(self) -> None:
         """Serves until the end."""
         with _held(self._settings.folder):
