@@ -4,7 +4,9 @@ from __future__ import annotations
 
 import base64
 import hashlib
+import socket
 import threading
+from contextlib import suppress
 from http.server import BaseHTTPRequestHandler, ThreadingHTTPServer
 from typing import Any
 from urllib.parse import parse_qs, unquote, urlsplit
@@ -28,9 +30,17 @@ class S3(ThreadingHTTPServer):
         """Whether its buckets have object lock."""
         self.holds: set[tuple[str, int]] = set()
         """Versions that have a legal hold, by path and number."""
+        self.writes_once = False
+        """Whether what has a key is never written again."""
+        self.loses = 0
+        """So many replies to puts that are done are lost."""
+        self.is_silent, self.ends_silence = False, threading.Event()
+        self.silent = 0
+        """Requests that were taken in silence: none of them is done, and who still waits at its end is hung up."""
         threading.Thread(target=self.serve_forever, daemon=True).start()
 
     def __exit__(self, *_: object) -> None:
+        self.ends_silence.set()
         self.shutdown()
         self.server_close()
 
@@ -61,11 +71,20 @@ class _Handler(BaseHTTPRequestHandler):
         parts = urlsplit(self.path)
         data = self.rfile.read(int(self.headers.get("Content-Length", 0)))
         self.server.requests.append(f"{self.command} {parts.path}")
+        if self.server.is_silent:
+            self.server.silent += 1
+            self.server.ends_silence.wait()
+            return self._hang_up()
         if self.server.answers:
             status = self.server.answers.pop(0)
             self._fail(status, "NotImplemented" if status == 501 else "ServiceUnavailable")
             return None
         return unquote(parts.path), parse_qs(parts.query, keep_blank_values=True), data
+
+    def _hang_up(self) -> None:
+        self.close_connection = True
+        with suppress(OSError):  # who asked may have
+            self.connection.shutdown(socket.SHUT_RDWR)
 
     def do_PUT(self) -> None:
         if (found := self._begin()) is None:
@@ -76,7 +95,12 @@ class _Handler(BaseHTTPRequestHandler):
         wanted = self.headers.get("Content-MD5")
         if wanted is not None and base64.b64decode(wanted) != hashlib.md5(data).digest():
             return self._fail(400, "BadDigest")
+        if self.server.writes_once and self.server.objects.get(path, [None])[-1] is not None:
+            return self._fail(412, "PreconditionFailed")
         self.server.objects.setdefault(path, []).append(data)
+        if self.server.loses:
+            self.server.loses -= 1
+            return self._hang_up()
         sse = self.headers.get("x-amz-server-side-encryption")
         self._say(
             200, **({"x_amz_server_side_encryption": sse} if sse and self.server.confirms else {})

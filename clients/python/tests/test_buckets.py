@@ -7,9 +7,13 @@ import json
 import os
 import signal
 import tempfile
+import threading
 import unittest
+from contextlib import closing
+from dataclasses import replace
 from functools import partial
 from pathlib import Path
+from types import SimpleNamespace
 from typing import Any, Callable
 from unittest.mock import patch
 
@@ -26,13 +30,17 @@ from pagelog.keeper.branching import branch
 from pagelog.keeper.holding import held_since, hold
 from pagelog.keeper.referee import Referee
 from pagelog.keeper.rows import Row
+from pagelog.keeper.storing import Storing
 from pagelog.store import legal_holds
 from pagelog.store.copying import part_of_day, verify
-from pagelog.store.place import Missing, Store, StoreAway, StoreError, store_of
-from pagelog.store.s3 import Bucket
+from pagelog.store.mover import Mover
+from pagelog.store.moving import Moving, Wish
+from pagelog.store.place import Missing, Store, StoreAway, StoreError, Taken, store_of
+from pagelog.store.s3 import TRIES, Bucket
 from pagelog.store.settings import StoreSettings
 from s3_stub import S3
-from service import put
+from service import PATIENCE, WIDE_TABLE, put
+from sqlite_named import connected
 from test_images import pages
 from test_store import SMALL, Stored, WithImages, pages_of
 
@@ -103,8 +111,14 @@ class Settings(unittest.TestCase):
         self.assertRaisesRegex(CredentialsError, "of no use", self.read, '[store]\nage = "1s"\n')
 
 
+def at_once() -> Any:
+    """The library asks again without a wait."""
+    return patch("botocore.endpoint.time", SimpleNamespace(sleep=lambda _: None))
+
+
 class Buckets(unittest.TestCase):
     def setUp(self) -> None:
+        self.enterContext(at_once())
         self.server = self.enterContext(S3())
         self.enterContext(patch.dict(os.environ, AWS))
         self.settings = StoreSettings("s3://b/prod", endpoint_url=self.server.url)
@@ -152,6 +166,28 @@ class Buckets(unittest.TestCase):
         nobody = store_of(StoreSettings("s3://b", endpoint_url="http://127.0.0.1:9"))
         self.assertRaises(StoreAway, nobody.get, "a")
 
+    def test_a_key_that_is_written_once_has_the_same_bytes_or_is_named(self) -> None:
+        self.server.writes_once = True
+        for _ in range(2):
+            self.store.put("a", b"1")
+        with self.assertRaisesRegex(Taken, "has a already, .*: its bytes are others"):
+            self.store.put("a", b"2")
+        self.assertEqual(self.server.objects["/b/prod/a"], [b"1"])
+        self.store.delete("a")
+        self.store.put("a", b"2")
+        self.assertEqual(self.store.get("a"), b"2")
+
+    def test_a_put_whose_reply_is_lost_is_repeated(self) -> None:
+        for self.server.writes_once, versions in ((False, [b"1", b"1", b"1"]), (True, [b"1"])):
+            self.server.objects.clear()
+            self.server.loses = 2
+            self.store.put("a", b"1")
+            self.assertEqual(self.server.objects["/b/prod/a"], versions)
+            self.assertEqual(self.store.get("a"), b"1")
+        self.server.writes_once, self.server.loses = False, 1 << 60
+        self.assertRaises(StoreAway, self.store.put, "b", b"2")
+        self.assertEqual(self.store.get("b"), b"2")
+
     def test_encryption_that_is_not_confirmed_is_a_fault(self) -> None:
         store = store_of(StoreSettings("s3://b", endpoint_url=self.server.url, sse="AES256"))
         store.put("a", b"1")
@@ -193,6 +229,83 @@ class Moved(Stored):
         parts = [read(partial(part_of_day, days=days, day=day)) for day in range(days)]
         whole = read(lambda _: True)
         self.assertEqual([sum(some) for some in zip(*parts)], whole)
+
+
+class Once(Stored):
+    """A mover, and a bucket that writes each key once."""
+
+    def setUp(self) -> None:
+        super().setUp()
+        self.server = self.enterContext(S3())
+        self.enterContext(patch.dict(os.environ, AWS))
+        self.settings = StoreSettings(
+            "s3://b", endpoint_url=self.server.url, seal=20_000, age=0.0, tail=0.0
+        )
+        self.store = store_of(self.settings)  # type: ignore[assignment]
+        self.server.writes_once = True
+        self.enterContext(at_once())
+        self.write(400)
+
+    def versions(self) -> set[int]:
+        return {len(versions) for versions in self.server.objects.values()}
+
+    def test_what_another_has_put_just_now_is_kept(self) -> None:
+        def put(point: str) -> None:
+            if point == "before put":
+                ready = mover._store
+                self.assertIsInstance(ready, Bucket)
+                key = next(each[2] for each in self.objects() if each[3] == 0)
+                another = self.mover()
+                row = another._open()
+                assert row is not None and row.key == key
+                another._put(row)
+
+        mover = self.mover(passing=put)
+        while mover.step():
+            pass
+        self.check()
+        self.assertEqual((self.in_postgres(), self.versions()), ([], {1}))
+
+    def test_other_bytes_there_are_named_and_nothing_is_written_over_or_cut(self) -> None:
+        first: list[str] = []
+
+        def other(point: str) -> None:
+            if point == "sealed" and not first:
+                first.append(f"/b/{self.objects()[0][2]}")
+                self.server.objects[first[0]] = [b"other bytes"]
+
+        mover = self.mover(passing=other)
+        for _ in range(3):  # and again and again
+            with self.assertRaisesRegex(Taken, "its bytes are others"):
+                while mover.step():
+                    pass
+        self.assertEqual(self.server.objects[first[0]], [b"other bytes"])
+        self.assertEqual(self.in_postgres(), [*range(1, 401)])
+        self.assertEqual(self.read(), self.made)
+        del self.server.objects[first[0]]
+        while mover.step():
+            pass
+        self.check()
+        self.assertEqual((self.in_postgres(), self.versions()), ([], {1}))
+
+    def test_where_replies_are_lost_each_object_is_put_and_read_back_before_it_is_cut(self) -> None:
+        for self.server.writes_once, is_away in ((True, False), (False, True)):
+            mover, away = self.mover(), 0
+            while True:
+                self.server.loses = 7  # more than the library asks again
+                try:
+                    if not mover.step():
+                        break
+                except StoreAway:
+                    away += 1
+                    self.assertLess(away, 20, "it is put again and again")
+                    self.assertEqual(self.read(), self.made)
+                    self.assertEqual({each[3] for each in self.objects()} - {2}, {0})
+            self.assertEqual(away > 0, is_away)
+            self.check()
+            self.assertEqual(self.in_postgres(), [])
+            self.assertEqual(self.versions(), {1} if self.server.writes_once else {1, 1 + TRIES})
+            self.write(200)
 
 
 class LegalHolds(WithImages):
@@ -361,6 +474,155 @@ class LegalHolds(WithImages):
         wanted = f"1 of {len(self.keys()) + 1} objects are missing, as {pack}"
         self.assertIn(wanted, self.said("hold", "shop", "--legal"))
         self.assertEqual(self.deleted(), set())
+
+
+class Silent(unittest.TestCase):
+    """A bucket that accepts connections and never answers. Its mover goes step by step here, beside a keeper."""
+
+    def setUp(self) -> None:
+        self.server = self.enterContext(S3())
+        self.enterContext(patch.dict(os.environ, AWS))
+        self.enterContext(at_once())
+        self.keeping = self.enterContext(Keeping(standby=False))
+        self.keeping.referee.prepare()
+        self.assertTrue(
+            self.keeping.referee.create("shop", self.keeping.table.read_text(), b"s" * 16)
+        )
+        self.keeping.start("a")
+        self.now, self.said = 1000.0, list[str]()
+        self.enterContext(
+            patch("pagelog.store.moving.time", SimpleNamespace(monotonic=lambda: self.now))
+        )
+
+    def moving(self, read: float) -> Moving:
+        settings = StoreSettings(
+            "s3://b", endpoint_url=self.server.url, seal=4096, age=0.0, tail=0.0
+        )
+        told = Storing(
+            SimpleNamespace(url=self.keeping.url, name="a", store=settings, require_standby=False),  # type: ignore[arg-type]
+            lambda name, said: self.said.append(f"{name}: {said}"),
+        )
+        made = Moving(
+            Wish(self.keeping.url, "a", settings),
+            lambda reports: told._take(json.dumps({"logs": reports}).encode()),
+        )
+        self.addCleanup(made.close)
+        with patch("pagelog.store.s3.READ", read), patch("pagelog.store.s3.TRIES", 1):
+            made._opened()
+        return made
+
+    def test_no_commit_waits_for_it(self) -> None:
+        moving = self.moving(PATIENCE)
+        with self.keeping.primary() as primary:
+            primary.append(put(0, b"<0>"))
+            primary.commit(durable=True)
+            self.server.is_silent = True
+            rounds = threading.Thread(target=self.until_away, args=(moving,))
+            rounds.start()
+            eventually(lambda: self.server.silent > 0, "a put")
+            for number in range(20):
+                primary.append(put(number, b"<%d>" % number))
+                primary.commit(durable=True)
+            self.assertTrue(rounds.is_alive(), "it has not answered")
+            self.server.is_silent = False
+            self.server.ends_silence.set()
+            rounds.join(PATIENCE)
+        self.now += 100
+        while moving.round():
+            pass
+        self.assertEqual(self.keeping.referee._ask("SELECT count(*) FROM pagelog_block"), [(0,)])
+
+    @staticmethod
+    def until_away(moving: Moving) -> None:
+        while moving.round() and not moving._last["shop"]["away"]:
+            pass
+
+    def test_it_is_asked_more_and_more_rarely_and_said_once(self) -> None:
+        moving = self.moving(0.2)
+        with self.keeping.primary() as primary:
+            primary.append(put(0, b"<0>"))
+            primary.commit(durable=True)
+        self.server.is_silent = True
+        for wait in (1, 2, 4, 8, 16, 32, 60, 60):
+            asked = self.server.silent
+            while self.server.silent == asked:
+                moving.round()
+            asked = self.server.silent
+            for self.now in (self.now, self.now + wait - 0.1):  # nothing is asked so soon
+                self.assertFalse(moving.round())
+            self.assertEqual(self.server.silent, asked, wait)
+            self.now += 0.2
+        self.assertEqual(len(self.said), 1, self.said)
+        self.assertIn(
+            "shop: what goes to the store waits: the store does not answer: ", self.said[0]
+        )
+        self.server.is_silent = False
+        while moving.round():
+            pass
+        self.assertIn("shop: blocks go to the store again: it has all up to ", self.said[-1])
+        self.assertEqual(len(self.said), 2, self.said)
+
+
+class Border(unittest.TestCase):
+    """The first blocks of SQLite's database are in the store alone, and the last ones in PostgreSQL alone."""
+
+    def setUp(self) -> None:
+        self.folder = Path(self.enterContext(tempfile.TemporaryDirectory()))
+        self.keeping = self.enterContext(Keeping(standby=False, more="trail = 1\n"))
+        self.keeping.stores(self.folder, seal="4KiB", age="1h", tail="1h")
+        self.assertTrue(self.keeping.referee.create("shop", WIDE_TABLE, b"s" * 16))
+        self.keeping.start("a")
+
+    def moved_by_half(self, half: int) -> int:
+        """What is below this position goes, as far as objects end there. The last position that PostgreSQL has no more."""
+        row, settings = self.keeping.row(), self.keeping.referee._store
+        assert settings is not None
+        mover = Mover(
+            self.keeping.referee,
+            store_of(settings),
+            row.id,
+            "shop",
+            row.identity,
+            replace(settings, tail=0.0),
+        )
+        ask = self.keeping.referee._ask
+        while True:
+            moved = ask("SELECT cut FROM pagelog_store WHERE log = %s", (row.id,))
+            [[first]] = ask("SELECT min(lsn) FROM pagelog_block WHERE log = %s", (row.id,))
+            if moved and moved[0][0] >= half and first == moved[0][0] + 1:
+                return int(moved[0][0])
+            self.assertTrue(mover.step())
+
+    def look(self, name: str) -> tuple[list[str], list[int]]:
+        """What SQLite says of it, and its rows."""
+        with closing(
+            connected(self.keeping.addresses, id=3, name=name, file=name, mode="ro")
+        ) as reader:
+            said = [row[0] for row in reader.execute("pragma integrity_check")]
+            return said, [row[0] for row in reader.execute("select n from t order by n")]
+
+    def test_sqlite_and_a_replay_read_over_it(self) -> None:
+        ends = list[int]()
+        with closing(connected(self.keeping.addresses)) as writer:
+            writer.execute("create table t(n integer primary key, x blob unique)")
+            for number in range(60):
+                writer.execute("insert into t values(?, randomblob(400))", (number,))
+                ends.append(int(writer.execute("pragma pagelog_position").fetchone()[0]))
+            archived = self.keeping.row().archived
+            cut = self.moved_by_half(ends[30])
+            self.assertTrue(ends[30] <= cut < ends[-1] <= archived, (cut, ends))
+            os.kill(self.keeping.pid(), signal.SIGKILL)  # the next one is filled from both
+            writer.execute("insert into t values(60, randomblob(400))")
+        self.assertEqual(self.look("shop"), (["ok"], [*range(61)]))
+        said = self.keeping.word("replay", "shop")
+        self.assertRegex(said, r"(?m)^list 1\b")
+        below = [n for n, end in enumerate(ends) if end <= cut][-1]
+        for n in (below - 1, below, below + 1):
+            self.keeping.word("branch", "shop", f"b{n}", "--at", ends[n])
+            eventually(
+                lambda: self.keeping.row(f"b{n}").address is not None, "its place"
+            )  # noqa: B023
+            self.assertEqual(self.look(f"b{n}"), (["ok"], [*range(n + 1)]))
 
 
 class Living(unittest.TestCase):

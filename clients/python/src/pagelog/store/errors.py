@@ -17,3 +17,7 @@ class StoreAway(StoreError):
 
 class Missing(StoreError):
     """The store has no object of this key."""
+
+
+class Taken(StoreError):
+    """The store has an object of this key already, and does not write it again."""

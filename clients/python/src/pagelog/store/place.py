@@ -20,7 +20,8 @@ class Store(Protocol):
     """The five words."""
 
     def put(self, key: str, data: bytes) -> None:
-        """Keeps the bytes under the key. What may be there already has the same bytes."""
+        """Keeps the bytes under the key. What may be there already has the same bytes. Raises `Taken` where a store that writes each key once
+        has others."""
 
     def get(self, key: str, start: int = 0, length: int | None = None) -> bytes:
         """The bytes of an object, or a part of them. Raises `Missing`."""

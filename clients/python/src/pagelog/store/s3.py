@@ -9,7 +9,7 @@ from contextlib import contextmanager, suppress
 from typing import Any, Iterator
 from urllib.parse import urlsplit
 
-from pagelog.store.errors import Missing, StoreAway, StoreError
+from pagelog.store.errors import Missing, StoreAway, StoreError, Taken
 from pagelog.store.settings import StoreSettings
 
 try:
@@ -30,6 +30,7 @@ _BUSY = (
     "RequestTimeTooSkewed",
     "OperationAborted",
 )
+_TAKEN = 412
 CONNECT, READ, TRIES = 5, 30, 3
 """Seconds after which a server that is silent is given up, and how often."""
 
@@ -74,6 +75,8 @@ class Bucket:
             status = int(error.response.get("ResponseMetadata", {}).get("HTTPStatusCode", 0))
             if code in _GONE:
                 raise Missing(f"the store has no object {key}") from error
+            if status == _TAKEN:
+                raise Taken(f"the store has {key} already, and does not write it again") from error
             kind = StoreAway if status >= 500 and status != 501 or code in _BUSY else StoreError
             raise kind(
                 f"the store refuses {key}: {code} {error.response.get('Error', {}).get('Message', '')}".strip()
@@ -89,10 +92,19 @@ class Bucket:
     def put(self, key: str, data: bytes) -> None:
         """As of any store. The server compares an MD5 of the bytes; who puts reads them back all the same."""
         digest = base64.b64encode(hashlib.md5(data, usedforsecurity=False).digest()).decode()
-        with self._asking(key):
-            said = self._client.put_object(
-                Bucket=self._bucket, Key=self._key(key), Body=data, ContentMD5=digest, **self._sse
-            )
+        try:
+            with self._asking(key):
+                said = self._client.put_object(
+                    Bucket=self._bucket,
+                    Key=self._key(key),
+                    Body=data,
+                    ContentMD5=digest,
+                    **self._sse,
+                )
+        except Taken as error:
+            if self.get(key) != data:
+                raise Taken(f"{error}: its bytes are others") from error
+            return  # as by a put whose reply was lost
         if self._sse and said.get("ServerSideEncryption") != self._sse["ServerSideEncryption"]:
             raise StoreError(
                 f"the store does not confirm that {key} is encrypted by {self._sse['ServerSideEncryption']}"
