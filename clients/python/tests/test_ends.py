@@ -264,7 +264,7 @@ class Rates(Folder):
                 committed, due = committed + 1, due + 1 / commits_a_second
 
         with self.service.operator() as operator, self.service.reader() as reader, mock.patch.object(
-            archiving, "_sleep", sleep
+            archiving, "sleep", sleep
         ):
             first = operator.count_of_entries() + 1
             Archiver(reader, self.archive()).run(

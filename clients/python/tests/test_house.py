@@ -6,6 +6,7 @@ import ast
 import unittest
 from collections import defaultdict
 from dataclasses import fields
+from functools import cache
 from pathlib import Path
 from typing import Collection, Iterator, Mapping
 
@@ -13,6 +14,7 @@ from pagelog.keeper.served import Health, Lack, RunLog, Served
 from service import PATIENCE, SOURCE
 
 
+@cache
 def sources() -> dict[str, ast.Module]:
     """Each module of the two packages, by its name."""
     found = {}
@@ -45,11 +47,17 @@ class Names(unittest.TestCase):
 
 def imported(source: ast.Module, modules: Collection[str]) -> set[str]:
     """The modules that one imports, also in a function; not what a checker of types alone sees."""
-    for node in ast.walk(source):
-        if isinstance(node, ast.If) and ast.unparse(node.test) == "TYPE_CHECKING":
-            node.body = []
+    unseen = {
+        part
+        for node in source.body
+        if isinstance(node, ast.If) and ast.unparse(node.test) == "TYPE_CHECKING"
+        for each in node.body
+        for part in ast.walk(each)
+    }
     found = set()
     for node in ast.walk(source):
+        if node in unseen:
+            continue
         if isinstance(node, ast.Import):
             found |= {each.name for each in node.names}
         elif isinstance(node, ast.ImportFrom) and node.module is not None:
@@ -77,8 +85,9 @@ def cycles(graph: Mapping[str, set[str]]) -> list[list[str]]:
 
 class Imports(unittest.TestCase):
     def setUp(self) -> None:
-        found = sources()
-        self.graph = {name: imported(source, found) - {name} for name, source in found.items()}
+        self.graph = {
+            name: imported(source, sources()) - {name} for name, source in sources().items()
+        }
 
     def test_no_module_imports_itself_by_others(self) -> None:
         """But for what makes the client of a named database, which is asked of the plain one: `Primary.named`, `Reader.named`."""

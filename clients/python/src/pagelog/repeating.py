@@ -11,6 +11,8 @@ EVERY = 60.0
 _MOST = 4096
 """Kinds of sentences that are remembered: the oldest goes first."""
 _NUMBER = re.compile(r"\d+")
+_STEP = 0.2
+"""Seconds after which one who waits sees that it is to stop."""
 
 
 class Backoff:
@@ -70,3 +72,10 @@ class Repeats:
         if len(self._said) > _MOST:
             del self._said[next(iter(self._said))]
         self._say(kind[0], sentence)
+
+
+def sleep(seconds: float, stop: Callable[[], bool]) -> None:
+    """Waits so long, and less where it is to stop."""
+    deadline = time.monotonic() + seconds
+    while (left := deadline - time.monotonic()) > 0 and not stop():
+        time.sleep(min(left, _STEP))

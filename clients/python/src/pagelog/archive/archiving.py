@@ -2,7 +2,6 @@
 
 from __future__ import annotations
 
-import time
 from typing import Callable, Sequence
 
 from pagelog.archive import Archive
@@ -10,7 +9,7 @@ from pagelog.block import Block
 from pagelog.comparing import PULLS, OtherLog, Progress, all_blocks, compare, no_progress, whole
 from pagelog.errors import ConnectionLost, LogWentBack
 from pagelog.reader import Reader
-from pagelog.repeating import Backoff
+from pagelog.repeating import Backoff, sleep
 from pagelog.request import PULL_MAX
 
 _TRIES = 8
@@ -157,12 +156,5 @@ class Archiver:
             if len(batch) < PULLS * PULL_MAX and (follow or not batch):
                 if batch:
                     waits.reset()
-                _sleep(idle / 4 if batch else waits.next(), stop)
+                sleep(idle / 4 if batch else waits.next(), stop)
         return self.archived
-
-
-def _sleep(seconds: float, stop: Callable[[], bool]) -> None:
-    """Waits so long, and less where it is to stop."""
-    deadline = time.monotonic() + seconds
-    while (left := deadline - time.monotonic()) > 0 and not stop():
-        time.sleep(min(left, 0.25))

@@ -15,6 +15,7 @@ from pagelog.archive.archiving import Archiver
 from pagelog.audit_list import MOST_ENTRIES, AuditRoom
 from pagelog.client import Client
 from pagelog.credentials import Accounts
+from pagelog.cli.losses import Losses, warn
 from pagelog.cli.options import (
     LIST_FULL,
     NOT_YET,
@@ -24,21 +25,15 @@ from pagelog.cli.options import (
     db_option,
     fail,
     faults,
-    first_line_of,
-    is_lost_archive,
-    is_of_the_archive,
     json_option,
     stopping,
     url_of,
     url_options,
 )
-from pagelog.errors import ConnectionLost, OutOfMemory, Unreachable
 from pagelog.fencing import ListGuard
 from pagelog.operator import Operator
 from pagelog.reader import Reader
-from pagelog.repeating import Backoff, Repeats
 from pagelog.request import Role
-from pagelog.rules import UnknownPrincipal
 from pagelog.tables import TableText
 
 
@@ -112,7 +107,7 @@ def archive_word(
                 archiver,
                 fence_at=fence_at or 0,
                 table=fence if fence_at else None,
-                warn=_warn,
+                warn=warn,
             )
         stop = stack.enter_context(stopping())
         if follow:
@@ -126,11 +121,7 @@ def archive_word(
     sys.exit(LIST_FULL if guard is not None and guard.fenced is not None else 0)
 
 
-LONGEST = 2.0
-"""Seconds between two tries where the service or the archive stays away. As long a stop may be waited for."""
-
-
-class ArchiveFollower:
+class ArchiveFollower(Losses):
     """Follows until it is stopped or the database is fenced, however often the service or the archive is lost for a moment."""
 
     def __init__(
@@ -141,6 +132,7 @@ class ArchiveFollower:
         guard: ListGuard | None = None,
         as_json: bool = False,
     ) -> None:
+        super().__init__(self._were_let_in)
         self.archiver = archiver
         self.idle = idle
         self.stop = stop
@@ -151,7 +143,6 @@ class ArchiveFollower:
         """Whether it waits to be let in again."""
         self._told = (-1, -1)
         self._told_at = 0.0
-        self._waits, self._repeats = Backoff(0.25, LONGEST), Repeats(lambda _, text: _warn(text))
 
     def run(self) -> None:
         """Archives until it is told to end, or until the database is fenced and all of it is archived."""
@@ -160,25 +151,17 @@ class ArchiveFollower:
 
     def follow(self) -> None:
         """Follows until it is to end, or until the service or the archive is lost."""
-        try:
-            self.archiver.resume()
-            if not self._is_fenced():
-                self.archiver.run(follow=True, idle=self.idle, told=self.tell, stop=self._ends)
-            if self._is_fenced():
-                self.archiver.run(follow=False, told=self.tell, stop=self.stop)
-                self._has_all = True
-        except (ConnectionLost, Unreachable, OutOfMemory) as error:
-            self._wait(f"service: {error}")
-        except UnknownPrincipal:
-            if not self._was_let_in():
-                raise
-            self._wait_to_be_let_in()
-        except Exception as error:
-            if not is_of_the_archive(error) or not is_lost_archive(error):
-                raise
-            self._wait(f"archive: {first_line_of(error)}")
+        self.bear(self._follow)
 
-    def _was_let_in(self) -> bool:
+    def _follow(self) -> None:
+        self.archiver.resume()
+        if not self._is_fenced():
+            self.archiver.run(follow=True, idle=self.idle, told=self.tell, stop=self._ends)
+        if self._is_fenced():
+            self.archiver.run(follow=False, told=self.tell, stop=self.stop)
+            self._has_all = True
+
+    def _were_let_in(self) -> bool:
         """Whether all were let in before, by this service or an earlier one; an operator only if it is to fence."""
         fences = self.guard is not None and self.guard.table is not None
         return all(
@@ -191,14 +174,14 @@ class ArchiveFollower:
             *([self.guard.room.operator] if self.guard is not None else []),
         ]
 
-    def _wait_to_be_let_in(self) -> None:
-        """The service was restarted. What was seen of the one before, and not archived, is lost with that."""
+    def be_denied(self) -> None:
+        """The service was restarted, which is said once. What was seen of the one before, and not archived, is lost with that."""
         if not self._is_denied:
-            _warn(NOT_YET)
+            warn(NOT_YET)
         self._is_denied = True
         for client in self._clients():
             client.forget()
-        time.sleep(self._waits.next())
+        self.rest()
 
     def _is_fenced(self) -> bool:
         return self.guard is not None and self.guard.fenced is not None
@@ -209,14 +192,10 @@ class ArchiveFollower:
     def tell(self, archived: int, hard: int) -> None:
         """At most one line a second, and none where it is the last one again."""
         self._is_denied = False
-        self._waits.reset()
+        self.end()
         if (archived, hard) != self._told and time.monotonic() - self._told_at >= 1:
             self._told, self._told_at = (archived, hard), time.monotonic()
             _tell(archived, hard, self.as_json)
-
-    def _wait(self, text: str) -> None:
-        self._repeats.say("", f"{text}; trying again")
-        time.sleep(self._waits.next())
 
 
 def _tell(archived: int, hard: int, as_json: bool) -> None:
@@ -226,7 +205,3 @@ def _tell(archived: int, hard: int, as_json: bool) -> None:
         else f"archived {archived} of {hard}"
     )
     sys.stdout.flush()
-
-
-def _warn(text: str) -> None:
-    click.echo(f"pagelogctl: {text}", err=True)

@@ -25,6 +25,7 @@ from pagelog.cli.options import (
 from pagelog.cli.side_by_side import Task, look_at_all
 from pagelog.cli.watch import WatchedLook, Watch
 from pagelog.request import Role
+from pagelog.repeating import sleep
 
 if TYPE_CHECKING:
     from rich.console import Console
@@ -265,12 +266,7 @@ def _screens(
             shown += 1
             if count and shown >= count:
                 return
-            if pressed_q(interval) if live is not None else _sleep(interval, stop):
+            if live is None:
+                sleep(interval, stop)
+            elif pressed_q(interval):
                 return
-
-
-def _sleep(seconds: float, stop: Callable[[], bool]) -> bool:
-    deadline = time.monotonic() + seconds
-    while (left := deadline - time.monotonic()) > 0 and not stop():
-        time.sleep(min(0.2, left))
-    return False

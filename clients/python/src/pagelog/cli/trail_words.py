@@ -17,11 +17,10 @@ from pagelog.archive import Archive, NoArchive
 from pagelog.block import Block
 from pagelog.connection import Connection
 from pagelog.credentials import FILE_VARIABLE, Accounts, load
-from pagelog.cli.archive_words import LONGEST
 from pagelog.cli.audit_words import entry_fields, entry_line
 from pagelog.cli.export_words import export_lists, folder_of
+from pagelog.cli.losses import Losses
 from pagelog.cli.options import (
-    NOT_YET,
     URL_VARIABLE,
     _url,
     bar,
@@ -30,24 +29,19 @@ from pagelog.cli.options import (
     db_option,
     fail,
     faults,
-    first_line_of,
-    is_lost_archive,
-    is_of_the_archive,
     json_option,
     stopping,
     timeout,
     tls_words,
     url_of,
 )
-from pagelog.errors import ConnectionLost, OutOfMemory, PagelogError, Unreachable
+from pagelog.errors import PagelogError
 from pagelog.following import NamedAccount
 from pagelog.keeping import all_blocks, compare
 from pagelog.operator import Operator
 from pagelog.place import Keepers
 from pagelog.reader import Reader
-from pagelog.repeating import Backoff, Repeats
 from pagelog.request import Operation, Role
-from pagelog.rules import UnknownPrincipal
 from pagelog.trail.keeper import TrailKeeper
 from pagelog.trail.logs import Log, log_of
 from pagelog.trail.pages import compare_pages
@@ -165,7 +159,7 @@ def record_word(
         Operator, accounts, db
     ) as operator:
         keeper = TrailKeeper(operator, trail, start=start)
-        tell = _Told(trail)
+        tell = _Told(trail, lambda: keeper.operator.was_let_in)
         try:
             with stopping() as stop:
                 keeper.step()
@@ -173,19 +167,20 @@ def record_word(
                     keeper.give_table(text.read_bytes())
                 if not follow:
                     keeper.run(follow=False, keep=keep, told=tell, stop=stop, pruning=tell.pruning)
-                while follow and not stop():
-                    _follow(
-                        keeper,
-                        tell,
-                        lambda: keeper.run(
-                            follow=True,
-                            idle=idle,
-                            keep=keep,
-                            told=tell,
-                            stop=stop,
-                            pruning=tell.pruning,
-                        ),
+
+                def goes_on() -> None:
+                    keeper.resume()
+                    keeper.run(
+                        follow=True,
+                        idle=idle,
+                        keep=keep,
+                        told=tell,
+                        stop=stop,
+                        pruning=tell.pruning,
                     )
+
+                while follow and not stop():
+                    tell.bear(goes_on)
             _seal(trail)
         finally:
             for one in trail.lists()[-1:]:
@@ -194,37 +189,13 @@ def record_word(
             stop.end()
 
 
-def _follow(keeper: TrailKeeper, tell: _Told, run: Callable[[], int]) -> None:
-    """Follows until it is stopped, or until the service or the archive is lost for a moment, or the service waits for its restore."""
-    try:
-        keeper.resume()
-        run()
-    except (ConnectionLost, Unreachable, OutOfMemory) as error:
-        tell.wait(f"service: {error}; trying again")
-    except UnknownPrincipal:
-        if not keeper.operator.was_let_in:
-            raise
-        tell.wait(NOT_YET)
-    except Exception as error:
-        if not is_of_the_archive(error) or not is_lost_archive(error):
-            raise
-        tell.wait(f"archive: {first_line_of(error)}; trying again")
-
-
-class _Told:
+class _Told(Losses):
     """Says how far the trail is and seals what was archived, once a minute, and when a new list begins; and why it waits, once a minute."""
 
-    def __init__(self, trail: Trail) -> None:
+    def __init__(self, trail: Trail, was_let_in: Callable[[], bool]) -> None:
+        super().__init__(was_let_in)
         self._trail = trail
         self._run, self._last = 0, 0.0
-        self._waits, self._repeats = Backoff(0.25, LONGEST), Repeats(
-            lambda _, text: click.echo(f"pagelogctl: {text}", err=True)
-        )
-
-    def wait(self, text: str) -> None:
-        """Says why, once a minute, and waits before the next try."""
-        self._repeats.say("", text)
-        time.sleep(self._waits.next())
 
     def pruning(self, before: int) -> None:
         """Says which lines go, before they do. It does not ask: --keep says so each time, also where nobody is at a terminal."""
@@ -235,7 +206,7 @@ class _Told:
             )
 
     def __call__(self, one: TrailList) -> None:
-        self._waits.reset()
+        self.end()
         if one.run != self._run or time.monotonic() - self._last >= 60:
             _seal(self._trail)
             _say_recorded(one)

@@ -8,7 +8,7 @@ from typing import Callable, Sequence
 
 from pagelog.errors import AuditListFull, ConnectionLost, LogWentBack
 from pagelog.operator import Operator
-from pagelog.repeating import Backoff
+from pagelog.repeating import Backoff, sleep
 from pagelog.reply import Entry, encode_entry
 from pagelog.request import AUDIT_MAX, Operation
 from pagelog.trail.question import entries_of
@@ -214,11 +214,5 @@ class TrailKeeper:
                     break
                 if not step.is_own:
                     waits.reset()
-                self._sleep(waits.next() if step.is_own else min(QUICKEST, idle), stop)
+                sleep(waits.next() if step.is_own else min(QUICKEST, idle), stop)
         return self._list.kept if self._list else 0
-
-    @staticmethod
-    def _sleep(seconds: float, stop: Callable[[], bool]) -> None:
-        ends = time.monotonic() + seconds
-        while not stop() and (left := ends - time.monotonic()) > 0:
-            time.sleep(min(left, 0.2))
