@@ -26,7 +26,7 @@ from pagelog import Block, Put
 from pagelog.cli.drop_words import _drop_named
 from pagelog.cli.words import pagelogctl
 from pagelog.keeper.bases import NOTHING, Base, Bases, make_base
-from pagelog.keeper.basing import BaseWish as BaseWish
+from pagelog.keeper.basing import BaseWish
 from pagelog.keeper.history import begin_again, extent_of, position_at
 from pagelog.keeper.holding import hold, let_go
 from pagelog.keeper.images import MARK, Replay
@@ -1198,8 +1198,8 @@ class Memory(WithImages):
             self.url, self.row.id, self.kept.archived, self.kept.chain.hex(), None, self.settings
         )
         program = """
-from pagelog.keeper.basing import Wish, make
-wish, before = Wish.read(sys.argv[1]), peak()
+from pagelog.keeper.basing import BaseWish, make
+wish, before = BaseWish.read(sys.argv[1]), peak()
 make(wish)
 print(before, peak())
 """
@@ -1214,9 +1214,9 @@ print(before, peak())
         self.assertEqual((self.in_postgres(), self.here()), ([], []))
         program = """
 from pagelog.keeper.bases import Bases
-from pagelog.keeper.basing import Wish
+from pagelog.keeper.basing import BaseWish
 from pagelog.keeper.referee import Referee
-wish, before = Wish.read(sys.argv[1]), peak()
+wish, before = BaseWish.read(sys.argv[1]), peak()
 bases = Bases(Referee(wish.url, store=wish.store), wish.log)
 for image in bases.images(bases.newest(wish.archived)):
     pass
@@ -1250,8 +1250,8 @@ print(before, peak())
             self.url, self.row.id, self.kept.archived, self.kept.chain.hex(), None, self.settings
         )
         program = """
-from pagelog.keeper.basing import Wish, make
-wish, before = Wish.read(sys.argv[1]), peak()
+from pagelog.keeper.basing import BaseWish, make
+wish, before = BaseWish.read(sys.argv[1]), peak()
 make(wish)
 print(before, peak())
 """

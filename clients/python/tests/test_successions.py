@@ -39,7 +39,7 @@ from service import IS_LONG, PATIENCE, token
 CUTTING = Path(__file__).resolve().parent / "cutting.py"
 SHORT = """import pathlib, pagelog.reader
 from pagelog.errors import OutOfMemory
-from pagelog.keeper.archiver import Archiver
+from pagelog.keeper.archiver import RunArchiver
 from pagelog.keeper.fast_plane import FastPlane
 
 def ring(self):
@@ -61,7 +61,7 @@ def few(self, starts, *rest, most=16, **how):
 
 mark, span, way = pathlib.Path({!r}), pagelog.reader.Reader._span_of, FastPlane.way_of
 pagelog.reader.Reader._span_of, FastPlane.way_of = few, way_of
-rang, Archiver.ring = Archiver.ring, ring
+rang, RunArchiver.ring = RunArchiver.ring, ring
 import pagelog.__main__
 """
 """A keeper that gets no memory for pulls of more than one block of the service whose address is in a file."""
