@@ -4,17 +4,18 @@ A keeper runs on each machine, as `pagelogctl keep`. It starts services, archive
 named database is and how far it is durable, and takes over what another keeper has let go of.
 
     schema      the tables of the referee
-    referee     every statement: who holds a database, what is archived; the longer ones are in `statements`, and `refusal` says
-                what an error means
+    referee     every statement: who holds a database, what is archived; the longer ones are in `statements`, `refusal` says what an
+                error means, and `errors` has what can go wrong
     rows        what the referee knows; `batches` makes values of a statement of it
     session     the event loop's way to a referee
-    table       the table and the tokens of one run of a service; `sealed` is how they lie in PostgreSQL, `grants` who may see it
+    table       the table of one run of a service, whose tokens clients make too; `sealed` is how they lie in PostgreSQL, `grants` who may
+                see it
     run         one process of a service, its files, its adoption; their folder is locked by `folder`
     runner      has services run as another user, by runner_process; `unix` has sockets by paths
     loading     fills a service from the archive, as frames
     machine     what a keeper decides, without any IO
     looker      looks at a service in the event loop
-    served      a service that this keeper has, and what is asked of it
+    served      a service that this keeper has, what is known of it, and what is asked of it
     fast_path   archives what is hardened, in a thread of C: fast_plane is that thread and its sessions (`quick`), fast_path_plane.c
                 its loop, fast_path_service.c pulls, fast_path_statement.c keeps, fast_path_lines.c answers
     archiver    begins that for a database, and sees to what it leaves; doubts looks up what became of a batch
