@@ -53,6 +53,32 @@ enum pagelog_outcome pagelog_add_origin(struct pagelog_file *file) {
                               (uint16_t)(SEED_BYTES + 1 + length));
 }
 
+/* Origins of others, which come again and again where several write: their codes are not computed anew. */
+enum { MOST_KNOWN = 16 };
+
+struct known {
+    uint64_t session; /* the code of */
+    size_t length;    /* the first so many bytes; 0: of none */
+    uint8_t bytes[SEED_BYTES + 1 + TEXT_BYTES];
+};
+
+static _Thread_local struct known known[MOST_KNOWN];
+static _Thread_local unsigned next_known;
+
+/* Whether the session is the code of an origin of so many bytes. */
+static bool is_session_of(uint64_t session, const uint8_t *bytes, size_t length) {
+    for (size_t i = 0; i < MOST_KNOWN; i++)
+        if (known[i].session == session && known[i].length == length &&
+            memcmp(known[i].bytes, bytes, length) == 0)
+            return true;
+    size_t text = SEED_BYTES + 1;
+    if (session_of(bytes, (const char *)bytes + text, length - text) != session) return false;
+    struct known *one = &known[next_known++ % MOST_KNOWN];
+    *one = (struct known){.session = session, .length = length};
+    memcpy(one->bytes, bytes, length);
+    return true;
+}
+
 /* Reads it; false where it is not that of the mark. */
 static bool read_origin(const uint8_t *bytes, const struct mark *mark, struct origin *origin) {
     size_t length = bytes[SEED_BYTES];
@@ -66,7 +92,7 @@ static bool read_origin(const uint8_t *bytes, const struct mark *mark, struct or
         return false;
     snprintf(origin->database, sizeof origin->database, "%.*s", (int)(slash - text), text);
     snprintf(origin->run, sizeof origin->run, "%s", slash + 1);
-    return session_of(bytes, text, length) == mark->session;
+    return is_session_of(mark->session, bytes, SEED_BYTES + 1 + length);
 }
 
 bool pagelog_has_origin(const uint8_t *page, const struct mark *mark) {

@@ -29,17 +29,17 @@ def page_of(generation):
         return asker.page(0, asker.status()[2])
 
 
-def entered(generation, of=None):
+def entered(generation, of=None, seed=None, made_for=None):
     """A transaction at the end of a generation, as one of another writer: of an older one where it does not say for which database and run.
-    Its position."""
+    Its session is made for that, or for another. Its position."""
     with generation.asker(wire.SECONDARY) as asker:
         _, primary, end = asker.status()
         page = asker.page(0, end)
     if primary != KEEPER:
         with generation.asker(wire.OPERATOR) as operator:
             operator.failover(KEEPER)
-    seed, text = os.urandom(16), (of or "").encode()
-    session = hmac.new(seed, text, hashlib.sha256).digest()[:8]
+    seed, text = seed or os.urandom(16), (of or "").encode()
+    session = hmac.new(seed, (made_for or of or "").encode(), hashlib.sha256).digest()[:8]
     position = (end + 1 + generation.shift).to_bytes(8, "big")
     mark = (
         page[:8]
@@ -145,6 +145,24 @@ def test_a_mark_of_another_database_is_refused():
                     ("SQLITE_CANTOPEN", f"pagelog: {why}"),
                     (error.sqlite_errorname, str(error)),
                 )
+
+
+def test_an_origin_that_is_known_is_known_by_all_of_it():
+    """A session of another text than it was made for says nothing, as one of an older client."""
+    with StubKeeper() as keeper:
+        connection, reader = named(keeper), named(keeper, 3, mode="ro")
+        connection.execute("create table t(a, b)")
+        reader.execute("pragma pagelog_check = 0")
+        same("before", [], rows(reader))
+        connection.close()
+        seed, own = os.urandom(16), f"{DATABASE}/run1"
+        for more in {"seed": seed}, {}, {"seed": seed}, {}:
+            entered(keeper.now, own, **more)
+            same("of this database", ([], own), (rows(reader), origin(reader)))
+        entered(keeper.now, f"{OTHER}/run1", seed, own)
+        same("it does not say", ([], ""), (rows(reader), origin(reader)))
+        entered(keeper.now, f"{OTHER}/run1", seed)
+        refused(keeper, lambda: rows(reader))
 
 
 def test_a_copy_has_the_marks_of_what_it_was_copied_from():

@@ -49,4 +49,6 @@ PLANTS = {
     "thread, lines that are forgotten": Plant(_PY, "        if not line.is_open and line in self._numbers:\n            self.gone(line)\n", "", _PART, "with_its_connection_at_once"),
     "thread, its end": Plant(_PY, "                for number in list(self._lent):\n                    self._take_back(number, b\"\")\n", "                pass\n", _PART, "thread_ends"),
     "thread, without memory": Plant("fast_plane", "        except (MemoryError, OSError):\n            return None\n        return turns\n", "        except OSError:\n            return None\n        return turns\n", _PART, "without_memory"),
+    "origins, by the code alone": Plant("c/pagelog_origin.c", "known[i].length == length &&\n            memcmp(known[i].bytes, bytes, length) == 0)",
+                                        "known[i].length == length)", "c/origins", "known_by_all"),
 }  # fmt: skip
