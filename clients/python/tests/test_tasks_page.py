@@ -21,7 +21,8 @@ from test_postgresql_page import Paged
 
 PAGE = (TOP / "docs" / "TASKS.md").read_text()
 BLOCKS = re.findall(r"^```sh\n(.*?)^```", PAGE, flags=re.M | re.S)
-_, KEEPER, SQL, INSERT, THEN, ROWS, GONE, DROP, BACKUP, DELETE, FORGET, CANCEL = BLOCKS
+_, KEEPER, SQL, INSERT, THEN, ROWS, GONE, DROP, *_more = BLOCKS
+BACKUP, IMPORT, DELETE, FORGET, CANCEL = _more
 
 
 class FromNothing(unittest.TestCase):
@@ -53,7 +54,13 @@ class FromNothing(unittest.TestCase):
             + INSERT
             + INSERT.replace("create table item(name, price); ", "")
             + BACKUP
+            + IMPORT.replace(
+                "sql shop\n", "sql shop\necho 'select amount from stock;' | sql shop\n", 1
+            )
+            + "echo 'select count(*) from sqlite_schema, item;' | sql shop\n"
         ).replace("7500", str(port.number))
+        with closing(sqlite3.connect(folder / "old.db")) as old:
+            old.executescript("create table stock(amount); insert into stock values ('7 loaves');")
         self.addCleanup(end_services, folder)
         try:
             with (folder / "said").open("w+") as said:
@@ -75,6 +82,9 @@ class FromNothing(unittest.TestCase):
                 eventually(lambda: not Path(f"/proc/{keeper}").exists(), "the keeper's end")
         self.assertEqual(done.returncode, 0, text)
         self.assertEqual(text.count("bread|3"), 3, text)  # the first sees one, the second two
+        self.assertEqual(
+            text.splitlines()[-2:], ["7 loaves", "2"], text
+        )  # `.restore` took stock away
         with closing(sqlite3.connect(folder / "copy.db")) as copy:
             self.assertEqual(copy.execute("SELECT * FROM item").fetchall(), [("bread", 3)] * 2)
 
@@ -115,6 +125,8 @@ class Tasks(Paged):
             shop.execute("DROP TABLE item")
         self.run_printed(SQL + GONE, **preload)
         with closing(connected(self.keeping.addresses, mode="ro", id=3)) as shop:
+            names = shop.execute("SELECT name FROM sqlite_master ORDER BY name").fetchall()
+            self.assertEqual(names, [("item",), ("item_by_name",), ("item_now",)])
             self.assertEqual(
                 shop.execute("SELECT * FROM item").fetchall(),
                 [("bread", 3), ("milk", 2), ("salt", 1)],
