@@ -870,7 +870,11 @@ class Runbook(Changing):
         )
         (programs / "pagelogctl").chmod(0o755)
         (self.keeping.folder / "keeper.toml").symlink_to(self.keeping.file)
-        self.environment = {**self.keeping.environment, "PATH": f"{programs}:{os.environ['PATH']}"}
+        self.environment = {
+            **self.keeping.environment,
+            "PATH": f"{programs}:{os.environ['PATH']}",
+            "GOOD": "0",
+        }
 
     def run_block(self, block: str) -> str:
         done = subprocess.run(

@@ -367,7 +367,7 @@ class Moves(Paged):
             primary.append(Put(1, 0, b"1"))
             self.assertEqual(primary.commit(), 1)  # nobody waits for it
             self.keeping.referee.close()
-            self.run_printed(block, NEW=self.new)
+            self.run_printed(block, NEW=self.new, KEEPERS=self.new)
             self.keeping.url, self.keeping.referee = self.new, Referee(self.new)
             primary.append(Put(2, 0, b"2"))
             self.assertEqual(primary.commit(durable=True), 2)
