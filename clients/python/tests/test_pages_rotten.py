@@ -14,7 +14,7 @@ from keepers import eventually
 from pagelog import Connection, Credentials, Reader
 from pagelog.errors import ConnectionLost, Unreachable
 from pagelog.keeper.referee import digest
-from pagelog.pages.following import Follower, Settings
+from pagelog.pages.following import Follower, PageServerSettings
 from pagelog.pages.metrics import PagesCollector
 from pagelog.pages.process import PagesProcess, StoreFailed
 from pagelog.rules import UnknownPrincipal
@@ -236,13 +236,13 @@ class Again(Served):
         self.made.end()
         self.serving.join()
         self.rots(run, "MANIFEST-*")
-        attempts, start = list[Path](), Settings.start
+        attempts, start = list[Path](), PageServerSettings.start
 
-        def counted(settings: Settings, store: Path, identity: str) -> PagesProcess:
+        def counted(settings: PageServerSettings, store: Path, identity: str) -> PagesProcess:
             attempts.append(store)
             return start(settings, store, identity)
 
-        with patch.object(Settings, "start", counted):
+        with patch.object(PageServerSettings, "start", counted):
             self.servers()
             eventually(lambda: len(attempts) > 3, "that it tries again and again")
             store = self.store_of(run)

@@ -13,6 +13,7 @@ from urllib.parse import unquote, urlsplit
 from pagelog.store.errors import Missing as Missing
 from pagelog.store.errors import StoreAway as StoreAway
 from pagelog.store.errors import StoreError as StoreError
+from pagelog.store.errors import Taken as Taken
 from pagelog.store.settings import StoreSettings
 
 
