@@ -4,6 +4,7 @@ from __future__ import annotations
 
 import contextlib
 import ctypes
+import os
 import random
 import socket
 import unittest
@@ -108,6 +109,7 @@ class OfC:
         while self.due <= now:
             self.now = self.due
             self.see_clock()
+            assert self.due > self.now, "what is due is not done"
         self.now = now
 
     def close(self) -> None:
@@ -372,6 +374,10 @@ class Lines(Writers):
         self.assertEqual(self.said_at_once(c), "turn shop other")
         await self.until(lambda: len(self.turns._numbers) == 1, "the end of who had it")
         self.assertEqual((len(self.turns._lent), len(self.turns._lines)), (1, 1))
+        self.line_of(c).close()  # as the keeper does
+        await self.until(lambda: not self.turns._numbers, "the end of the last")
+        self.assertEqual((self.turns._lent, self.turns._lines), ({}, {}))
+        self.assertEqual(await (await self.greeted()).ask(self.turn(" now")), "turn shop other")
 
     async def test_other_words_are_answered_in_their_order_and_the_turn_stays(self) -> None:
         a, b = await self.writer(), await self.writer()
@@ -417,6 +423,7 @@ class Lines(Writers):
             self.assertTrue(self.is_read(a), words)
             answer = await a.ask(words)
             self.assertEqual(answer.partition(" of=")[0].removesuffix(" kept"), told, words)
+            self.assertEqual(self.is_read(a), told.startswith("turn ") and "of=" in words, words)
             a.send(self.back())
         for words in (f"back shop epoch=x {self.of}", f"back shop epoch= {self.of}", "x" * 1025):
             b = await self.writer()
@@ -510,6 +517,19 @@ class Lines(Writers):
         with mock.patch.object(self.plane.library, "writers_new", return_value=None):
             self.assertIsNone(self.plane.turns_of("shop", 1, 1.0))
         self.assertEqual(self.plane._turns, {})
+
+    async def test_what_it_was_given_as_it_ended_is_the_keepers(self) -> None:
+        """The thread has never seen it."""
+        plane, line = mock.Mock(), mock.Mock(version=2, asker=None, is_open=True)
+        line.lend.return_value = os.dup(0)
+        turns = FastTurns(plane, 1, "shop", 1, 1.0)
+        turns.take(line, ["turn", "shop"], None, mock.Mock())
+        self.assertIn(line, turns)
+        turns.hear(fast_calls.Event(1, fast_calls.WRITERS_ENDED))
+        line.take_back.assert_called_once_with(b"")
+        self.assertEqual(turns._lent, {})
+        with self.assertRaises(OSError):
+            os.fstat(line.lend.return_value)
 
     async def test_as_the_thread_ends_all_lines_are_the_keepers(self) -> None:
         a, b = await self.writer(), await self.writer()
