@@ -1,4 +1,4 @@
-"""Precautions of TLS: handshakes that break off, keepers that lie, and the steps from plain to TLS."""
+"""Precautions of TLS: handshakes that break off, keepers that lie, and closes."""
 
 from plant import Plant
 
@@ -17,8 +17,6 @@ PLANTS = {
     "TLS in C, a socket of a cut handshake": Plant("c/pagelog_connection.c", "    close(fd);\n    pagelog_abandon(log); /* of",
                                                    "    pagelog_abandon(log); /* of", "c/secured", "breaks_off_at_each_byte"),
     "TLS in C, of page servers": Plant("c/pagelog_copies.c", "of_run, copies->reader.tls);", "of_run, NULL);", "c/secured", "no_answer_takes_it_away"),
-    "steps, plain clients beside TLS": Plant("ways", "    return None if way is not None and way.is_only else address",
-                                             "    return None if way is not None else address", "to_tls", "nothing_is_lost"),
     "a heartbeat's socket": Plant("c/pagelog_vfs_heartbeat.c", "    if (is_asleep) eventfd_write(woken, 1); /* a socket", "    if (false) eventfd_write(woken, 1); /* a socket",
                                   "c/turns", "kept_ends_with_the_last_close"),
 }  # fmt: skip

@@ -83,6 +83,8 @@ class Clock:
     def __init__(self, has_come: Callable[[], object]) -> None:
         self._has_come = has_come
 
+    sleep = staticmethod(time.sleep)
+
     def monotonic(self) -> float:
         return time.monotonic() + (10 * PATIENCE if self._has_come() else 0.0)
 
@@ -492,16 +494,22 @@ class Lines(unittest.TestCase):
         ear = self.enterContext(closing(Ear()))
         with self.fronts() as lines:
             self.assertEqual(self.committed(lines), "")
-            standby = f"{ear.address} run 1 0 0 of={DATABASE}/run"
-            for lie in ({"standby": standby}, {"pages": f"{ear.address} {'0' * 16} 1 0"}):
-                with self.subTest(lie), self.reader(lines, durable_only=True) as reader:
-                    before, self.others, found = len(ear.heard), lie, list[bytes]()
-                    thread = threading.Thread(target=lambda: found.append(reader.page(0).data[:5]))
-                    thread.start()
-                    eventually(lambda: len(ear.heard) > before, "who was led there")
-                    self.others = {}
-                    thread.join(PATIENCE)
-                    self.assertEqual(found, [b"hello"])
+            self.others = {"standby": f"{ear.address} run 1 0 0 of={DATABASE}/run"}
+            with self.reader(lines, durable_only=True) as reader:
+                found = list[bytes]()
+                thread = threading.Thread(target=lambda: found.append(reader.page(0).data[:5]))
+                thread.start()
+                eventually(lambda: bool(ear.heard), "who was led to the standby")
+                self.others = {}
+                thread.join(PATIENCE)
+                self.assertEqual(found, [b"hello"])
+            before, self.others = len(ear.heard), {"pages": f"{ear.address} {'0' * 16} 1 0"}
+            late = Clock(lambda: len(ear.heard) > before)
+            with self.reader(lines, pages="only") as reader, patch(
+                "pagelog.named_reader.time", late
+            ):
+                self.assertIn("TimedOut: no page server", said_by(reader.end))
+        self.assertGreater(len(ear.heard), before)
         self._see_handshakes_alone(ear)
 
     def _see_handshakes_alone(self, ear: Ear) -> None:
