@@ -33,15 +33,16 @@ class Tap:
         self._known: dict[str, str] = {}
         self._lock = threading.Lock()
 
-    def listen(self, address: str, port: int) -> int:
-        """Relays what comes to a public port, by default any, to the same port of this address, or to that port of it. Returns the public one."""
+    def listen(self, port: int, host: str, to: int = 0) -> int:
+        """Relays what comes to a public port, where 0 is any free one, to a port of this host, by default the same. Returns the public one."""
         made = socket.socket()
         made.setsockopt(socket.SOL_SOCKET, socket.SO_REUSEADDR, 1)
-        _bind(made, (PUBLIC, 0 if address == PUBLIC else port))
+        _bind(made, (PUBLIC, port))
         number = int(made.getsockname()[1])
         made.listen(socket.SOMAXCONN)
-        to = address, port if address == PUBLIC else number
-        threading.Thread(target=self._accept, args=(made, to), daemon=True).start()
+        threading.Thread(
+            target=self._accept, args=(made, (host, to or number)), daemon=True
+        ).start()
         return number
 
     def before(self, address: str) -> str:
@@ -49,8 +50,7 @@ class Tap:
         with self._lock:
             if address not in self._known:
                 host, _, port = address.rpartition(":")
-                to = PUBLIC if host == PUBLIC else OWN
-                self._known[address] = f"{PUBLIC}:{self.listen(to, int(port))}"
+                self._known[address] = f"{PUBLIC}:{self.listen(0, host, int(port))}"
             return self._known[address]
 
     def _accept(self, listener: socket.socket, to: tuple[str, int]) -> None:
@@ -84,7 +84,7 @@ def tap(folder: Path) -> None:
 
     def bind(self: socket.socket, address: Any) -> None:
         if self.family == socket.AF_INET and address[0] == PUBLIC:
-            address = OWN, made.listen(OWN, address[1])
+            address = OWN, made.listen(address[1], OWN)
         _bind(self, address)
 
     def told(served: Served) -> Where:
