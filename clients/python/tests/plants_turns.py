@@ -28,7 +28,7 @@ PLANTS = {
     "thread, early": Plant(_C, "generation > 1 && !was_idle;", "false;", _PART, _SAME),
     "thread, idle before": Plant(_C, "generation > 1 && !was_idle;", "generation > 1;", _PART, _SAME),
     "thread, given back lately": Plant(_C, "turns->holder != NULL || was_lately;", "turns->holder != NULL;", _PART, _SAME),
-    "thread, expected for ever": Plant(_C, "turns->is_early && now < turns->latest", "turns->is_early", _PART, _SAME),
+    "thread, expected for ever": Plant(_C, "turns->is_early && now < turns->latest", "turns->is_early", _PART, "for_so_long_at_most"),
     "thread, mine": Plant(_C, "bool is_first = is_mine && turns->is_early;", "bool is_first = false;", _PART, _SAME),
     "thread, lost count": Plant(_C, "    if (seat == turns->holder) {\n        pass_on(turns, now); /*", "    if (false) {\n        pass_on(turns, now); /*", _PART, _SAME),
     "thread, elsewhere": Plant(_C, "        tell(turns, seat, \"elsewhere\", \"\");\n    }\n    turns->last = NULL;", "    }\n    turns->last = NULL;", _PART, _SAME),

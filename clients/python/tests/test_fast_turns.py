@@ -265,6 +265,15 @@ class Rules(unittest.TestCase):
                 both.compare()
             self.assertEqual(both.lines[1].lines, ["turn shop other"])
 
+    def test_it_is_early_for_so_long_at_most(self) -> None:
+        both = self.both(generation=2)
+        both.ask(both.lines[0], How(0))
+        for _ in range(6):
+            both.wait(900)
+            both.expect()
+            both.compare()
+        self.assertEqual(both.lines[0].lines, ["turn shop other"])
+
     def test_one_principal_has_so_many_waits(self) -> None:
         both = self.both(lines=MOST_WAITING + 4)
         for line in both.lines[:-1]:
