@@ -187,6 +187,7 @@ class Rules(unittest.TestCase):
         self.seconds = self.enterContext(mock.patch("pagelog.keeper.turns.time.monotonic"))
 
     def both(self, generation: int = 1, lines: int = 5) -> Both:
+        self.seconds.side_effect = lambda: 1.0  # as a clock begins
         both = Both(self, generation, lines)
         self.seconds.side_effect = lambda: both.clock.now / 1000
         self.addCleanup(both.c.close)
