@@ -16,10 +16,12 @@ import argparse
 import hashlib
 import os
 import pathlib
+import re
 import shutil
 import subprocess
 import sys
 import tempfile
+import textwrap
 
 from build_note import kit_at_hand, note_of, sum_of
 from version import ROOT, version
@@ -33,6 +35,7 @@ CHANGELOG = """pagelog ({version}) unstable; urgency=medium
 
   * Commit {commit}.
   * The program {words}. {noted}
+{changes}
 
  -- {maintainer}  {date}
 """
@@ -119,6 +122,25 @@ def kit_of(program, is_proved):
     return "not noted", "Its kit was not noted when it was built."
 
 
+def changes_of(release, text):
+    """What CHANGELOG.md, which has this text, says of the version, as the entries of a Debian changelog."""
+    own = text.partition(f"\n## {release}\n")[2].partition("\n## ")[0]
+    own = re.sub(r"\[([^]]*)\]\([^)]*\)", r"\1", own)
+    parts = re.split(r"\n(?=- )|\n\n", re.sub(r"^(\w+)$", r"[ \1 ]", own.strip(), flags=re.M))
+    return "\n".join(
+        textwrap.fill(
+            " ".join(part.removeprefix("- ").split()),
+            width=78,
+            initial_indent="  * " if part.startswith("- ") else "  ",
+            subsequent_indent="    " if part.startswith("- ") else "  ",
+            break_long_words=False,
+            break_on_hyphens=False,
+        )
+        for part in parts
+        if part.strip()
+    )
+
+
 def build(folder, checkout, program, verify, facts):
     """Has dpkg-buildpackage build the packages beside this folder, in which all is that belongs to them."""
     checkout.unpack(folder)
@@ -128,9 +150,11 @@ def build(folder, checkout, program, verify, facts):
         f"#!{shutil.which('make')} -f\n" + (folder / "packaging" / "rules.mk").read_text()
     )
     rules.chmod(0o755)
+    changes = changes_of(facts["release"], (folder / "CHANGELOG.md").read_text())
     (folder / "debian" / "changelog").write_text(
-        CHANGELOG.format(**facts, maintainer=MAINTAINER, date=checkout.date)
+        CHANGELOG.format(**facts, changes=changes, maintainer=MAINTAINER, date=checkout.date)
     )
+    (folder / "clients" / "python" / "src" / "pagelog" / "COMMIT").write_text(facts["commit"])
     # No Python of the user's own, and nothing else of the user.
     kept = {name: os.environ[name] for name in ("HOME", "TMPDIR") if name in os.environ}
     said = {name.upper(): text for name, text in facts.items()}

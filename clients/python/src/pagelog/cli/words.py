@@ -8,6 +8,7 @@ from importlib import import_module
 import click
 
 import pagelog
+from pagelog.cli import version
 
 WORDS = {
     "status": "looking_words",
@@ -77,7 +78,7 @@ class Words(click.Group):
 @click.group(
     cls=Words, context_settings={"help_option_names": ["-h", "--help"], "max_content_width": 100}
 )
-@click.version_option(pagelog.__version__, prog_name="pagelogctl")
+@click.version_option(pagelog.__version__, message=version.message())
 @click.option(
     "--timeout",
     default=10.0,
