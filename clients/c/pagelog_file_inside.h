@@ -78,6 +78,14 @@ enum { WHY_BYTES = 320 };
  * because the generation is over. */
 enum wait { FOR_A_REPLY, FOR_A_TIME, OVERTAKEN };
 
+/* An origin whose code is known, of others too, which come again and again where several write. */
+enum { MOST_KNOWN = 16 };
+struct known_origin {
+    uint64_t session; /* the code of */
+    size_t length;    /* the first so many bytes; 0: of none */
+    uint8_t bytes[ORIGIN_BYTES];
+};
+
 struct named {
     struct pagelog_keepers *keepers; /* NULL: the database has no name, and one address */
     struct pagelog_place place;
@@ -121,6 +129,8 @@ struct named {
     char noted[PAGELOG_RUN_BYTES]; /* the last run whose mark is not explained; whether that was not said yet
                                     */
     bool has_note;
+    struct known_origin known[MOST_KNOWN];
+    unsigned next_known; /* is written next, the oldest */
     char why[WHY_BYTES]; /* a sentence on what was waited for in vain */
 };
 
@@ -197,7 +207,7 @@ void pagelog_renew_session(struct pagelog_file *file);
 enum pagelog_outcome pagelog_add_origin(struct pagelog_file *file);
 
 /* Whether page 0, 8,192 bytes, has the origin of this mark: an older client writes none. */
-bool pagelog_has_origin(const uint8_t *page, const struct mark *mark);
+bool pagelog_has_origin(struct pagelog_file *file, const uint8_t *page, const struct mark *mark);
 
 /* Looks whether the mark of page 0 may be there: MALFORMED where it was made for another database. One of a
  * run that does not explain it is noted. */

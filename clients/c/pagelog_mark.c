@@ -211,7 +211,7 @@ enum pagelog_outcome pagelog_take_mark(struct pagelog_file *file, uint64_t lsn) 
     outcome = pagelog_check_origin(file, page, &mark);
     if (outcome != PAGELOG_DONE) return outcome;
     file->is_named = page[NAME_PLACE] > 0 && (!is_named(file) || has_name(page, file->name));
-    file->told_session = pagelog_has_origin(page, &mark) ? mark.session : 0;
+    file->told_session = pagelog_has_origin(file, page, &mark) ? mark.session : 0;
     file->mark = mark;
     if (file->reading == GONE) pagelog_have(file, OPEN);
     pagelog_expect(file->log, lsn, MARK_PAGE, 0, page, MARK_BYTES);

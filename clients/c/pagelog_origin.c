@@ -53,34 +53,24 @@ enum pagelog_outcome pagelog_add_origin(struct pagelog_file *file) {
                               (uint16_t)(SEED_BYTES + 1 + length));
 }
 
-/* Origins of others, which come again and again where several write: their codes are not computed anew. */
-enum { MOST_KNOWN = 16 };
-
-struct known {
-    uint64_t session; /* the code of */
-    size_t length;    /* the first so many bytes; 0: of none */
-    uint8_t bytes[SEED_BYTES + 1 + TEXT_BYTES];
-};
-
-static _Thread_local struct known known[MOST_KNOWN];
-static _Thread_local unsigned next_known;
-
 /* Whether the session is the code of an origin of so many bytes. */
-static bool is_session_of(uint64_t session, const uint8_t *bytes, size_t length) {
+static bool is_session_of(struct pagelog_file *file, uint64_t session, const uint8_t *bytes, size_t length) {
+    const struct known_origin *known = file->named.known;
     for (size_t i = 0; i < MOST_KNOWN; i++)
         if (known[i].session == session && known[i].length == length &&
             memcmp(known[i].bytes, bytes, length) == 0)
             return true;
     size_t text = SEED_BYTES + 1;
     if (session_of(bytes, (const char *)bytes + text, length - text) != session) return false;
-    struct known *one = &known[next_known++ % MOST_KNOWN];
-    *one = (struct known){.session = session, .length = length};
+    struct known_origin *one = &file->named.known[file->named.next_known++ % MOST_KNOWN];
+    *one = (struct known_origin){.session = session, .length = length};
     memcpy(one->bytes, bytes, length);
     return true;
 }
 
 /* Reads it; false where it is not that of the mark. */
-static bool read_origin(const uint8_t *bytes, const struct mark *mark, struct origin *origin) {
+static bool read_origin(struct pagelog_file *file, const uint8_t *bytes, const struct mark *mark,
+                        struct origin *origin) {
     size_t length = bytes[SEED_BYTES];
     char text[TEXT_BYTES] = "";
     if (length == 0 || length >= TEXT_BYTES) return false;
@@ -92,12 +82,12 @@ static bool read_origin(const uint8_t *bytes, const struct mark *mark, struct or
         return false;
     snprintf(origin->database, sizeof origin->database, "%.*s", (int)(slash - text), text);
     snprintf(origin->run, sizeof origin->run, "%s", slash + 1);
-    return is_session_of(mark->session, bytes, SEED_BYTES + 1 + length);
+    return is_session_of(file, mark->session, bytes, SEED_BYTES + 1 + length);
 }
 
-bool pagelog_has_origin(const uint8_t *page, const struct mark *mark) {
+bool pagelog_has_origin(struct pagelog_file *file, const uint8_t *page, const struct mark *mark) {
     struct origin origin;
-    return read_origin(page + ORIGIN_PLACE, mark, &origin);
+    return read_origin(file, page + ORIGIN_PLACE, mark, &origin);
 }
 
 /* A mark of another run is there because the archive had it, or because its writer has sent it again, mostly
@@ -117,7 +107,7 @@ static enum pagelog_outcome check(struct pagelog_file *file, const uint8_t *byte
     const struct pagelog_place *place = &file->named.place;
     uint64_t position = position_of(file, mark->lsn);
     struct origin origin;
-    if (!is_named(file) || !read_origin(bytes, mark, &origin)) return PAGELOG_DONE;
+    if (!is_named(file) || !read_origin(file, bytes, mark, &origin)) return PAGELOG_DONE;
     if (strcmp(origin.database, place->database) == 0) {
         note_run(file, &origin, position);
         return PAGELOG_DONE;
@@ -181,7 +171,7 @@ enum pagelog_outcome pagelog_file_origin(struct pagelog_file *file, char *text, 
     *text = 0;
     struct wanted wanted = {.pages = &number, .count = 1};
     enum pagelog_outcome outcome = mark.lsn > 0 ? pagelog_fetch(file, mark.lsn, wanted, page) : PAGELOG_DONE;
-    if (mark.lsn > 0 && outcome == PAGELOG_DONE && read_origin(page + ORIGIN_PLACE, &mark, &origin))
+    if (mark.lsn > 0 && outcome == PAGELOG_DONE && read_origin(file, page + ORIGIN_PLACE, &mark, &origin))
         snprintf(text, room, "%s/%s", origin.database, origin.run);
     return outcome;
 }
