@@ -193,11 +193,13 @@ inline hold(r) {
 #define TAKEN 5
 #define FILLED 6
 
-// switch.py: has_begun
-                    // if referee.kept(switch.log, switch.next_run) is not None:
-                    // return True
+// switch.py: begun
+                    // if referee.kept(switch.log, switch.next_run) is None:
+                    // return None
+                    // return referee.held(switch.log, switch.next_run)
+// switch.py: may_begin
                     // kept = referee.kept(switch.log, switch.run)
-                    // return (None if kept is not None and kept.archived == switch.old and has_newest_table(referee, switch) else False)
+                    // return kept is not None and kept.archived == switch.old and has_newest_table(referee, switch)
 #ifdef DOUBT_IS_NO
 #define MAY_BEGIN_STILL false
 #else
@@ -328,9 +330,11 @@ end:
           stage = IN_DOUBT }
 // succession.py: _switched
                     // ..
-                    // found = await self._ask(has_begun, switch)
-                    // if found is not None or (found := await self._ask(succeed, switch)):
-                    // return found
+                    // row = await self._ask(begun, switch)
+                    // if row is not None or not await self._ask(may_begin, switch):
+                    // return row
+                    // if (row := await self._ask(succeed, switch)) is not None:
+                    // return row
                     // ..
     :: d_step { stage == IN_DOUBT ->
           if
@@ -360,8 +364,6 @@ end:
                     // wanted = NULL, succeed = false
                     // WHERE id = %(id)s AND generation = %(generation)s AND archived = %(archived)s AND run IS NOT DISTINCT FROM %(seen_run)s::text
                     // AND (%(address)s::text IS NULL OR chain = %(chain)s) AND NOT paused AND NOT dropped
-                    // ..
-                    // SELECT generation, archived, chain FROM taken
                     // ..
     :: d_step { seen_generation != 0 ->
           if

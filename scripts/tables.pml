@@ -39,7 +39,7 @@ byte returned = 1;
 // database.py: new_served
                     // ..
                     // text, secret, number, _ = await self.shared.ask(self.shared.referee.table, self.row.id)
-                    // made = Served(self.row.name, run, text, secret, timeout=self.shared.settings.ttl, is_read_only=self.row.read_only, table_number=number)
+                    // return Served(self.row.name, run, text, secret, timeout=self.shared.settings.ttl, is_read_only=self.row.read_only, table_number=number,
                     // ..
 inline start(r, before) {
     runs++; r = runs;

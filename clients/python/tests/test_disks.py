@@ -127,6 +127,16 @@ class Referees(unittest.TestCase):
         self.assertEqual(self.careful.keep([batch]), {self.row.id})
         self.assertEqual(self.careful.look().synchronous.count, 1)
         wait_for("")
+
+        def has_heard() -> bool:
+            """Its session hears of a setting a while after that is in force."""
+            try:
+                self.careful.look()
+            except OneDisk:
+                return True
+            return False
+
+        eventually(has_heard, "that its session has heard of it")
         more = batch_of(self.row, kept.__class__(batch.new, batch.chain, kept.generation), "r1")
         with self.assertRaises(OneDisk):
             self.careful.keep([more])

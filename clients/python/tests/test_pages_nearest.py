@@ -237,6 +237,8 @@ class Python(Reads):
         reader = self.reading()
         assert reader._copies is not None
         self.enterContext(patch("pagelog.page_copies._SILENCE", 0.02))
+        # The other one is waited for where the machine is slow, and the service is not asked.
+        self.enterContext(patch("pagelog.page_copies._LAST_SILENCE", PATIENCE))
         held = descriptors()
 
         def is_left() -> bool:

@@ -506,6 +506,7 @@ class Generations(Kept):
 
     def test_the_first_one_of_a_generation_who_is_alone_has_the_turn(self) -> None:
         """Who asks for it at once, as SQLite without a busy timeout, and in each generation again."""
+        self.keeping.place()  # what begins the first one forgets that a next one was asked for
         for generation in range(2, 5):
             self.keeping.word("rollover", "shop")
             self.assertEqual(self.told(generation), "turn shop other")
