@@ -137,7 +137,7 @@ class Referees(unittest.TestCase):
             return False
 
         eventually(has_heard, "that its session has heard of it")
-        more = batch_of(self.row, kept.__class__(batch.new, batch.chain, kept.generation), "r1")
+        more = batch_of(self.row, replace(kept, archived=batch.new, chain=batch.chain), "r1")
         with self.assertRaises(OneDisk):
             self.careful.keep([more])
         for call in (
