@@ -585,13 +585,20 @@ class Border(unittest.TestCase):
             row.identity,
             replace(settings, tail=0.0),
         )
-        ask = self.keeping.referee._ask
-        while True:
+        ask, cuts = self.keeping.referee._ask, list[int]()
+
+        def is_moved() -> bool:
+            """Its keeper moves too: where that is amid a step there is none to be made here."""
             moved = ask("SELECT cut FROM pagelog_store WHERE log = %s", (row.id,))
             [[first]] = ask("SELECT min(lsn) FROM pagelog_block WHERE log = %s", (row.id,))
-            if moved and moved[0][0] >= half and first == moved[0][0] + 1:
-                return int(moved[0][0])
-            self.assertTrue(mover.step())
+            cuts[:] = [int(cut) for (cut,) in moved]
+            if cuts and cuts[0] >= half and first == cuts[0] + 1:
+                return True
+            mover.step()
+            return False
+
+        eventually(is_moved, "what is below the position to be in the store alone")
+        return cuts[0]
 
     def look(self, name: str) -> tuple[list[str], list[int]]:
         """What SQLite says of it, and its rows."""

@@ -165,7 +165,7 @@ class OneKeeper(Kept):
         with psycopg.connect(
             self.keeping.url, autocommit=True
         ) as session, self.keeping.line() as line:
-            before = session.execute(sessions).fetchall()
+            before = set(session.execute(sessions).fetchall())
             for asked, told in (
                 ("block sh\0op 1", "block sh\0op 1 -"),
                 ("block shop 99999999999999999999", "block shop 99999999999999999999 -"),
@@ -178,7 +178,8 @@ class OneKeeper(Kept):
                 line.write(f"{asked}\n")
                 line.flush()
                 self.assertEqual(line.readline(), f"{told}\n")
-                self.assertEqual(session.execute(sessions).fetchall(), before)
+                # A keeper may connect once more meanwhile.
+                self.assertLessEqual(before, set(session.execute(sessions).fetchall()))
 
     def test_an_open_that_is_refused_says_why(self) -> None:
         """And at once: a call would wait for as long as a test may take."""
