@@ -4,9 +4,8 @@
  * Whatever comes, all that is waited for is a position of this run; and the same is taken or given back
  * however it comes. */
 #include "fast_path_parts.h"
+#include "fuzz_text.h"
 
-#include <stdio.h>
-#include <string.h>
 #include <sys/socket.h>
 
 static ssize_t come(int socket, void *to, size_t room, int flags);
@@ -15,6 +14,7 @@ static ssize_t go(int socket, const void *bytes, size_t length, int flags);
 #define recv                      come
 #define send                      go
 #define shutdown(descriptor, how) ((void)(descriptor))
+#define now_ms()                  ((int64_t)1) /* no call of the system in a run */
 #include "fast_path_lines.c"
 #undef recv
 #undef send
@@ -29,6 +29,7 @@ static ssize_t come(int socket, void *to, size_t room, int flags) {
     memcpy(to, input, count);
     input += count;
     left -= count;
+    if (piece <= SIZE_MAX / 2) piece *= 2; /* few pieces, of which the first may end anywhere */
     return (ssize_t)count;
 }
 
@@ -68,8 +69,8 @@ static struct end hear_all(const uint8_t *bytes, size_t size, size_t most) {
     static struct way way;
     static struct line line;
     static char name[] = "shop", of[] = "i/r";
-    way = (struct way){
-        .name = name, .of = of, .start = {.generation = 7, .takes_unnamed = size % 2}, .reached = 9};
+    way.name = name, way.of = of, way.reached = 9, way.rung = false;
+    way.start = (struct way_start){.generation = 7, .takes_unnamed = size % 2};
     line.way = &way, line.next = NULL, line.place = &way.lines, way.lines = &line;
     line.len = 0, line.position = 0, line.is_back = false;
     input = bytes, left = size, piece = most, answered = 0;

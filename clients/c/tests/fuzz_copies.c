@@ -23,6 +23,7 @@ static ssize_t come(int socket, void *to, size_t room, int flags);
 #undef reserve
 #undef connect_to
 #define find find_copy
+#define ask  ask_copy
 #include "../pagelog_copies.c"
 
 enum { MOST_INPUT = 4096, PAGES = 2, REPLIES = 2 + PAGES, MOST_ANSWER = REPLIES * (FRAME_HEAD + MOST_REPLY) };
@@ -43,6 +44,7 @@ static ssize_t come(int socket, void *to, size_t room, int flags) {
     memcpy(to, input, count);
     input += count;
     left -= count;
+    if (piece <= SIZE_MAX / 2) piece *= 2; /* few pieces, of which the first may end anywhere */
     return (ssize_t)count;
 }
 

@@ -3,6 +3,8 @@
  *
  * Whatever comes, each whole frame has one whole reply, of the size of its kind, in the order of the
  * requests; and the replies are the same however the frames come. */
+#include "block.h"
+#define PAGE_BYTES 64 /* what a page has is read by nobody here */
 #include "connection.h"
 
 #include <errno.h>
@@ -10,25 +12,31 @@
 #include <stdlib.h>
 #include <string.h>
 #include <sys/socket.h>
+#include <unistd.h>
 
 static ssize_t come(int socket, void *to, size_t room, int flags);
 static ssize_t go(int socket, const void *bytes, size_t length, int flags);
 
-#define recv come
-#define send go
+#define recv              come
+#define send              go
+#define close(descriptor) ((void)(descriptor))
 #include "connection.c"
 #undef recv
 #undef send
 #include "answer.c"
 #include "table.c"
 
-enum { CONFIRMED = 9, OLDEST = 3, WAIT_MS = 50, MOST_ASKED = 1 << 12 };
+enum { CONFIRMED = 9, OLDEST = 3, WAIT_MS = 50, MOST_ASKED = 1 << 12, MOST_REPLIED = 1 << 18 };
+
+struct replies {
+    uint8_t bytes[MOST_REPLIED];
+    size_t length;
+};
 
 static const uint8_t *input;
 static size_t left, piece;
 static bool is_slow;
-static uint8_t *replies;
-static size_t replied;
+static struct replies *replies;
 
 static void must(const char *what, bool holds) {
     if (holds) return;
@@ -52,6 +60,7 @@ static ssize_t come(int socket, void *to, size_t room, int flags) {
     memcpy(to, input, count);
     input += count;
     left -= count;
+    if (piece <= SIZE_MAX / 2) piece *= 2; /* few pieces, of which the first may end anywhere */
     return (ssize_t)count;
 }
 
@@ -65,9 +74,9 @@ static ssize_t go(int socket, const void *bytes, size_t length, int flags) {
     }
     was_full = false;
     size_t count = is_slow && length > 7 ? length / 2 : length;
-    must("replies are bounded", (replies = realloc(replies, replied + count)) != NULL);
-    memcpy(replies + replied, bytes, count);
-    replied += count;
+    must("replies are bounded", replies->length + count <= MOST_REPLIED);
+    memcpy(replies->bytes + replies->length, bytes, count);
+    replies->length += count;
     return (ssize_t)count;
 }
 
@@ -118,11 +127,12 @@ void pagelog_secure_end(struct pagelog_secure *secure) {
 /* Each reply is whole, and of the size of its kind. Returns how many there are. */
 static size_t see_replies(void) {
     size_t count = 0;
-    for (size_t at = 0, length; at < replied; at += FRAME_HEAD + length, count++) {
-        must("a reply has a head", replied - at > FRAME_HEAD);
-        const uint8_t *body = replies + at + FRAME_HEAD;
-        length = (size_t)number_at(replies + at, FRAME_HEAD);
-        must("a reply is whole", length >= 2 && length <= replied - at - FRAME_HEAD);
+    for (size_t at = 0, length; at < replies->length; at += FRAME_HEAD + length, count++) {
+        size_t rest = replies->length - at;
+        must("a reply has a head", rest > FRAME_HEAD);
+        const uint8_t *body = replies->bytes + at + FRAME_HEAD;
+        length = (size_t)number_at(replies->bytes + at, FRAME_HEAD);
+        must("a reply is whole", length >= 2 && length <= rest - FRAME_HEAD);
         switch (body[0]) {
         case PAGE:
             must("a page", length == 9 + PAGE_BYTES);
@@ -158,20 +168,22 @@ static size_t frames_of(const uint8_t *bytes, size_t size) {
     return count;
 }
 
-static void ask_all(const uint8_t *bytes, size_t size, size_t most) {
-    static const struct table table = {
+static void ask_all(const uint8_t *bytes, size_t size, size_t most, struct replies *to) {
+    static struct table table = {
         .principals = 2,
         .rows = 3,
         .principal = {{.id = 3, .token = "3333333333333333"}, {.id = 4, .token = "4444444444444444"}},
         .row = {{.allows = true, .has_who = true, .who = 3, .ops = 1u << GET | 1u << STATUS},
                 {.allows = false, .ops = 1u << PULL, .has_range = true, .low = 2, .high = 5},
                 {.allows = true, .ops = 1u << PULL | 1u << STATUS, .has_through = true, .through = 7}}};
+    static struct table *_Atomic newest = &table;
     static uint8_t out[OUT_ROOM];
-    struct room room = {.table = &table, .wait_ms = WAIT_MS, .now = 1, .out = out};
+    static struct room room = {.newest = &newest, .wait_ms = WAIT_MS, .out = out};
     struct connection *connection = calloc(1, sizeof *connection);
     must("there is memory", connection != NULL);
     connection->socket = -1;
-    input = bytes, left = size, piece = most, replied = 0;
+    input = bytes, left = size, piece = most, replies = to, replies->length = 0;
+    room.now = 1;
     for (int turns = 0; connection_turn(connection, &room); turns++) {
         must("it comes to an end", turns < MOST_ASKED);
         must("what it has of requests is bounded", connection->in_length <= MOST_FRAME);
@@ -182,18 +194,13 @@ static void ask_all(const uint8_t *bytes, size_t size, size_t most) {
 }
 
 int LLVMFuzzerTestOneInput(const uint8_t *bytes, size_t size) {
+    static struct replies whole, pieces;
     if (size < 3) return 0;
     is_slow = bytes[1] % 2;
-    ask_all(bytes + 2, size - 2, SIZE_MAX);
+    ask_all(bytes + 2, size - 2, SIZE_MAX, &whole);
     must("each frame has a reply", see_replies() == frames_of(bytes + 2, size - 2));
-    size_t length = replied;
-    uint8_t *whole = replies;
-    replies = NULL;
-    ask_all(bytes + 2, size - 2, 1 + bytes[0] % 64);
+    ask_all(bytes + 2, size - 2, 1 + bytes[0], &pieces);
     must("the same however they come",
-         replied == length && (length == 0 || memcmp(whole, replies, length) == 0));
-    free(whole);
-    free(replies);
-    replies = NULL;
+         whole.length == pieces.length && memcmp(whole.bytes, pieces.bytes, whole.length) == 0);
     return 0;
 }

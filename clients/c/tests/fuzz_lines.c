@@ -3,12 +3,16 @@
  *
  * The same answers are taken however they come; what is read of one fits its place; and a nonce is one or
  * nothing. */
-#include <stdio.h>
+#include "fuzz_text.h"
+
+#include "../pagelog_common.h"
+
 #include <sys/socket.h>
 
 static ssize_t come(int socket, void *to, size_t room, int flags);
 
-#define recv come
+#define pagelog_now() ((uint64_t)0) /* no call of the system in a run */
+#define recv          come
 #include "../pagelog_line.c"
 #undef recv
 #include "../pagelog_place.c"
@@ -25,6 +29,7 @@ static ssize_t come(int socket, void *to, size_t room, int flags) {
     memcpy(to, input, count);
     input += count;
     left -= count;
+    if (piece <= SIZE_MAX / 2) piece *= 2; /* few pieces, of which the first may end anywhere */
     return (ssize_t)count;
 }
 
@@ -68,13 +73,11 @@ static void take_all(struct taken *taken, const uint8_t *bytes, size_t size, siz
 
 /* ---- What is read of an answer ---- */
 
-static void read_answer(const char *answer) {
+static void read_answer(char *words[MOST_WORDS], size_t count) {
     static const char *const runs[] = {"", "i/r"};
-    char copy[PAGELOG_LINE_BYTES], *words[MOST_WORDS];
     struct pagelog_place place;
     struct pagelog_fate fate;
-    strcpy(copy, answer);
-    if (read_place(words, split(copy, words), &place)) {
+    if (read_place(words, count, &place)) {
         must_fit(place.run, sizeof place.run);
         must_fit(place.address, sizeof place.address);
         must_fit(place.lines, sizeof place.lines);
@@ -85,19 +88,16 @@ static void read_answer(const char *answer) {
                                           place.generation <= PAGELOG_LAST_LSN);
     }
     for (size_t i = 0; i < sizeof runs / sizeof *runs; i++) {
-        strcpy(copy, answer);
-        bool is_said = read_fate(words, split(copy, words), 7, runs[i], &fate);
+        bool is_said = read_fate(words, count, 7, runs[i], &fate);
         must("nothing is durable that is below", !is_said || fate.is_over || fate.end >= 7);
     }
 }
 
-static void read_servers(const char *answer) {
-    char copy[PAGELOG_LINE_BYTES], *words[MOST_WORDS];
+static void read_servers(char *words[MOST_WORDS], size_t count) {
     struct pagelog_page_server found[PAGELOG_MOST_PAGE_SERVERS];
-    strcpy(copy, answer);
-    size_t count = read_page_servers(words, split(copy, words), found);
-    must("there is room for all", count <= PAGELOG_MOST_PAGE_SERVERS);
-    for (size_t i = 0; i < count; i++) {
+    size_t servers = read_page_servers(words, count, found);
+    must("there is room for all", servers <= PAGELOG_MOST_PAGE_SERVERS);
+    for (size_t i = 0; i < servers; i++) {
         must_fit(found[i].address, sizeof found[i].address);
         must_fit(found[i].run, sizeof found[i].run);
         must("its positions are numbers",
@@ -129,10 +129,12 @@ int LLVMFuzzerTestOneInput(const uint8_t *bytes, size_t size) {
     must("the same nonce", strcmp(whole.nonce, pieces.nonce) == 0);
     read_nonce(whole.nonce);
     for (size_t i = 0; i < whole.count; i++) {
+        char *words[MOST_WORDS];
         must("the same answer", strcmp(whole.answers[i], pieces.answers[i]) == 0);
-        read_answer(whole.answers[i]);
         read_address(whole.answers[i]);
-        read_servers(whole.answers[i]);
+        size_t count = split(whole.answers[i], words);
+        read_answer(words, count);
+        read_servers(words, count);
     }
     return 0;
 }

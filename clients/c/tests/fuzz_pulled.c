@@ -4,23 +4,40 @@
  *
  * Whatever comes, a batch has the blocks behind what is archived, without a gap, and their digest; and where
  * nothing is left over it is the same however it comes. */
-#include "fast_path_parts.h"
+#include "fast_path.h"
 
+#include <libpq-fe.h>
+#include <sanitizer/asan_interface.h>
 #include <stdio.h>
+#include <stdlib.h>
 #include <string.h>
 #include <sys/socket.h>
+#include <time.h>
+#include <zlib.h>
 
 static ssize_t come(int socket, void *to, size_t room, int flags);
 static ssize_t go(int socket, const void *bytes, size_t length, int flags);
+static int pack(uint8_t *to, uLongf *room, const uint8_t *from, size_t length);
 
-#define recv come
-#define send go
+static void *take_more(void *memory, size_t length);
+static void give(void *memory);
+
+/* A batch is full as often as all else; no call of the system in a run, and none of what takes much memory.
+ */
+#define WAY_BLOCKS                48
+#define realloc                   take_more
+#define free                      give
+#define clock_gettime(clock, now) ((void)(*(now) = (struct timespec){1, 0}))
+#include "fast_path_parts.h"
+#define compress2(to, room, from, length, how_hard) pack(to, room, from, length)
+#define recv                                        come
+#define send                                        go
 #include "fast_path_service.c"
 #undef recv
 #undef send
 #include "fast_path_trail.c"
 
-enum { SHIFT = 3, ARCHIVED = 9, LISTED = 4, REQUEST = 20 };
+enum { SHIFT = 3, ARCHIVED = 9, LISTED = 4, REQUEST = 44 };
 
 static const uint8_t *input;
 static size_t left, piece;
@@ -40,6 +57,7 @@ static ssize_t come(int socket, void *to, size_t room, int flags) {
     memcpy(to, input, count);
     input += count;
     left -= count;
+    if (piece <= SIZE_MAX / 2) piece *= 2; /* few pieces, of which the first may end anywhere */
     return (ssize_t)count;
 }
 
@@ -47,6 +65,48 @@ static ssize_t go(int socket, const void *bytes, size_t length, int flags) {
     (void)socket, (void)bytes, (void)flags;
     must("requests are whole", length > 0 && length % REQUEST == 0);
     return (ssize_t)length;
+}
+
+/* ---- Memory: places that are used in turn, of which nobody may use what he does not have ---- */
+
+enum { PLACES = 8, MOST_MEMORY = 4 << 20 };
+
+static _Alignas(16) uint8_t places[PLACES][MOST_MEMORY];
+static size_t rooms[PLACES];
+
+static void give(void *memory) {
+    if (!memory) return;
+    size_t place = (size_t)((uint8_t(*)[MOST_MEMORY])memory - places);
+    must("it is his", memory == places[place] && rooms[place] > 0);
+    ASAN_POISON_MEMORY_REGION(memory, rooms[place]);
+    rooms[place] = 0;
+}
+
+static void *take_more(void *memory, size_t length) {
+    static size_t place;
+    must("memory is bounded", length > 0 && length <= MOST_MEMORY);
+    do
+        place = (place + 1) % PLACES;
+    while (rooms[place] > 0);
+    rooms[place] = length;
+    ASAN_UNPOISON_MEMORY_REGION(places[place], length);
+    size_t had = memory ? rooms[(uint8_t(*)[MOST_MEMORY])memory - places] : 0;
+    if (had) memcpy(places[place], memory, had < length ? had : length);
+    give(memory);
+    return places[place];
+}
+
+int LLVMFuzzerInitialize(int *count, char ***words) {
+    (void)count, (void)words;
+    ASAN_POISON_MEMORY_REGION(places, sizeof places);
+    return 0;
+}
+
+static int pack(uint8_t *to, uLongf *room, const uint8_t *from, size_t length) {
+    must("it fits", length <= *room);
+    memcpy(to, from, length);
+    *room = length;
+    return Z_OK;
 }
 
 /* Of the other parts. */
@@ -68,7 +128,7 @@ int64_t until(const struct way *way) {
     (void)way;
     return INT64_MAX;
 }
-void leave_waits(struct way *way) {
+void tell_above(struct way *way) {
     must("nobody is told that what has come is not there", way->batch.blocks == 0);
 }
 void tell_news(struct way *way) {
@@ -152,7 +212,7 @@ static bool is_vast(const uint8_t *bytes, size_t size) {
 int LLVMFuzzerTestOneInput(const uint8_t *bytes, size_t size) {
     if (size < 3 || (bytes[0] != 0 && is_vast(bytes + 2, size - 2))) return 0;
     struct end whole = pull_all(bytes + 2, size - 2, SIZE_MAX, bytes[1] % 2);
-    struct end pieces = pull_all(bytes + 2, size - 2, 1 + bytes[0] % 64, bytes[1] % 2);
+    struct end pieces = pull_all(bytes + 2, size - 2, 1 + bytes[0], bytes[1] % 2);
     if (whole.left > 0 || pieces.left > 0) return 0;
     must("alike", whole.end == pieces.end && (whole.end != WAY_STOPPED || whole.phase == pieces.phase));
     must("the same batch",
