@@ -114,9 +114,10 @@ class Segment:
                     self.round()
                 self.wait_until_all_continue(slow)
             self._end()
+            self.plain = self.postgres.plain_sessions()
         self.past.bound = BOUND * slow.worst()
         self.check = Check(self.folder, self.past)
-        return self.stuck + self.keepers.died + self.check.violations()
+        return self.stuck + self.keepers.died + self.check.violations() + self.plain
 
     def _begin(self) -> None:
         self.keepers.start_what_ended()

@@ -4,6 +4,7 @@ from __future__ import annotations
 
 import functools
 import os
+from pathlib import Path
 
 from pagelog.secure import Trust
 
@@ -14,6 +15,11 @@ VARIABLE = "PAGELOG_SSLROOTCERT"
 def trust() -> Trust | None:
     """Whom this process trusts; None where it is to speak no TLS."""
     return Trust(os.environ[VARIABLE]) if VARIABLE in os.environ else None
+
+
+def authority() -> Path | None:
+    """The folder of the CA that is trusted, with what it has signed; None where nobody is to speak TLS."""
+    return Path(os.environ[VARIABLE]).parent if VARIABLE in os.environ else None
 
 
 def environment() -> dict[str, str]:

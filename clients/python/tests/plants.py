@@ -551,6 +551,8 @@ PLANTS = {
     "TLS, the first certificate": Plant("certificate", "            if self._file.changed() and", "            if False and", "secured", "both_show_the_newest"),
     "PostgreSQL, less than verify-full": Plant("hosts", "os.environ.get(\"PGSSLMODE\")) == \"verify-full\"", "os.environ.get(\"PGSSLMODE\")) is not None", "secured",
                                                "less_than_verify_full"),
+    "PostgreSQL, a session without TLS": Plant("referee", "make_conninfo(**words), autocommit=True", 'make_conninfo(**words | {"sslmode": "disable"}), autocommit=True',
+                                               "secured", "with_verify_full"),
     "TLS, hosts": Plant("../secure", "    assert context.check_hostname and context.verify_mode is ssl.CERT_REQUIRED\n", "    context.check_hostname = False\n",
                         "trust", "certificates_that_are"),
     "TLS, CAs": Plant("../secure", "    assert context.check_hostname and context.verify_mode is ssl.CERT_REQUIRED\n",

@@ -20,6 +20,7 @@ from contextlib import suppress
 from pathlib import Path
 from typing import Any, Iterator
 
+import psycopg
 from prometheus_client import CollectorRegistry
 
 from keepers import Kept, Keeping, eventually
@@ -39,9 +40,9 @@ from pagelog.keeper.referee import Away, Referee, options_of
 from pagelog.keeper.run import fronts_of, has_services
 from pagelog.keeper.settings import Settings
 from pagelog.keeper.ways import Way, address_for, way_of
-from postgres import Postgres
+from replicated import DATABASE, Server, Sessions, url_of
 from secured import Certificates, Secured, Wire, answer_of, clients_by
-from service import PATIENCE, TOP, Port, put, token
+from service import PATIENCE, TOP, put, token
 from test_mixed import OldWriter
 
 PAGE = (TOP / "docs" / "SECURITY.md").read_text()
@@ -561,30 +562,12 @@ class Unreachable:
         """Nothing is open."""
 
 
-class Verified(Postgres):
-    """A server that speaks TLS at a port of this machine."""
-
-    def start(self) -> None:
-        self.port = Port()
-        for name, file in (("server.crt", "good.pem"), ("server.key", "good.key")):
-            shutil.copy(Certificates().folder / file, self.data / name)
-            (self.data / name).chmod(0o600)
-            if self.user:
-                shutil.chown(self.data / name, self.user)
-        options = f"-k {self.folder} -c listen_addresses=127.0.0.1 -p {self.port.number} -c fsync=off -c ssl=on"
-        self.run("pg_ctl", "-D", self.data, "-o", options, "-l", self.folder / "log", "-w", "start")
-        (self.folder / ".s.PGSQL.5432").symlink_to(
-            f".s.PGSQL.{self.port.number}"
-        )  # for who comes by the socket
-
-
 class Referees(unittest.TestCase):
     def test_with_verify_full_all_goes_by_tls_and_to_nobody_else(self) -> None:
-        server = Verified()
+        server = Server(certificates=Certificates().folder)
         self.addCleanup(server.stop)
-        server.url("pagelog")
-        url = f"postgresql://pagelog@localhost:{server.port.number}/pagelog?sslmode=verify-full&sslrootcert="
-        with Keeping(url=url + str(Certificates().ca)) as keeping:
+        server.url(DATABASE)
+        with Keeping(url=url_of(server)) as keeping:
             keeping.referee.prepare()
             self.assertTrue(keeping.referee.create("shop", keeping.table.read_text(), b"s" * 16))
             keeping.start("a")
@@ -592,15 +575,16 @@ class Referees(unittest.TestCase):
                 for _ in range(20):
                     writer.append(put(0, b"x"))
                     writer.commit(durable=True)
-            found = keeping.referee._ask(
-                "SELECT count(*) FILTER (WHERE s.ssl), count(*) FILTER (WHERE NOT s.ssl) FROM pg_stat_ssl s "
-                "JOIN pg_stat_activity a USING (pid) WHERE a.application_name LIKE 'pagelog keeper%'"
-            )
-            self.assertGreater(found[0][0], 2)
-            self.assertEqual(found[0][1], 0)
-        other = Referee(url + str(Certificates().folder / "other-ca.pem"))
+        sessions = Sessions()
+        sessions.add(server)
+        self.assertGreater(sessions.secured, 2)
+        self.assertEqual(sessions.violations(), [])
+        other = Referee(url_of(server).replace("/ca.pem", "/other-ca.pem"))
         with self.assertRaisesRegex(Away, "certificate verify failed"):
             other.everything()
+        psycopg.connect(url_of(server).replace("verify-full", "disable")).close()
+        sessions.add(server)
+        self.assertEqual(len(sessions.violations()), 1)
 
     def test_less_than_verify_full_is_told_of_other_machines(self) -> None:
         for url, hosts in (

@@ -26,7 +26,7 @@ sys.path[:0] = [str(HERE), str(HERE.parent / "src")]
 
 import psycopg  # noqa: E402
 
-from by_tls import VARIABLE, trust  # noqa: E402
+from by_tls import VARIABLE, authority, trust  # noqa: E402
 from keepers import Keeping, eventually  # noqa: E402
 from long_runs import STOP, LongRun, is_client, text_of, texts_of  # noqa: E402
 from pagelog import (
@@ -43,8 +43,8 @@ from pagelog import (
 from pagelog.keeper.rows import Row  # noqa: E402
 from pagelog.keeper.run import fronts_of  # noqa: E402
 from pagelog.place import Keepers  # noqa: E402
-from replicated import Pair  # noqa: E402
-from secured import SecureAlone  # noqa: E402
+from replicated import Pair, url_of  # noqa: E402
+from secured import Certificates, SecureAlone, Secured  # noqa: E402
 from service import PATIENCE, TOP, token  # noqa: E402
 from torture_copies import Copies, look
 from torture_processes import end_of, in_own_space, is_in_own_space
@@ -273,7 +273,7 @@ class Torture(LongRun):
         store: bool = False,
     ) -> None:
         self.seconds, self.chance = seconds, random.Random(seed)
-        self.pair = Pair()
+        self.pair = Pair(certificates=authority())
         more = "unproved = false\n" + "require_standby = true\n" * requires_standby
         more += "trail = 1\n" * store
         super().__init__(
@@ -440,9 +440,7 @@ class Torture(LongRun):
         """The old leader goes on beside the new one for longer than a ttl, and until something has become durable without it."""
 
         def beside() -> None:
-            with psycopg.connect(
-                f"postgresql://pagelog@/kept?host={self.pair.leader.folder}", autocommit=True
-            ) as session:
+            with psycopg.connect(url_of(self.pair.leader), autocommit=True) as session:
                 archived = "SELECT archived FROM pagelog_log WHERE name = %s"
                 before = session.execute(archived, (NAME,)).fetchone()
                 time.sleep(2.5 * TTL)
@@ -509,6 +507,7 @@ class Torture(LongRun):
             + self.died
             + secrets.found()
             + self.unverified()
+            + self.pair.plain_sessions()
         )
 
     def start_keepers_that_died(self) -> None:
@@ -622,6 +621,8 @@ def main(words: list[str]) -> int:
         return subprocess.run(own).returncode
     requires_standby, by_tls, store = (word in words for word in (REQUIRE, BY_TLS, STORE))
     words = [word for word in words if word not in (REQUIRE, BY_TLS, STORE)]
+    if by_tls:
+        os.environ[VARIABLE] = str(Certificates().ca)
     return Torture(
         float(words[0]) if words else 120.0,
         int(words[1]) if len(words) > 1 else 1,

@@ -21,10 +21,10 @@ import psycopg
 from click.testing import CliRunner
 
 from pagelog.cli.words import pagelogctl
-from by_tls import VARIABLE
+from by_tls import VARIABLE, authority
 from pagelog.keeper.front import end_fronts
 from fast_library import build
-from replicated import Pair, Server
+from replicated import DATABASE, Pair, Server, Sessions, url_of
 from service import PATIENCE, PROGRAM, SOURCE, Port, token
 from torture_notes import now
 from torture_processes import end_of, is_expected
@@ -49,17 +49,23 @@ class Lone(Server):
     """One server, which is set back to a copy of its folder."""
 
     def __init__(self) -> None:
-        super().__init__()
+        super().__init__(certificates=authority())
         self.leader = self
         self.setting("max_wal_size", "64MB")
-        Server.url(self, "kept")
+        Server.url(self, DATABASE)
         self.copy = Path(
             tempfile.mkdtemp(prefix="pagelog-copy-", dir=os.environ.get("PAGELOG_TORTURE_COPIES"))
         )
 
     @property
     def kept_url(self) -> str:
-        return f"postgresql://pagelog@/kept?host={self.folder}"
+        return url_of(self)
+
+    def plain_sessions(self) -> list[str]:
+        """What came without TLS, as those of a pair."""
+        sessions = Sessions()
+        sessions.add(self)
+        return sessions.told() if self.port else []
 
     def remember(self) -> float:
         """Copies the folder. Returns a time before: what was acknowledged until then is in the copy."""
@@ -102,7 +108,7 @@ class Two(Pair):
 
     def __init__(self, *, synchronous: bool) -> None:
         self.synchronous = synchronous
-        super().__init__()
+        super().__init__(certificates=authority())
         if not synchronous:
             self.leader.setting("synchronous_standby_names", "")
 
