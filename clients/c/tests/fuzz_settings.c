@@ -3,16 +3,25 @@
  *
  * What names a CA or a certificate is never ignored: either it is refused, or what is asked for goes by TLS.
  */
-#include <stdio.h>
+#include "fuzz_text.h"
+
+#include <stdlib.h>
 #include <sys/stat.h>
 
 static FILE *open_memory(const char *path, const char *how);
+static char *next_line(char *line, int room, FILE *file);
 static struct pagelog_tls *make(const void *files, char *why, size_t room);
 
 #define fopen                   open_memory
-#define fstat(descriptor, told) ((told)->st_mode = S_IFREG | 0600, 0)
+#define fgets                   next_line
+#define fclose(file)            ((void)(file))
+#define fileno(file)            ((void)(file), 0)
+#define fstat(descriptor, told) ((void)(descriptor), (told)->st_mode = S_IFREG | 0600, 0)
 #include "../pagelog_vfs_settings.c"
 #undef fopen
+#undef fgets
+#undef fclose
+#undef fileno
 #undef fstat
 #define pagelog_tls_new make
 #undef FILES
@@ -21,11 +30,29 @@ static struct pagelog_tls *make(const void *files, char *why, size_t room);
 
 enum { PARAMETERS = 24 };
 
-static char credentials[2048];
+static void must(const char *what, bool holds) {
+    if (holds) return;
+    fprintf(stderr, "fuzz_settings: %s\n", what);
+    abort();
+}
 
+static char credentials[2048];
+static const char *unread;
+
+/* The file is what is unread. */
 static FILE *open_memory(const char *path, const char *how) {
     (void)path, (void)how;
-    return *credentials ? fmemopen(credentials, strlen(credentials), "r") : NULL;
+    unread = credentials;
+    return *credentials ? (FILE *)(void *)&unread : NULL;
+}
+
+static char *next_line(char *line, int room, FILE *file) {
+    size_t length = 0;
+    must("it is open", file == (FILE *)(void *)&unread && room > 1);
+    while (*unread && length + 1 < (size_t)room && (length == 0 || line[length - 1] != '\n'))
+        line[length++] = *unread++;
+    line[length] = 0;
+    return length > 0 ? line : NULL;
 }
 
 /* Whoever is believed by these files: no file is read. */
@@ -35,12 +62,6 @@ static struct pagelog_tls *make(const void *given, char *why, size_t room) {
     bool is_good = files->sslrootcert && !files->sslcert == !files->sslkey;
     if (!is_good) snprintf(why, room, "sslrootcert: it is missing");
     return is_good ? (struct pagelog_tls *)&somebody : NULL;
-}
-
-static void must(const char *what, bool holds) {
-    if (holds) return;
-    fprintf(stderr, "fuzz_settings: %s\n", what);
-    abort();
 }
 
 /* Splits the text into parameters; how many there are. */
