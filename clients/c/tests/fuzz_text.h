@@ -9,7 +9,11 @@
 #include <stdio.h>
 #include <string.h>
 
+#ifdef __clang__
 #define SLOWLY __attribute__((no_builtin, no_sanitize("coverage"), unused)) static
+#else
+#define SLOWLY __attribute__((unused)) static
+#endif
 
 SLOWLY size_t text_length(const char *text) {
     size_t length = 0;

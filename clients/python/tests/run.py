@@ -57,6 +57,7 @@ PARTS = {
     "test_identity": "names that are used again, numbers that come again",
     "test_lines": "the words of docs/LINES.md",
     "test_mixed": "keepers and clients of 0.1.0 beside these",
+    "test_seeds": "what others may send: the seeds of the fuzz targets",
     "test_upon": "commits upon what is not durable yet",
     "test_orders": "a named writer in many orders of deaths and other writers",
     "test_named": "writers and readers of named databases, without keepers",
