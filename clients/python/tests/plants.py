@@ -554,6 +554,7 @@ PLANTS = {
     "PostgreSQL, a session without TLS": Plant("referee", "make_conninfo(**words), autocommit=True", 'make_conninfo(**words | {"sslmode": "disable"}), autocommit=True',
                                                "secured", "with_verify_full"),
     "a word that is too long": Plant("c/pagelog_place.c", "    if (strlen(word) >= room) return false;\n", "    (void)room;\n", "seeds", "what_a_keeper_says"),
+    "a number that is too long": Plant("fast_path_writers.c", " || end - at > EPOCH_DIGITS", "", "seeds", "what_writers_say"),
     "TLS, hosts": Plant("../secure", "    assert context.check_hostname and context.verify_mode is ssl.CERT_REQUIRED\n", "    context.check_hostname = False\n",
                         "trust", "certificates_that_are"),
     "TLS, CAs": Plant("../secure", "    assert context.check_hostname and context.verify_mode is ssl.CERT_REQUIRED\n",

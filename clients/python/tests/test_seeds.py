@@ -8,13 +8,24 @@ import unittest
 
 from service import PATIENCE, TOP
 
-C = TOP / "clients" / "c"
+C, PYTHON = TOP / "clients" / "c", TOP / "clients" / "python"
+BUILT = PYTHON / "out" / "seeds_"
+"""How files that are built begin: not in clients/c, which a plant has from elsewhere."""
 
 
 class Seeds(unittest.TestCase):
     def look(self, target: str, seeds: str | None = None) -> None:
+        BUILT.parent.mkdir(exist_ok=True)
         built = subprocess.run(
-            ["make", "-s", "-j4", "seeds", f"TARGETS={target}"],
+            [
+                "make",
+                "-s",
+                "seeds",
+                f"TARGETS={target}",
+                f"SEEDS={BUILT}",
+                f"KEEPER={PYTHON}/src/pagelog/keeper",
+                f"PAGES={TOP}/clients/pages",
+            ],
             cwd=C,
             stdout=subprocess.PIPE,
             stderr=subprocess.STDOUT,
@@ -22,7 +33,7 @@ class Seeds(unittest.TestCase):
         self.assertEqual(built.returncode, 0, built.stdout.decode())
         files = sorted((C / "tests" / "seeds" / (seeds or target)).iterdir())
         done = subprocess.run(
-            [C / "out" / f"seeds_{target}", *files],
+            [f"{BUILT}{target}", *files],
             env={**os.environ, "ASAN_OPTIONS": "detect_leaks=1"},
             stdout=subprocess.PIPE,
             stderr=subprocess.STDOUT,
@@ -47,6 +58,9 @@ class Seeds(unittest.TestCase):
 
     def test_what_a_client_asks_of_the_fast_path(self) -> None:
         self.look("asked")
+
+    def test_what_writers_say(self) -> None:
+        self.look("turns")
 
     def test_what_a_service_replies_to_it(self) -> None:
         self.look("pulled")
