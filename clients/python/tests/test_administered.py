@@ -16,7 +16,7 @@ from typing import Any, Callable
 
 from service import HERE
 from torture_check import BOUND, Check, Drop, Past
-from torture_notes import GENESIS, entry, link
+from torture_notes import GENESIS, Job, entry, link
 from torture_processes import end_told, in_own_space, signals_kept
 from torture_rig import DEATHS, ENOUGH, KINDS, SUBCOMMANDS, Carried, Counts, Loss
 
@@ -292,6 +292,16 @@ class Administered(unittest.TestCase):
             ),
             4,
         )
+
+
+class Draws(unittest.TestCase):
+    def test_no_session_of_a_client_draws_what_the_one_before_drew(self) -> None:
+        def drawn() -> list[float]:
+            job = Job(Path("/nowhere"), [], "p1", "p1.writes-0", 13)
+            return [next(job.until_over(0)).random() for _ in range(3)]
+
+        self.assertEqual(len(set(drawn())), 3)
+        self.assertEqual(drawn(), drawn())
 
 
 class Cells(unittest.TestCase):

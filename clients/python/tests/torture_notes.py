@@ -7,12 +7,13 @@ notes what it was shown. Times are of CLOCK_MONOTONIC, which all processes of a 
 from __future__ import annotations
 
 import hashlib
+import itertools
 import json
 import os
 import random
 import sys
 import time
-from dataclasses import dataclass
+from dataclasses import dataclass, field
 from pathlib import Path
 from typing import Any, Iterator
 
@@ -91,18 +92,16 @@ class Job:
     seed: int
     other: str = ""
     """A second database, which is attached."""
+    drawn: Iterator[int] = field(default_factory=itertools.count)
+    """Numbers what is drawn: of sessions that are cut short none is for ever the same."""
 
     @property
     def is_over(self) -> bool:
         return (self.folder / STOP).exists()
 
-    @property
-    def chance(self) -> random.Random:
-        return random.Random(f"{self.seed} {self.who}")
-
     def until_over(self, pause: float) -> Iterator[random.Random]:
         """One time after the other, with pauses that chance draws around this length."""
-        chance = self.chance
+        chance = random.Random(f"{self.seed} {self.who} {next(self.drawn)}")
         while not self.is_over:
             yield chance
             time.sleep(pause * 2 * chance.random())
