@@ -125,6 +125,27 @@ static enum answered put_blocks(struct store_view *view, const struct request *r
     return ANSWERED;
 }
 
+/* As a service's table decides, and then by what there is. */
+static struct denial decide(const struct table *table, struct store *store, const struct request *request,
+                            uint64_t confirmed) {
+    struct denial denial = table_decide(table, &request->question);
+    uint64_t oldest = store_oldest(store);
+    if (denial.section != 0 || request->question.op == STATUS) return denial;
+    if (request->position > confirmed) return (struct denial){3, 1, confirmed};
+    if (request->position < oldest) return (struct denial){3, 10, oldest};
+    return denial;
+}
+
+bool answer_reads(const struct table *table, struct store *store, const uint8_t *body, size_t length,
+                  struct place *place) {
+    struct request request;
+    uint64_t confirmed = store_confirmed(store);
+    if (read_request(body, length, &request) != 0 || request.question.op != GET) return false;
+    if (decide(table, store, &request, confirmed).section != 0) return false;
+    *place = (struct place){request.page, position_of(table, &request, confirmed)};
+    return true;
+}
+
 enum answered answer_body(const struct table *table, struct store *store, struct store_view *view,
                           const uint8_t *body, size_t length, bool may_wait, uint64_t *wanted,
                           uint8_t **out) {
@@ -134,16 +155,11 @@ enum answered answer_body(const struct table *table, struct store *store, struct
         put_malformed(out, fault);
         return ANSWERED;
     }
-    struct denial denial = table_decide(table, &request.question);
-    uint64_t confirmed = store_confirmed(store), oldest = store_oldest(store);
-    if (denial.section == 0 && op != STATUS && request.position > confirmed) {
-        if (op == GET && may_wait) {
-            *wanted = request.position;
-            return ANSWER_WAITS;
-        }
-        denial = (struct denial){3, 1, confirmed};
-    } else if (denial.section == 0 && op != STATUS && request.position < oldest) {
-        denial = (struct denial){3, 10, oldest};
+    uint64_t confirmed = store_confirmed(store);
+    struct denial denial = decide(table, store, &request, confirmed);
+    if (denial.section == 3 && denial.row == 1 && op == GET && may_wait) {
+        *wanted = request.position;
+        return ANSWER_WAITS;
     }
     if (denial.section != 0) {
         put_denial(out, denial);

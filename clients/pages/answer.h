@@ -2,6 +2,7 @@
 #ifndef ANSWER_H
 #define ANSWER_H
 
+#include "ahead.h"
 #include "store.h"
 #include "table.h"
 
@@ -19,5 +20,9 @@ enum answered {
  * is confirmed, and `may_wait`, that is `*wanted`. */
 enum answered answer_body(const struct table *table, struct store *store, struct store_view *view,
                           const uint8_t *body, size_t length, bool may_wait, uint64_t *wanted, uint8_t **out);
+
+/* Whether the body is of a get that would be answered with a page now, and which one. */
+bool answer_reads(const struct table *table, struct store *store, const uint8_t *body, size_t length,
+                  struct place *place);
 
 #endif

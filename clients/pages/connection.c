@@ -8,6 +8,8 @@
 #include <sys/socket.h>
 #include <unistd.h>
 
+enum { MOST_AHEAD = REPLIES_AT_ONCE / PAGE_BYTES };
+
 enum step { GOES_ON, RESTS, IS_OVER };
 
 void connection_close(struct connection *connection) {
@@ -86,6 +88,24 @@ bool room_look(struct room *room) {
     return room->table != NULL;
 }
 
+/* Reads together what the next whole frames ask for, as far as they are answered at once. Returns how many
+ * reads of the disk it took. */
+static uint64_t read_ahead(const struct connection *connection, struct room *room) {
+    struct place places[MOST_AHEAD];
+    unsigned frames = 0, count = 0;
+    size_t at = 0, body;
+    bool is_too_long;
+    if (!room_look(room)) return 0;
+    for (; frames < MOST_AHEAD; frames++, at += FRAME_HEAD + body) {
+        const uint8_t *frame = connection->in + at;
+        if (!first_frame(frame, connection->in_length - at, &body, &is_too_long)) break;
+        struct place *place = &places[count];
+        if (answer_reads(room->table, room->store, frame + FRAME_HEAD, body, place))
+            count += !store_has_page(room->store, place->page, place->position);
+    }
+    return frames > 1 ? ahead_read(room->ahead, room->view, places, count) : 0;
+}
+
 /* Answers the whole frames that there are, up to some 256 KiB of replies, each by the table that decides
  * then. RESTS: no whole frame is left, or the next one waits. Where nobody is answered any more nor is what
  * was not sent yet. */
@@ -93,6 +113,7 @@ static enum step answer_frames(struct connection *connection, struct room *room,
     size_t at = 0, body;
     bool is_too_long = false;
     enum step step = GOES_ON;
+    uint64_t before = store_reads(room->view), ahead = connection->is_cold ? read_ahead(connection, room) : 0;
     while (step == GOES_ON && *end - room->out < REPLIES_AT_ONCE) {
         const uint8_t *frame = connection->in + at;
         if (!first_frame(frame, connection->in_length - at, &body, &is_too_long)) {
@@ -116,6 +137,7 @@ static enum step answer_frames(struct connection *connection, struct room *room,
             at += FRAME_HEAD + body;
         }
     }
+    if (at > 0) connection->is_cold = ahead > 0 || store_reads(room->view) > before;
     memmove(connection->in, connection->in + at, connection->in_length - at);
     connection->in_length -= at;
     return is_too_long ? IS_OVER : step;

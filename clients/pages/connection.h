@@ -22,6 +22,7 @@ struct connection {
     size_t in_length;
     uint8_t *out;
     size_t out_at, out_length;
+    bool is_cold;     /* its last replies took reads of the disk */
     bool is_over;     /* it ends once its replies are sent */
     uint64_t wanted;  /* the position that its next request waits for; 0: it waits for none */
     int64_t deadline; /* of that, in ms of the system's steady clock */
@@ -37,6 +38,7 @@ struct room {
     struct store *store;
     struct store_view *view;
     const struct shown *shown;
+    struct ahead *ahead;
     unsigned wait_ms;
     int64_t now;
     uint8_t *out;   /* of OUT_ROOM */

@@ -49,9 +49,20 @@ static void unlock(struct hot *hot, const struct slot *slot) {
     pthread_mutex_unlock(&hot->locks[(size_t)(slot - hot->slots) % LOCKS]);
 }
 
+static bool is_in(const struct slot *slot, uint32_t page, uint64_t position) {
+    return slot->upto && slot->page == page && slot->from <= position && position <= slot->upto;
+}
+
+bool hot_has(struct hot *hot, uint32_t page, uint64_t position) {
+    struct slot *slot = lock(hot, page);
+    bool is_here = is_in(slot, page, position);
+    unlock(hot, slot);
+    return is_here;
+}
+
 bool hot_find(struct hot *hot, uint32_t page, uint64_t position, uint8_t out[PAGE_BYTES]) {
     struct slot *slot = lock(hot, page);
-    bool is_here = slot->upto && slot->page == page && slot->from <= position && position <= slot->upto;
+    bool is_here = is_in(slot, page, position);
     if (is_here) memcpy(out, slot->bytes, PAGE_BYTES);
     unlock(hot, slot);
     return is_here;

@@ -14,7 +14,10 @@ void hot_free(struct hot *hot);
 
 /* Whether the page at this position is here, without a look at the rows. */
 bool hot_find(struct hot *hot, uint32_t page, uint64_t position, uint8_t out[PAGE_BYTES]);
-/* The same, where its newest row at or below the position is known, which is of position `from`; 0: none. */
+/* The same, without its bytes. */
+bool hot_has(struct hot *hot, uint32_t page, uint64_t position);
+/* As `hot_find`, where its newest row at or below the position is known, which is of position `from`; 0:
+ * none. */
 bool hot_is_still(struct hot *hot, uint32_t page, uint64_t from, uint64_t position, uint8_t out[PAGE_BYTES]);
 void hot_keep(struct hot *hot, uint32_t page, uint64_t from, uint64_t position,
               const uint8_t bytes[PAGE_BYTES]);

@@ -1,7 +1,8 @@
 /* pagelog-pages: keeps the pages of one database at every position, and answers for them.
  *
  *   pagelog-pages --folder FOLDER --listen HOST:PORT [--secure HOST:PORT --tls FILE [--clients FILE
- *     --identity ID]] [--cache MIB] [--memtable MIB] [--workers N] [--connections N] [--wait MS] [--direct]
+ *     --identity ID]] [--cache MIB] [--memtable MIB] [--workers N] [--readers N] [--connections N]
+ *     [--wait MS] [--direct]
  *
  * At --secure it speaks TLS, with the certificate and the key of a file; with `--listen -` there alone. With
  * --clients who comes there shows a certificate of these authorities, with the common name ID.
@@ -58,6 +59,8 @@ static bool set_number(struct settings *settings, int option, unsigned long numb
         return settings->server.workers = (unsigned)number, number <= 64;
     case 'n':
         return settings->server.connections = (unsigned)number, true;
+    case 'r':
+        return settings->server.readers = (unsigned)number, number <= 64;
     case 't':
         return settings->server.wait_ms = (unsigned)number, number <= 60000;
     default:
@@ -95,6 +98,7 @@ static bool read_arguments(int count, char **words, struct settings *settings) {
         {"cache", required_argument, NULL, 'c'},
         {"memtable", required_argument, NULL, 'm'},
         {"workers", required_argument, NULL, 'w'},
+        {"readers", required_argument, NULL, 'r'},
         {"connections", required_argument, NULL, 'n'},
         {"wait", required_argument, NULL, 't'},
         {"direct", no_argument, NULL, 'd'},
@@ -168,13 +172,13 @@ static const char *listen_everywhere(struct settings *settings) {
 int main(int count, char **words) {
     struct settings settings = {
         .store = {.cache = 256 * MIB, .memtable = 32 * MIB},
-        .server = {.workers = 4, .connections = 1024, .wait_ms = 100},
+        .server = {.workers = 8, .readers = 8, .connections = 1024, .wait_ms = 100},
     };
     char *why, why_not[PAGELOG_WHY_BYTES];
     if (!read_arguments(count, words, &settings)) {
         fputs("usage: pagelog-pages --folder FOLDER --listen HOST:PORT [--secure HOST:PORT --tls FILE\n"
               "                     [--clients FILE --identity ID]] [--cache MIB] [--memtable MIB] "
-              "[--workers N]\n"
+              "[--workers N] [--readers N]\n"
               "                     [--connections N] [--wait MS] [--direct]\n",
               stderr);
         return 2;

@@ -3,6 +3,7 @@
 #include "connection.h"
 
 #include <errno.h>
+#include <fcntl.h>
 #include <netinet/in.h>
 #include <netinet/tcp.h>
 #include <pthread.h>
@@ -17,10 +18,18 @@
 
 enum { EVENTS = 64, OLD_TABLES = 16, LOOK_WAIT_US = 100 };
 
+/* A connection on its way to the worker that keeps it. */
+struct arrival {
+    int socket;
+    bool is_secure;
+};
+
 struct worker {
     struct server *server;
     pthread_t thread;
     int poll, bell;
+    int inbox, its_inbox;  /* the two ends of a pipe of arrivals */
+    _Atomic unsigned held; /* connections that are its own, or on their way */
     struct room room;
     struct connection connections; /* a ring, of which this is no member */
     struct connection *next;       /* of a walk: what is closed is no member any more */
@@ -38,6 +47,7 @@ struct server {
     struct table *old[OLD_TABLES]; /* that a thread may still read */
     unsigned olds, workers;
     struct worker *worker;
+    struct ahead *ahead;
 };
 
 static int64_t now_ms(void) {
@@ -63,13 +73,19 @@ static void watch(struct worker *worker, struct connection *connection, int how)
     epoll_ctl(worker->poll, how, connection->socket, &event);
 }
 
+/* One connection less. */
+static void let_go(struct worker *worker) {
+    worker->held--;
+    worker->server->open--;
+}
+
 static void forget(struct worker *worker, struct connection *connection) {
     if (connection->wanted) worker->waiting--;
     if (worker->next == connection) worker->next = connection->after;
     connection->before->after = connection->after;
     connection->after->before = connection->before;
     connection_close(connection);
-    worker->server->open--;
+    let_go(worker);
 }
 
 static void turn(struct worker *worker, struct connection *connection) {
@@ -97,15 +113,17 @@ static struct connection *made_of(int socket, struct shown *shown) {
     return NULL;
 }
 
-static void keep(struct worker *worker, int socket, struct shown *shown) {
-    struct connection *connection = made_of(socket, shown);
+/* Before there is a table a connection ends as it comes. */
+static void keep(struct worker *worker, struct arrival arrival) {
+    struct shown *shown = arrival.is_secure ? worker->server->settings.shown : NULL;
+    struct connection *connection = worker->room.table ? made_of(arrival.socket, shown) : NULL;
     int one = 1;
     if (!connection) {
-        close(socket);
-        worker->server->open--;
+        close(arrival.socket);
+        let_go(worker);
         return;
     }
-    setsockopt(socket, IPPROTO_TCP, TCP_NODELAY, &one, sizeof one);
+    setsockopt(arrival.socket, IPPROTO_TCP, TCP_NODELAY, &one, sizeof one);
     connection->before = worker->connections.before;
     connection->after = &worker->connections;
     connection->before->after = connection;
@@ -113,17 +131,40 @@ static void keep(struct worker *worker, int socket, struct shown *shown) {
     watch(worker, connection, EPOLL_CTL_ADD);
 }
 
-/* Above the bound, or before there is a table, a connection ends as it comes. */
-static void accept_one(struct worker *worker, int listener, struct shown *shown) {
+/* The one with the fewest connections: one that reads of the disk holds up its others. */
+static struct worker *least_busy(struct worker *worker) {
     struct server *server = worker->server;
-    int socket = accept4(listener, NULL, NULL, SOCK_NONBLOCK | SOCK_CLOEXEC);
-    if (socket < 0) return;
+    struct worker *least = worker;
+    for (unsigned n = 0; n < server->workers; n++) {
+        if (server->worker[n].held < least->held) least = &server->worker[n];
+    }
+    return least;
+}
+
+/* Above the bound, or before there is a table, a connection ends as it comes. */
+static void accept_one(struct worker *worker, int listener, bool is_secure) {
+    struct server *server = worker->server;
+    struct arrival arrival = {accept4(listener, NULL, NULL, SOCK_NONBLOCK | SOCK_CLOEXEC), is_secure};
+    if (arrival.socket < 0) return;
     if (server->open++ >= server->settings.connections || !worker->room.table) {
-        close(socket);
+        close(arrival.socket);
         server->open--;
         return;
     }
-    keep(worker, socket, shown);
+    struct worker *least = least_busy(worker);
+    least->held++;
+    if (least == worker) {
+        keep(worker, arrival);
+    } else if (write(least->its_inbox, &arrival, sizeof arrival) != sizeof arrival) {
+        close(arrival.socket);
+        let_go(least);
+    }
+}
+
+static void take_in(struct worker *worker) {
+    struct arrival arrival;
+    while (read(worker->inbox, &arrival, sizeof arrival) == sizeof arrival)
+        keep(worker, arrival);
 }
 
 /* Those that wait, and have it or have waited long enough: after that one may wait for the next. */
@@ -168,10 +209,12 @@ static void hear(struct worker *worker, const struct epoll_event *event) {
     if (event->data.ptr == worker) {
         ssize_t got = read(worker->bell, &rung, sizeof rung);
         (void)got;
+    } else if (event->data.ptr == &worker->inbox) {
+        take_in(worker);
     } else if (event->data.ptr == &settings->listener) {
-        accept_one(worker, settings->listener, NULL);
+        accept_one(worker, settings->listener, false);
     } else if (event->data.ptr == &settings->secure_listener) {
-        accept_one(worker, settings->secure_listener, settings->shown);
+        accept_one(worker, settings->secure_listener, true);
     } else if (event->events & (EPOLLERR | EPOLLHUP)) {
         forget(worker, event->data.ptr);
     } else {
@@ -183,6 +226,7 @@ static void *work(void *given) {
     struct worker *worker = given;
     struct epoll_event events[EVENTS];
     int64_t deadline = -1;
+    pthread_setname_np(pthread_self(), "worker");
     while (!worker->server->ends) {
         int64_t left = deadline < 0 ? -1 : deadline - now_ms();
         int count = epoll_wait(worker->poll, events, EVENTS, deadline < 0 ? -1 : left < 0 ? 0 : (int)left);
@@ -198,7 +242,13 @@ static void *work(void *given) {
     return NULL;
 }
 
+/* Of a worker whose thread has ended, and no other's goes on. */
 static void free_worker(struct worker *worker) {
+    struct arrival arrival;
+    while (worker->inbox >= 0 && read(worker->inbox, &arrival, sizeof arrival) == sizeof arrival)
+        close(arrival.socket);
+    if (worker->inbox >= 0) close(worker->inbox);
+    if (worker->its_inbox >= 0) close(worker->its_inbox);
     if (worker->poll >= 0) close(worker->poll);
     if (worker->bell >= 0) close(worker->bell);
     store_view_free(worker->room.view);
@@ -213,17 +263,25 @@ static bool hear_at(const struct worker *worker, int *listener) {
 }
 
 static bool start_worker(struct server *server, struct worker *worker) {
+    int pipe[2] = {-1, -1};
     *worker = (struct worker){.server = server, .bell = eventfd(0, EFD_NONBLOCK | EFD_CLOEXEC)};
+    if (pipe2(pipe, O_NONBLOCK | O_CLOEXEC) != 0) pipe[0] = pipe[1] = -1;
+    worker->inbox = pipe[0];
+    worker->its_inbox = pipe[1];
     worker->poll = epoll_create1(EPOLL_CLOEXEC);
     worker->connections.before = worker->connections.after = &worker->connections;
     worker->room = (struct room){.store = server->settings.store, .wait_ms = server->settings.wait_ms};
     worker->room.shown = server->settings.shown;
+    worker->room.ahead = server->ahead;
     worker->room.newest = &server->table;
     worker->room.view = store_view_new(server->settings.store);
     worker->room.out = malloc(OUT_ROOM);
     struct epoll_event bell = {.events = EPOLLIN, .data.ptr = worker};
+    struct epoll_event inbox = {.events = EPOLLIN, .data.ptr = &worker->inbox};
     bool is_ready = worker->bell >= 0 && worker->poll >= 0 && worker->room.view && worker->room.out;
     is_ready = is_ready && epoll_ctl(worker->poll, EPOLL_CTL_ADD, worker->bell, &bell) == 0;
+    is_ready =
+        is_ready && worker->inbox >= 0 && epoll_ctl(worker->poll, EPOLL_CTL_ADD, worker->inbox, &inbox) == 0;
     is_ready = is_ready && hear_at(worker, &server->settings.listener) &&
                hear_at(worker, &server->settings.secure_listener);
     if (is_ready && pthread_create(&worker->thread, NULL, work, worker) == 0) return true;
@@ -235,8 +293,9 @@ struct server *server_start(const struct server_settings *settings) {
     struct server *server = calloc(1, sizeof *server);
     if (!server) return NULL;
     server->settings = *settings;
+    server->ahead = ahead_start(settings->store, settings->readers);
     server->worker = calloc(settings->workers, sizeof *server->worker);
-    while (server->worker && server->workers < settings->workers &&
+    while (server->ahead && server->worker && server->workers < settings->workers &&
            start_worker(server, &server->worker[server->workers])) {
         server->workers++;
     }
@@ -280,8 +339,10 @@ void server_stop(struct server *server) {
     for (unsigned n = 0; n < server->workers; n++) {
         ring(&server->worker[n]);
         pthread_join(server->worker[n].thread, NULL);
-        free_worker(&server->worker[n]);
     }
+    for (unsigned n = 0; n < server->workers; n++)
+        free_worker(&server->worker[n]);
+    ahead_stop(server->ahead);
     for (unsigned n = 0; n < OLD_TABLES; n++)
         free(server->old[n]);
     free(server->table);

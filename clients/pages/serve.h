@@ -13,6 +13,7 @@ struct server_settings {
     int listener, secure_listener;
     struct shown *shown; /* to who comes by the secure one */
     unsigned workers, connections;
+    unsigned readers; /* more threads, which read what connections ask for together */
     unsigned wait_ms; /* how long a get waits for a position that is not there yet */
 };
 

@@ -22,7 +22,6 @@ static rocksdb_block_based_table_options_t *table_options(struct store *store) {
     rocksdb_block_based_options_set_pin_l0_filter_and_index_blocks_in_cache(table, 1);
     rocksdb_block_based_options_set_index_type(table,
                                                rocksdb_block_based_table_index_type_two_level_index_search);
-    rocksdb_block_based_options_set_partition_filters(table, 1);
     rocksdb_block_based_options_set_filter_policy(table, rocksdb_filterpolicy_create_bloom_full(BLOOM_BITS));
     rocksdb_block_based_options_set_whole_key_filtering(table, 0);
     rocksdb_block_based_options_set_format_version(table, TABLE_FORMAT);

@@ -77,6 +77,11 @@ void store_view_free(struct store_view *view);
  * damaged. */
 bool store_page(struct store_view *view, uint32_t page, uint64_t position, uint8_t out[PAGE_BYTES]);
 
+/* Whether that page is in memory as it is then; false: it may be all the same. */
+bool store_has_page(struct store *store, uint32_t page, uint64_t position);
+/* How many reads of the disk the calling thread has done, where it is the only one that uses this view. */
+uint64_t store_reads(struct store_view *view);
+
 /* The first block at `*position` or behind it, at most `last`, which touches a partition from `low` to
  * `high`. `*position` becomes its own; 0: there is none. The bytes are the view's until its next call. False:
  * as above. */

@@ -18,7 +18,8 @@ struct store_view {
     struct store *store;
     rocksdb_readoptions_t *options, *total;
     rocksdb_iterator_t *rows, *blocks;
-    uint64_t seen; /* `writes` of the store that `rows` was made after */
+    uint64_t seen;                 /* `writes` of the store that `rows` was made after */
+    rocksdb_perfcontext_t *counts; /* of the thread that reads */
     struct sets sets;
 };
 
@@ -47,6 +48,7 @@ void store_view_free(struct store_view *view) {
     free(view->sets.found);
     if (view->rows) rocksdb_iter_destroy(view->rows);
     if (view->blocks) rocksdb_iter_destroy(view->blocks);
+    if (view->counts) rocksdb_perfcontext_destroy(view->counts);
     rocksdb_readoptions_destroy(view->options);
     rocksdb_readoptions_destroy(view->total);
     free(view);
@@ -163,6 +165,15 @@ bool store_page(struct store_view *view, uint32_t page, uint64_t position, uint8
     free_sets(&view->sets);
     if (hot && is_good) hot_keep(hot, page, from, position, out);
     return is_good;
+}
+
+bool store_has_page(struct store *store, uint32_t page, uint64_t position) {
+    return hot_has(store->hot, page, position);
+}
+
+uint64_t store_reads(struct store_view *view) {
+    if (!view->counts) view->counts = rocksdb_perfcontext_create();
+    return rocksdb_perfcontext_metric(view->counts, rocksdb_block_read_count);
 }
 
 bool store_block(struct store_view *view, uint64_t *position, uint64_t last, unsigned low, unsigned high,

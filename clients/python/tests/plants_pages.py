@@ -91,6 +91,8 @@ PLANTS = {
                                                        "pages_nearest", "that_says_nothing"),
     "pages of SQLite nearest, for a service": Plant("c/pagelog_paged.c", "file->options.pages == PAGELOG_PAGES_PREFERRED", "file->options.pages != PAGELOG_PAGES_ONLY", "pages_nearest",
                                                     "what_came_after_is_laid_over"),
+    "pages, one after the other": Plant(f"{_C}/connection.c", "ahead = connection->is_cold ?", "ahead = connection->is_cold && !room->ahead ?", "pages", "of_the_disk_together"),
+    "pages, all at one thread": Plant(f"{_C}/serve.c", "        if (server->worker[n].held < least->held)", "        if (server->worker[n].held < 0 * least->held)", "pages", "as_many_connections"),
     "pages, chain not compared": Plant(f"{_C}/store_write.c", "(store->chain.length != CHAIN_BYTES || memcmp(chain, store->chain.bytes, CHAIN_BYTES) != 0)", "store->chain.length > CHAIN_BYTES", "pages", "another_chain"),
     "pages, half a base": Plant(f"{_C}/store.c", "    if (!has_rows) return true;\n", "    if (!has_rows || !*why) return true;\n", "pages", "begins_with_images"),
     "pages, records of the filter": Plant(f"{_C}/store_forget.c", "key[PAGE_KEY - 1] == IMAGE ||", "true ||", "pages", "is_forgotten_goes"),

@@ -18,7 +18,7 @@ import unittest
 from contextlib import closing, suppress
 from itertools import accumulate, product
 from pathlib import Path
-from typing import Any, Iterator
+from typing import Any, Iterator, Sequence
 from unittest.mock import patch
 
 import pages_program
@@ -501,6 +501,75 @@ class Pages(Paged):
         """Of a processor, that it has taken."""
         text = Path(f"/proc/{pages.pid}/stat").read_text().rpartition(")")[2].split()
         return int(text[11]) + int(text[12])
+
+    def test_what_is_asked_together_is_read_of_the_disk_together(self) -> None:
+        images = {number: random.Random(number).randbytes(8192) for number in range(2000)}
+        pages = self.start("--workers", "1", "--readers", "3", "--direct")
+        pages.begin(1, b"c" * 16, images.items())
+        pages.end()
+        pages = self.start("--workers", "1", "--readers", "3", "--direct")
+        drawn = random.Random(10).sample(range(100, 2000), 640)
+        with closing(socket.create_connection(self.split(pages.address), PATIENCE)) as line:
+            before = self.switches(pages, "reader")
+            for first in range(0, len(drawn), 64):
+                self.ask_together(line, images, drawn[first : first + 64])
+            self.assertGreater(self.switches(pages, "reader"), before + 60)
+            for _ in range(3):  # until all of it is in memory, and that is known
+                self.ask_together(line, images, range(64))
+            before = self.switches(pages, "reader")
+            for _ in range(10):
+                self.ask_together(line, images, range(64))
+            self.assertEqual(self.switches(pages, "reader"), before, "pages are in memory")
+
+    def ask_together(
+        self, line: socket.socket, images: dict[int, bytes], numbers: Sequence[int]
+    ) -> None:
+        frames = [
+            struct.pack(">II16sBIIBIQB", 43, 3, bytes.fromhex(token(3)), 2, 0, 1, 4, number, 1, 1)
+            for number in numbers
+        ]
+        line.sendall(b"".join(frames))
+        with line.makefile("rb") as replies:
+            for number in numbers:
+                self.assertEqual(replies.read(13), struct.pack(">IBQ", 8201, 2, 1))
+                self.assertEqual(replies.read(8192), images[number])
+
+    @staticmethod
+    def switches(pages: PagesProcess, name: str) -> int:
+        """How often threads of this name have rested, once all of them do."""
+        folder = Path(f"/proc/{pages.pid}/task")
+        tasks = [each for each in folder.iterdir() if (each / "comm").read_text() == f"{name}\n"]
+        state = lambda task: (task / "stat").read_text().rpartition(")")[2].split()[0]  # noqa: E731
+        eventually(lambda: {*map(state, tasks)} == {"S"}, "that all rest")
+        texts = [(each / "status").read_text() for each in tasks]
+        return sum(
+            int(text.partition("\nvoluntary_ctxt_switches:")[2].split()[0]) for text in texts
+        )
+
+    def test_each_thread_has_as_many_connections_as_the_others(self) -> None:
+        pages = self.start("--workers", "4")
+        for _ in range(8):
+            self.enterContext(closing(socket.create_connection(self.split(pages.address))))
+        eventually(lambda: sorted(self.of_each_poll(pages)) == [2, 2, 2, 2], "that they are spread")
+        pages.close_doors()
+        eventually(lambda: pages.ask().connections == 0, "the end of all connections")
+        pages.set_table(TABLE.read_text())
+        for _ in range(4):
+            self.enterContext(closing(socket.create_connection(self.split(pages.address))))
+        eventually(lambda: sorted(self.of_each_poll(pages)) == [1, 1, 1, 1], "that they are spread")
+
+    @staticmethod
+    def of_each_poll(pages: PagesProcess) -> list[int]:
+        """How many connections each thread listens to, which has a listener too."""
+        folder, found = Path(f"/proc/{pages.pid}"), []
+        for file in (folder / "fd").iterdir():
+            with suppress(OSError):  # closed meanwhile
+                if "eventpoll" in os.readlink(file):
+                    text = (folder / "fdinfo" / file.name).read_text()
+                    watched = [line.split()[1] for line in text.splitlines() if "tfd:" in line]
+                    names = [os.readlink(folder / "fd" / each) for each in watched]
+                    found.append(sum(name.startswith("socket:") for name in names) - 1)
+        return found
 
     def test_one_that_reads_nothing_and_one_that_is_stopped_hold_up_nobody(self) -> None:
         log = Log(40, 9)
