@@ -7,19 +7,18 @@ processors 0 and 1, clients 2 and 3. Both have the same blocks, ten records in e
 
 - gets: of drawn pages, one at a time on 1, 8 and 64 connections, and 64 together on one: rates, and shares of the service's, round by
   round: the median, and the half of the rounds around it. Then two page servers, each on a processor of its own, beside one.
-- large: a database of which nothing is in memory, with 512 MiB of cache and O_DIRECT: reads, beside reads of 8 KiB of the same files;
-  memory after many of them.
+- large: 8 GiB of pages with 512 MiB of cache, which is full, and O_DIRECT: gets of pages that are not in it, beside reads of 8 KiB of the
+  same files, by bench/reads.c, on the same processors: the median time of one of one client and of 8, and of many in flight, shared by
+  them; memory after each page was read.
 - following: how many blocks are taken in a second, and how soon it answers again after a SIGKILL amid that.
 - readable: under keepers, from when a commit is told to be durable until a get at its position is answered.
 """
 
 import contextlib
-import mmap
 import os
 import pathlib
 import random
 import signal
-import socket
 import statistics
 import subprocess
 import sys
@@ -44,7 +43,7 @@ ROUNDS = max(3, round(15 * SHARE))
 REPLY = 4 + 1 + 8 + 8192
 NUMBERS, RECORDS = 4000, 10
 LAST = NUMBERS * RECORDS
-LARGE = round((1 << 18) * SHARE)
+LARGE = round((1 << 20) * SHARE)
 DENIED = '[[row]]\nverdict = "deny"\nwho = 3\nop = ["get"]\nfrom = 7\nto = 7\n'
 ALLOWED = TABLE.read_text().replace(DENIED, "")
 
@@ -198,72 +197,94 @@ def large(folder):
     began = time.perf_counter()
     with page_server(store, "--cache", "512", "--direct") as pages:
         pages.begin(1, b"c" * 16, ((n, chance.randbytes(4096) + bytes(4096)) for n in range(LARGE)))
-        print(
-            f"{LARGE:,} pages taken in: {time.perf_counter() - began:.0f} s; {load()}", flush=True
-        )
-    files = [file for file in store.parent.glob("large*/**/*.sst")] or list(store.rglob("*.sst"))
+        took = time.perf_counter() - began
+        print(f"{LARGE:,} pages taken in: {took:.0f} s; {load()}", flush=True)
+    files = [file for file in store.rglob("*.sst") if file.stat().st_size > 1 << 20]
     size = sum(file.stat().st_size for file in files)
     with page_server(store, "--cache", "512", "--direct") as pages:
         print(f"opened with {resident(pages.pid)} MiB; {size >> 20} MiB on the disk", flush=True)
-        numbers = random.Random(3).sample(range(LARGE), min(LARGE, round(6000 * SHARE)))
-        found = rounds.in_turn(
-            ROUNDS,
-            ("page server", "files"),
-            Cold(pages.port, files, numbers).run,
-        )
-        ratio = rounds.ratio(found["page server"], found["files"])
-        print(
-            f"cold reads one at a time: {1e6 * statistics.median(found['page server']):.0f} us, of 8 KiB of its files "
-            f"{1e6 * statistics.median(found['files']):.0f}; {ratio}; {load()}",
-            flush=True,
-        )
-        read_all(pages.port, range(0, LARGE))
+        cold = Cold(pathlib.Path(folder), pages.port, files)
+        cold.read(range(LARGE // 2))  # so the cache is full
+        for shape in (Cold.alone, Cold.eight, Cold.together):
+            found = rounds.in_turn(ROUNDS, ("pages", "files"), lambda case: shape(cold, case))
+            print(
+                f"cold reads, {shape.__doc__}: {statistics.median(found['pages']):.0f} us, of 8 KiB of its files "
+                f"{statistics.median(found['files']):.0f}; {rounds.ratio(found['pages'], found['files'])}; {load()}",
+                flush=True,
+            )
+        again = [cold.alone("memory") for _ in range(ROUNDS)]
+        print(f"the same once more, from memory, one at a time: {statistics.median(again):.0f} us")
+        cold.read(range(LARGE))
         print(f"memory after each page was read: {resident(pages.pid)} MiB; {load()}", flush=True)
 
 
 class Cold:
-    """Reads of pages, and of places in the files, of which none was read before."""
+    """Reads of pages that were not read before, of the second half, and of places in the files."""
 
-    def __init__(self, port, files, numbers):
-        self.port, self.each = port, len(numbers) // ROUNDS
-        self.numbers, self.chance = iter(numbers), random.Random(4)
-        self.files = [
-            (os.open(file, os.O_RDONLY | os.O_DIRECT), file.stat().st_size)
-            for file in files
-            if file.stat().st_size > 1 << 20
+    def __init__(self, folder, port, files):
+        self.folder, self.port, self.files = folder, port, files
+        self.frames = build_frames(folder)
+        self.reads = serving.build(folder, "reads")
+        self.each = round(64 * 64 * min(1, 8 * SHARE)) // 64 * 64
+        numbers = list(range(LARGE // 2, LARGE))
+        random.Random(3).shuffle(numbers)
+        self.numbers = iter(numbers)
+
+    def alone(self, case):
+        """one at a time"""
+        if case == "files":
+            return self.of_files(1)[1]
+        if case == "pages":
+            self.file("alone", self.each // 4)
+        words = ["delays", self.each // 4, "get", 1, self.folder / "alone"]
+        return float(asked(self.frames, self.port, words)[3])
+
+    def eight(self, case):
+        """one at a time on each of 8 connections"""
+        if case == "files":
+            return self.of_files(8)[1]
+        words = ["delays", self.each // 8]
+        for n in range(8):
+            words += ["get", 1, self.file(f"eight{n}", self.each // 4)]  # some are quicker
+        return statistics.median(map(float, asked(self.frames, self.port, words)[3::7]))
+
+    def together(self, case):
+        """64 and more in flight on one connection, of all of them each"""
+        if case == "files":
+            return 1e6 / self.of_files(64)[0]
+        return 1e6 * self.read(next(self.numbers) for _ in range(self.each // 4)) / (self.each // 4)
+
+    def read(self, numbers):
+        """In flight, as far as the connection takes it."""
+        drawn, took = list(numbers), 0
+        for first in range(0, len(drawn), 4096):
+            some = drawn[first : first + 4096]
+            file = self.folder / "some"
+            file.write_bytes(b"".join(spelled(number, 1) for number in some))
+            words = ["ask", 1, 1, 1, len(some) * REPLY, file]
+            took += float(asked(self.frames, self.port, words)[0])
+        return took
+
+    def file(self, name, count):
+        """With requests for the next pages."""
+        file = self.folder / name
+        file.write_bytes(b"".join(spelled(next(self.numbers), 1) for _ in range(count)))
+        return file
+
+    def of_files(self, threads):
+        """How many reads a second, and us of each, with what the page server's threads may have."""
+        processors = ",".join(map(str, SERVERS))
+        command = [
+            "taskset",
+            "-c",
+            processors,
+            self.reads,
+            threads,
+            self.each // threads,
+            *self.files,
         ]
-        self.room = mmap.mmap(-1, 8192)
-
-    def run(self, case):
-        """Seconds of one."""
-        return self.pages() if case == "page server" else self.of_files()
-
-    def pages(self):
-        numbers = [next(self.numbers) for _ in range(self.each)]
-        began = time.perf_counter()
-        read_all(self.port, numbers)
-        return (time.perf_counter() - began) / self.each
-
-    def of_files(self):
-        began = time.perf_counter()
-        for _ in range(self.each):
-            file, size = self.chance.choice(self.files)
-            os.preadv(file, [self.room], self.chance.randrange((size - 8192) >> 12) << 12)
-        return (time.perf_counter() - began) / self.each
-
-
-def read_all(port, numbers):
-    with connected(port) as line, line.makefile("rb") as file:
-        for number in numbers:
-            line.sendall(spelled(number, 1))
-            reply = file.read(REPLY)
-            assert reply[4] == serving.PAGE, reply[:20]
-
-
-def connected(port, host="127.0.0.1"):
-    line = socket.create_connection((host, port))
-    line.setsockopt(socket.IPPROTO_TCP, socket.TCP_NODELAY, 1)
-    return line
+        done = subprocess.run(list(map(str, command)), capture_output=True, text=True, check=True)
+        return [float(word) for word in done.stdout.split()]
 
 
 def resident(pid):

@@ -158,10 +158,14 @@ class Service:
 
 def build_frames(work):
     """The program that sends frames and times the replies, built in this folder."""
-    program = pathlib.Path(work) / "frames"
-    subprocess.run(
-        ["gcc", "-O2", "-pthread", "-o", program, ROOT / "bench" / "frames.c"], check=True
-    )
+    return build(work, "frames")
+
+
+def build(work, name):
+    """A program of this folder's, built in that one."""
+    program = pathlib.Path(work) / name
+    source = ROOT / "bench" / f"{name}.c"
+    subprocess.run(["gcc", "-O2", "-D_GNU_SOURCE", "-pthread", "-o", program, source], check=True)
     return program
 
 
