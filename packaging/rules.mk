@@ -21,7 +21,7 @@ c:
 	$(MAKE) -C $(C) CFLAGS="$(FLAGS)" pagelog_vfs.so out/pagelog_preload.so out/libpagelog.a
 
 servers:
-	$(MAKE) -C clients/pages CFLAGS="$(FLAGS)"
+	$(MAKE) -C clients/pages CFLAGS="$(FLAGS)" BUILT_FROM='commit $(COMMIT)'
 
 units:
 	mkdir -p $(MADE)

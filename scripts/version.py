@@ -10,6 +10,7 @@ SOURCE = "crates/pl_command/src/options.rt", r'^const VERSION: &str = "(\S+)";$'
 # What says the same.
 ALSO = [
     ("crates/pagelog_verify/src/arguments.rt", SOURCE[1]),
+    ("clients/pages/main.c", r'^static const char VERSION\[\] = "(\S+)";$'),
     ("clients/python/src/pagelog/__init__.py", r'^__version__ = "(.*)"$'),
     ("CHANGELOG.md", r"^## (\d\S*)$"),
 ]

@@ -3,6 +3,7 @@
  *   pagelog-pages --folder FOLDER --listen HOST:PORT [--secure HOST:PORT --tls FILE [--clients FILE
  *     --identity ID]] [--cache MIB] [--memtable MIB] [--workers N] [--readers N] [--connections N]
  *     [--wait MS] [--direct]
+ *   pagelog-pages --version
  *
  * At --secure it speaks TLS, with the certificate and the key of a file; with `--listen -` there alone. With
  * --clients who comes there shows a certificate of these authorities, with the common name ID.
@@ -21,6 +22,9 @@
 #include <string.h>
 #include <sys/socket.h>
 #include <unistd.h>
+
+/* That of the project, which scripts/version.py compares. */
+static const char VERSION[] = "0.2.0";
 
 enum { MIB = 1 << 20, BACKLOG = 128 };
 
@@ -175,11 +179,14 @@ int main(int count, char **words) {
         .server = {.workers = 8, .readers = 8, .connections = 1024, .wait_ms = 100},
     };
     char *why, why_not[PAGELOG_WHY_BYTES];
+    if (count == 2 && strcmp(words[1], "--version") == 0)
+        return printf("pagelog-pages, version %s, %s\n", VERSION, BUILT_FROM) < 0;
     if (!read_arguments(count, words, &settings)) {
         fputs("usage: pagelog-pages --folder FOLDER --listen HOST:PORT [--secure HOST:PORT --tls FILE\n"
               "                     [--clients FILE --identity ID]] [--cache MIB] [--memtable MIB] "
               "[--workers N] [--readers N]\n"
-              "                     [--connections N] [--wait MS] [--direct]\n",
+              "                     [--connections N] [--wait MS] [--direct]\n"
+              "       pagelog-pages --version\n",
               stderr);
         return 2;
     }

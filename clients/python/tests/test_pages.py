@@ -21,6 +21,7 @@ from pathlib import Path
 from typing import Any, Iterator, Sequence
 from unittest.mock import patch
 
+import pagelog
 import pages_program
 import psycopg
 from click.testing import CliRunner
@@ -545,6 +546,13 @@ class Pages(Paged):
         return sum(
             int(text.partition("\nvoluntary_ctxt_switches:")[2].split()[0]) for text in texts
         )
+
+    def test_the_program_says_its_version(self) -> None:
+        said = subprocess.run(
+            [pages_program.program(), "--version"], capture_output=True, text=True, check=True
+        ).stdout
+        wanted = f"pagelog-pages, version {pagelog.__version__}, from a source tree\n"
+        self.assertEqual(said, wanted)
 
     def test_each_thread_has_as_many_connections_as_the_others(self) -> None:
         pages = self.start("--workers", "4")
