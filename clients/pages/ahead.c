@@ -2,6 +2,7 @@
 
 #include <pthread.h>
 #include <stdlib.h>
+#include <time.h>
 
 /* What one caller wants, until all of it is read. */
 struct batch {
@@ -46,6 +47,21 @@ static void read_one(struct ahead *ahead, struct batch *batch, struct store_view
     if (++batch->done == batch->count) pthread_cond_signal(&batch->is_done);
 }
 
+/* Waits for more. Where the view holds something, a second at most. Locked, but while it lets go of that. */
+static void rest(struct ahead *ahead, struct store_view *view) {
+    struct timespec until;
+    clock_gettime(CLOCK_REALTIME, &until);
+    until.tv_sec++;
+    pthread_mutex_unlock(&ahead->lock);
+    bool holds = store_view_rest(view);
+    pthread_mutex_lock(&ahead->lock);
+    if (ahead->first || ahead->ends) return;
+    if (holds)
+        pthread_cond_timedwait(&ahead->has_more, &ahead->lock, &until);
+    else
+        pthread_cond_wait(&ahead->has_more, &ahead->lock);
+}
+
 static void *work(void *given) {
     struct ahead *ahead = given;
     uint8_t out[PAGE_BYTES];
@@ -56,7 +72,7 @@ static void *work(void *given) {
         if (ahead->first)
             read_one(ahead, ahead->first, view, out);
         else
-            pthread_cond_wait(&ahead->has_more, &ahead->lock);
+            rest(ahead, view);
     }
     pthread_mutex_unlock(&ahead->lock);
     store_view_free(view);

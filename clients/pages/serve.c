@@ -16,7 +16,7 @@
 #include <time.h>
 #include <unistd.h>
 
-enum { EVENTS = 64, OLD_TABLES = 16, LOOK_WAIT_US = 100 };
+enum { EVENTS = 64, OLD_TABLES = 16, LOOK_WAIT_US = 100, REST_MS = 1000 };
 
 /* A connection on its way to the worker that keeps it. */
 struct arrival {
@@ -222,20 +222,29 @@ static void hear(struct worker *worker, const struct epoll_event *event) {
     }
 }
 
+/* How long a worker may sleep, in milliseconds; -1: for ever. Where its view holds something that is a
+ * second. */
+static int most_sleep(int64_t deadline, bool holds) {
+    int64_t left = deadline < 0 ? REST_MS : deadline - now_ms();
+    if (deadline < 0 && !holds) return -1;
+    return left < 0 ? 0 : (int)left;
+}
+
 static void *work(void *given) {
     struct worker *worker = given;
     struct epoll_event events[EVENTS];
     int64_t deadline = -1;
+    bool holds = false;
     pthread_setname_np(pthread_self(), "worker");
     while (!worker->server->ends) {
-        int64_t left = deadline < 0 ? -1 : deadline - now_ms();
-        int count = epoll_wait(worker->poll, events, EVENTS, deadline < 0 ? -1 : left < 0 ? 0 : (int)left);
+        int count = epoll_wait(worker->poll, events, EVENTS, most_sleep(deadline, holds));
         worker->is_busy = true;
         if (look_around(worker)) count = 0; /* those that are left come again */
         for (int n = 0; n < count; n++)
             hear(worker, &events[n]);
         if (worker->waiting) turn_waiting(worker);
         deadline = worker->waiting ? first_deadline(worker) : -1;
+        holds = store_view_rest(worker->room.view);
         worker->is_busy = false;
     }
     end_all(worker);

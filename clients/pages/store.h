@@ -72,6 +72,9 @@ enum store_end store_flush(struct store *store);
 struct store_view;
 struct store_view *store_view_new(struct store *store);
 void store_view_free(struct store_view *view);
+/* Lets go of memory and files that the store would have given up since. To be called now and then, also by
+ * who reads nothing more. Returns whether there may be more to let go of later. */
+bool store_view_rest(struct store_view *view);
 
 /* The page at a position from `store_oldest` to `store_confirmed`. False: the disk failed, or what it has is
  * damaged. */

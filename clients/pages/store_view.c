@@ -29,9 +29,11 @@ struct store_view *store_view_new(struct store *store) {
     view->store = store;
     view->options = rocksdb_readoptions_create();
     rocksdb_readoptions_set_prefix_same_as_start(view->options, 1);
+    rocksdb_readoptions_set_background_purge_on_iterator_cleanup(view->options, 1);
     rocksdb_readoptions_set_verify_checksums(view->options, 1);
     view->total = rocksdb_readoptions_create();
     rocksdb_readoptions_set_total_order_seek(view->total, 1);
+    rocksdb_readoptions_set_background_purge_on_iterator_cleanup(view->total, 1);
     rocksdb_readoptions_set_verify_checksums(view->total, 1);
     return view;
 }
@@ -42,23 +44,35 @@ static void free_sets(struct sets *sets) {
     sets->count = 0;
 }
 
+static void let_go(rocksdb_iterator_t **rows) {
+    if (*rows) rocksdb_iter_destroy(*rows);
+    *rows = NULL;
+}
+
 void store_view_free(struct store_view *view) {
     if (!view) return;
     free_sets(&view->sets);
     free(view->sets.found);
-    if (view->rows) rocksdb_iter_destroy(view->rows);
-    if (view->blocks) rocksdb_iter_destroy(view->blocks);
+    let_go(&view->rows);
+    let_go(&view->blocks);
     if (view->counts) rocksdb_perfcontext_destroy(view->counts);
     rocksdb_readoptions_destroy(view->options);
     rocksdb_readoptions_destroy(view->total);
     free(view);
 }
 
+bool store_view_rest(struct store_view *view) {
+    uint64_t writes = atomic_load_explicit(&view->store->writes, memory_order_acquire);
+    let_go(&view->blocks);
+    if (view->seen != writes) let_go(&view->rows);
+    return view->rows != NULL;
+}
+
 /* An iterator sees what was written before it was made. */
 static rocksdb_iterator_t *fresh_rows(struct store_view *view) {
     uint64_t writes = atomic_load_explicit(&view->store->writes, memory_order_acquire);
     if (view->rows && view->seen == writes) return view->rows;
-    if (view->rows) rocksdb_iter_destroy(view->rows);
+    let_go(&view->rows);
     view->seen = writes;
     return view->rows = rocksdb_create_iterator(view->store->db, view->options);
 }
@@ -181,7 +195,7 @@ bool store_block(struct store_view *view, uint64_t *position, uint64_t last, uns
     uint8_t key[BLOCK_KEY];
     block_key(key, *position);
     *position = 0;
-    if (view->blocks) rocksdb_iter_destroy(view->blocks);
+    let_go(&view->blocks);
     view->blocks = rocksdb_create_iterator(view->store->db, view->total);
     for (rocksdb_iter_seek(view->blocks, (char *)key, BLOCK_KEY); rocksdb_iter_valid(view->blocks);
          rocksdb_iter_next(view->blocks)) {

@@ -522,6 +522,24 @@ class Pages(Paged):
                 self.ask_together(line, images, range(64))
             self.assertEqual(self.switches(pages, "reader"), before, "pages are in memory")
 
+    def test_threads_that_rest_hold_no_files(self) -> None:
+        images = {number: random.Random(number).randbytes(8192) for number in range(1000)}
+        blocks = [
+            Block.of(lsn, [Put(page, 8000, b"%d" % lsn) for page in range(0, 1000, 5)]).data
+            for lsn in range(2, 10)
+        ]
+        pages = self.start("--workers", "1", "--readers", "2")
+        files = lambda: {*(self.folder / "store").glob("*.sst")}  # noqa: E731
+        pages.begin(1, b"c" * 16, images.items())
+        with closing(socket.create_connection(self.split(pages.address), PATIENCE)) as line:
+            for first in range(0, 960, 64):  # the worker and both readers
+                self.ask_together(line, images, range(first, first + 64))
+            before = files()
+            for block in blocks:
+                pages.add([block])
+                pages.flush()
+            eventually(lambda: not before & files(), "that what was merged is deleted")
+
     def ask_together(
         self, line: socket.socket, images: dict[int, bytes], numbers: Sequence[int]
     ) -> None:
