@@ -123,6 +123,8 @@ def blocks(first, count, pages=1):
 class Alone:
     """One PostgreSQL, without a standby, in the place of a pair."""
 
+    kind = Keeping
+
     def __init__(self):
         self.leader = Server()
         self.leader.url("kept")
