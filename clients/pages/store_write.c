@@ -204,6 +204,14 @@ enum store_end store_add_image(struct store *store, uint32_t page, uint64_t posi
     return rocksdb_writebatch_count(store->batch) < MOST_PAGES ? STORE_DONE : write_batch(store);
 }
 
+/* The files of a base, which hold no page twice, go to the last level as they are: a read looks at one of
+ * them, and not at one of each level. */
+static void settle(struct store *store) {
+    char *why = NULL;
+    rocksdb_suggest_compact_range(store->db, NULL, 0, NULL, 0, &why);
+    rocksdb_free(why); /* in vain: reads take longer */
+}
+
 enum store_end store_begin_at(struct store *store, uint64_t position, const uint8_t chain[CHAIN_BYTES],
                               size_t chain_length) {
     enum store_end end = write_batch(store);
@@ -217,7 +225,9 @@ enum store_end store_begin_at(struct store *store, uint64_t position, const uint
     store->has_begun = true;
     store->written = position;
     atomic_store(&store->confirmed, position);
-    return store_flush(store);
+    end = store_flush(store);
+    if (end == STORE_DONE) settle(store);
+    return end;
 }
 
 enum store_end store_flush(struct store *store) {
