@@ -6,7 +6,8 @@ The service is crates/pagelog/out/pagelog, or the program that PAGELOG names; th
 processors 0 and 1, clients 2 and 3. Both have the same blocks, ten records in each page, and are asked in turn, by bench/frames.c.
 
 - gets: of drawn pages, one at a time on 1, 8 and 64 connections, and 64 together on one: rates, and shares of the service's, round by
-  round: the median, and the half of the rounds around it. Then two page servers, each on a processor of its own, beside one.
+  round: the median, and the half of the rounds around it. Then two page servers, each on a processor of its own, beside one, of what
+  is newest, of which they may answer more than two clients can ask, and at drawn positions.
 - large: 8 GiB of pages with 512 MiB of cache, which is full, and O_DIRECT: gets of pages that are not in it, beside reads of 8 KiB of the
   same files, by bench/reads.c, on the same processors: the median time of one of one client and of 8, and of many in flight, shared by
   them; memory after each page was read.
@@ -93,6 +94,9 @@ class Asking:
         self.folder, self.frames, chance = pathlib.Path(folder), frames, random.Random(1)
         drawn = [spelled(chance.randrange(NUMBERS), LAST) for _ in range(4096)]
         self.each, self.together = self.folder / "each", self.folder / "together"
+        self.earlier = self.folder / "earlier"
+        earlier = (spelled(chance.randrange(NUMBERS), chance.randrange(LAST)) for _ in drawn)
+        self.earlier.write_bytes(b"".join(earlier))
         self.each.write_bytes(b"".join(drawn))
         self.together.write_bytes(b"".join(drawn[:64]))
 
@@ -144,19 +148,26 @@ def two(folder, asking, blocks):
     ) as other:
         for each in (one, other):
             each.add(blocks, digest(b"", blocks))
-        found = rounds.in_turn(
-            ROUNDS, (1, 2), lambda count: both(asking, one.port, (one, other)[count - 1].port)
-        )
+        for what, file, count in (
+            ("newest", asking.each, 1500),
+            ("at drawn positions", asking.earlier, 400),
+        ):
+            two_beside_one(what, file, count, asking.frames, one.port, other.port)
+
+
+def two_beside_one(what, file, count, frames, one, other):
+    run = lambda servers: both(frames, file, count, one, (one, other)[servers - 1])  # noqa: E731
+    found = rounds.in_turn(ROUNDS, (1, 2), run)
     print(
-        f"two copies beside one, 8 connections each: {rounds.ratio(found[2], found[1])}, one "
+        f"two copies beside one, 8 connections each, {what}: {rounds.ratio(found[2], found[1])}, one "
         f"{statistics.median(found[1]):,.0f} gets a second; {load()}",
         flush=True,
     )
 
 
-def both(asking, *ports):
+def both(frames, file, each, *ports):
     """A second, of two clients at once."""
-    count, began = round(1500 * SHARE), time.perf_counter()
+    count, began = round(each * SHARE), time.perf_counter()
     clients = [
         subprocess.Popen(
             list(
@@ -166,13 +177,13 @@ def both(asking, *ports):
                         "taskset",
                         "-c",
                         at,
-                        asking.frames,
+                        frames,
                         "delays",
                         port,
                         count,
                         "get",
                         8,
-                        asking.each,
+                        file,
                     ),
                 )
             ),
