@@ -2,7 +2,6 @@
 
 from __future__ import annotations
 
-import ctypes
 import itertools
 import json
 import os
@@ -10,8 +9,6 @@ import random
 import re
 import shutil
 import signal
-import socket
-import stat
 import subprocess
 import sys
 import tempfile
@@ -47,7 +44,8 @@ from replicated import Pair, url_of  # noqa: E402
 from secured import Certificates, SecureAlone, Secured  # noqa: E402
 from service import PATIENCE, TOP, token  # noqa: E402
 from torture_copies import Copies, look
-from torture_processes import end_of, in_own_space, is_in_own_space
+from torture_faults import PAGES_DISK, fill, mount
+from torture_processes import end_of, in_own_space, is_in_own_space, shut_some
 from torture_secrets import Secrets
 
 TTL = 2.0
@@ -57,8 +55,6 @@ VERIFY = os.environ.get("PAGELOG_VERIFY") or str(
     TOP / "crates" / "pagelog_verify" / "out" / "pagelog_verify"
 )
 THREADS = 6
-PIDFD_GETFD = 438
-"""The number of this call of Linux, which Python does not have."""
 
 
 # Clients, each a process with books of its own: a line of JSON for each thing that it was told.
@@ -227,41 +223,6 @@ def read(folder: Path, who: str, addresses: list[str], _: float) -> None:
             time.sleep(0.1)
 
 
-# Faults.
-
-
-def lines_of(pid: int) -> Iterator[socket.socket]:
-    """Copies of the connections that another process has; none where that is not allowed, or it has ended."""
-    library = ctypes.CDLL(None)
-    try:
-        process = os.pidfd_open(pid)
-    except OSError:
-        return
-    try:
-        for file in os.listdir(f"/proc/{pid}/fd"):
-            copy = library.syscall(PIDFD_GETFD, process, int(file), 0)
-            if copy >= 0 and not stat.S_ISSOCK(os.fstat(copy).st_mode):
-                os.close(copy)
-            elif copy >= 0:
-                with socket.socket(fileno=copy) as line:
-                    yield line
-    except FileNotFoundError:
-        pass
-    finally:
-        os.close(process)
-
-
-def shut(line: socket.socket) -> bool:
-    """Cuts a connection to a named end. Returns whether it is one: neither a listener, nor a pair within the process."""
-    try:
-        if not line.getpeername():
-            return False
-        line.shutdown(socket.SHUT_RDWR)
-        return True
-    except OSError:
-        return False
-
-
 class Torture(LongRun):
     def __init__(
         self,
@@ -306,6 +267,9 @@ class Torture(LongRun):
         if by_tls:
             self.deeds += [(3, self.kill_front), (1, self.stop_front), (1, self.renew)]
         self.copies = Copies(self.keeping, self.chance)
+        self.is_mounted = mount(self.copies.folder, PAGES_DISK)
+        if self.is_mounted:
+            self.deeds.append((2, self.fill_pages))
 
     def names(self) -> list[str]:
         return [name for name, process in self.keeping.processes.items() if process.poll() is None]
@@ -427,11 +391,7 @@ class Torture(LongRun):
         ]
         pid = self.chance.choice(processes)
         if pid is not None:
-            self.shut += self.shut_some(pid)
-
-    def shut_some(self, pid: int) -> int:
-        share = self.chance.choice([0.3, 1.0])
-        return sum(shut(line) for line in lines_of(pid) if self.chance.random() < share)
+            self.shut += shut_some(pid, self.chance)
 
     def fail_over_postgresql(self) -> None:
         self.pair.fail_over()
@@ -473,8 +433,14 @@ class Torture(LongRun):
     def cut_pages(self) -> None:
         """Of a page server, lines are cut at its end: to readers, to keepers, or to PostgreSQL. Nobody is told. Some times, as it has few."""
         for _ in range(20):
-            self.shut_pages += sum(map(self.shut_some, self.copies.hold()))
+            self.shut_pages += sum(shut_some(pid, self.chance) for pid in self.copies.hold())
             time.sleep(self.chance.uniform(0, 0.1))
+
+    def fill_pages(self) -> None:
+        """The disk of both page servers is full for a while."""
+        rest = fill(self.copies.folder)
+        time.sleep(self.chance.uniform(0, 2 * TTL))
+        rest.unlink()
 
     # The run.
 
@@ -558,6 +524,8 @@ class Torture(LongRun):
 
     def stop(self) -> None:
         self.copies.stop()
+        if self.is_mounted:
+            subprocess.run(["umount", "-l", self.copies.folder], check=False)
         super().stop()
         self.pair.stop()
         if self.folder is not None:

@@ -82,7 +82,7 @@ class Servers:
         chance: random.Random,
     ) -> None:
         """`folder` is for their stores, and `file` their credentials."""
-        self._folder, self._logs, self._file, self._names, self._environment, self._chance = (
+        self.folder, self._logs, self._file, self._names, self._environment, self._chance = (
             folder,
             logs,
             file,
@@ -103,7 +103,7 @@ class Servers:
                     "pages",
                     *self._names,
                     "--folder",
-                    self._folder / name,
+                    self.folder / name,
                     "--program",
                     pages_program.program(),
                     "--machine",
@@ -196,7 +196,7 @@ class Copies(Servers):
         found += [
             f"{name} has quarantined {each}"
             for name in MACHINES
-            for each in asides_in(self._keeping.folder / "copies" / name)
+            for each in asides_in(self.folder / name)
         ]
         for name in MACHINES:
             found += self._compared(name, heads)

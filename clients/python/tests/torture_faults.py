@@ -16,13 +16,36 @@ from typing import TYPE_CHECKING, Callable, Iterator
 
 from service import stand_still
 from torture_notes import now
-from torture_processes import is_in_own_space
+from torture_processes import is_in_own_space, shut_some
 from torture_rig import TTL, Lone, Two, postgres_of, send
 
 if TYPE_CHECKING:
     from administration import Segment
 
 DISK, KEEPERS_DISK, PAGES_DISK = 400 << 20, 24 << 20, 256 << 20
+
+
+def mount(folder: Path, size: int, mode: str = "755") -> bool:
+    """A small disk there, in memory. Returns whether this process may make one."""
+    if not is_in_own_space():
+        return False
+    folder.mkdir(exist_ok=True)
+    subprocess.run(
+        ["mount", "-t", "tmpfs", "-o", f"size={size},mode={mode}", "tmpfs", folder], check=True
+    )
+    return True
+
+
+def fill(disk: Path) -> Path:
+    """Takes all its room, with the file that it returns."""
+    rest = disk / "rest"
+    with rest.open("wb", buffering=0) as file:
+        try:
+            while True:
+                file.write(bytes(1 << 16))
+        except OSError:
+            pass
+    return rest
 
 
 class Strike:
@@ -49,14 +72,9 @@ class Faults:
     # Small disks.
 
     def _mount(self, folder: Path, size: int, mode: str = "755") -> bool:
-        if not is_in_own_space():
-            return False
-        folder.mkdir(exist_ok=True)
-        subprocess.run(
-            ["mount", "-t", "tmpfs", "-o", f"size={size},mode={mode}", "tmpfs", folder], check=True
-        )
-        self.mounted.append(folder)
-        return True
+        is_there = mount(folder, size, mode)
+        self.mounted += [folder] * is_there
+        return is_there
 
     def stop(self) -> None:
         for folder in self.mounted:
@@ -150,6 +168,7 @@ class Faults:
         if pages is not None:
             kinds["a page server is killed"] = self._page_server_is_killed
             kinds["a page server stands"] = self._page_server_stands
+            kinds["lines of a page server are cut"] = self._page_servers_lines
         if pages is not None and self.mounted:
             kinds["the page servers' disk is full"] = lambda: self._fill(folder / "pages")
         if folder / "postgres" in self.mounted and death not in ("postgresql", "set back"):
@@ -248,14 +267,15 @@ class Faults:
 
         return again
 
+    def _page_servers_lines(self) -> Callable[[], None]:
+        """They are cut at its end: to readers, to keepers, or to PostgreSQL. Nobody is told."""
+        assert self.segment.pages is not None
+        for pid in self.segment.pages.hold():
+            shut_some(pid, self.chance)
+        return lambda: None
+
     def _fill(self, disk: Path) -> Callable[[], None]:
-        rest = disk / "rest"
-        with rest.open("wb", buffering=0) as file:
-            try:
-                while True:
-                    file.write(bytes(1 << 16))
-            except OSError:
-                pass
+        rest = fill(disk)
 
         def free() -> None:
             rest.unlink(missing_ok=True)

@@ -5,8 +5,12 @@ Called with a program it is the first process of such a space: it takes the ends
 
 from __future__ import annotations
 
+import ctypes
 import os
+import random
 import signal
+import socket
+import stat
 import subprocess
 import sys
 import tempfile
@@ -21,6 +25,8 @@ MOUNTS = "PAGELOG_TORTURE_MOUNTS"
 """In the environment where what is mounted ends with the space of processes."""
 DATABASE = "postgres"
 """The program whose processes end each other, by signals too."""
+PIDFD_GETFD = 438
+"""The number of this call of Linux, which Python does not have."""
 _OWN = "setpriv --pdeathsig KILL unshare --mount --propagation private --pid --fork --mount-proc --kill-child"
 
 
@@ -75,6 +81,47 @@ def _name_of(pid: int) -> str:
         return Path(f"/proc/{pid}/comm").read_text().strip()
     except OSError:
         return "a process that is gone"
+
+
+# Connections.
+
+
+def lines_of(pid: int) -> Iterator[socket.socket]:
+    """Copies of the connections that another process has; none where that is not allowed, or it has ended."""
+    library = ctypes.CDLL(None)
+    try:
+        process = os.pidfd_open(pid)
+    except OSError:
+        return
+    try:
+        for file in os.listdir(f"/proc/{pid}/fd"):
+            copy = library.syscall(PIDFD_GETFD, process, int(file), 0)
+            if copy >= 0 and not stat.S_ISSOCK(os.fstat(copy).st_mode):
+                os.close(copy)
+            elif copy >= 0:
+                with socket.socket(fileno=copy) as line:
+                    yield line
+    except FileNotFoundError:
+        pass
+    finally:
+        os.close(process)
+
+
+def shut(line: socket.socket) -> bool:
+    """Cuts a connection to a named end. Returns whether it is one: neither a listener, nor a pair within the process."""
+    try:
+        if not line.getpeername():
+            return False
+        line.shutdown(socket.SHUT_RDWR)
+        return True
+    except OSError:
+        return False
+
+
+def shut_some(pid: int, chance: random.Random) -> int:
+    """Cuts some connections of a process, or all. Returns how many."""
+    share = chance.choice([0.3, 1.0])
+    return sum(shut(line) for line in lines_of(pid) if chance.random() < share)
 
 
 # Clients.
