@@ -204,6 +204,33 @@ class ByRows(Old):
                 [name, name],
             )
 
+    def test_the_name_in_its_pages_is_known_where_its_blocks_are_gone(self) -> None:
+        """A branch of a branch reads no further back than to what that one began with, or to its own base."""
+
+        def named(position: int, name: bytes) -> bytes:
+            mark = b"plfile01" + position.to_bytes(8, "big") + bytes(24)
+            return Block.of(
+                position, [Put(0, 40, bytes((len(name),)) + name), Put(0, 0, mark)]
+            ).data
+
+        self.keep([named(626, b"shop")])
+        make_base(self.reader, self.row.id, self.kept.archived, self.kept.chain)
+        self.assertTrue(branch(self.reader, self.row_now(), 626, "one"))
+        one = self.row_of("one")
+        kept = self.referee.take(one, "r")
+        assert kept is not None
+        made = [Block.of(627, [Put(4, 0, b"z")]).data, named(628, b"one")]
+        after = digest(kept.chain, made)
+        batch = Batch(one.id, "r", kept.generation, 626, after, tuple(made))
+        self.assertEqual(self.referee.keep([batch]), {one.id})
+        make_base(self.reader, one.id, 628, after)
+        Bases(self.reader, one.id).prune(628)
+        one = self.row_of("one")
+        self.assertTrue(branch(self.reader, self.row_now(), 626, "other"))
+        for of, position, name in (("other", 626, "shop"), ("one", 628, "one")):
+            self.assertTrue(branch(self.reader, self.row_of(of), position, f"two-{position}"))
+            self.assertEqual(self.row_of(f"two-{position}").ancestor, name)
+
 
 class Opened(KeptService):
     """Under keepers, without a store."""

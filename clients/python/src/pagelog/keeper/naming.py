@@ -3,6 +3,8 @@
 from __future__ import annotations
 
 from pagelog.block import Block, Put
+from pagelog.keeper.bases import Bases
+from pagelog.keeper.images import MARK
 from pagelog.keeper.referee import Referee
 from pagelog.keeper.rows import Row
 
@@ -18,14 +20,26 @@ def written_name(referee: Referee, row: Row, position: int) -> str | None:
     whose pages have but one."""
     if row.ancestor is None or row.read_only:
         return None
-    last, least = position, max(1, position - _WITHIN)
+    bases = Bases(referee, row.id)
+    base = bases.newest(position)
+    last, least = position, max(base.position + 1, position - _WITHIN)
     while last >= least:
         first = max(least, last - _PIECE + 1)
         for block in reversed(referee._piece(row.id, first, last)):
             if (name := _name_in(block)) is not None:
                 return name
         last = first - 1
-    return None
+    if least > base.position + 1:
+        return None
+    image = bases.image(0, base)
+    if image is None or not (image.mask & 1 and image.data.startswith(MARK[-8:])):
+        return None
+    return _text(image.data[_NAME_AT:])
+
+
+def _text(data: bytes) -> str:
+    """What begins with its length."""
+    return data[1 : 1 + data[0]].decode("utf-8", "replace")
 
 
 def _name_in(data: bytes) -> str | None:
@@ -35,5 +49,5 @@ def _name_in(data: bytes) -> str | None:
             and (record.page, record.offset) == (0, _NAME_AT)
             and len(record.data) == 1 + record.data[0]
         ):
-            return record.data[1:].decode("utf-8", "replace")
+            return _text(record.data)
     return None
