@@ -34,14 +34,15 @@ def hold_word(accounts: Accounts, name: str, release: bool, legal: bool) -> None
     """Keep all of a database that there is: no keeper and no person prunes or drops anything of it, until --release.
 
     Objects in a store that nothing names any more stay, too. With --legal no key deletes a version of those that it has now; that, and the
-    --release after it, need a key that may put legal holds, which the keepers' may not. The trail has its own time ([keeper] trail).
+    --release after it, need a key that may put legal holds, which the keepers' may not: that of `profile` of [store], or of AWS_PROFILE where
+    the file names none. The trail has its own time ([keeper] trail).
     Keepers of before this word do not know it: upgrade them first.
 
     \b
-    Example:
+    Example; admin.toml is a copy of keeper.toml in which `profile` is another:
       pagelogctl hold shop --credentials keeper.toml
-      AWS_PROFILE=pagelog-admin pagelogctl hold shop --legal --credentials keeper.toml
-      pagelogctl hold shop --release --credentials keeper.toml
+      pagelogctl hold shop --legal --credentials admin.toml
+      pagelogctl hold shop --release --credentials admin.toml
     """
     if legal and release:
         raise click.UsageError("--release takes legal holds off, too")

@@ -90,11 +90,12 @@ def copy_word(accounts: Accounts, name: str, to: str) -> None:
 @faults
 def prune_word(accounts: Accounts, yes: bool) -> None:
     """Delete the objects that nothing has named for [store] grace: what `prune` and `drop` left. It says first what goes, and asks. It needs a
-    key that may delete, which the keepers' need not. What PostgreSQL does not know at all, and what is of a database that is held, is left alone.
+    key that may delete, which the keepers' need not: that of `profile` of [store], or of AWS_PROFILE where the file names none. What PostgreSQL
+    does not know at all, and what is of a database that is held, is left alone.
 
     \b
-    Example:
-      AWS_PROFILE=pagelog-admin pagelogctl store prune --credentials keeper.toml
+    Example, with a copy of keeper.toml in which `profile` is another:
+      pagelogctl store prune --credentials admin.toml
     """
     from pagelog.store import tables
     from pagelog.store.place import store_of
