@@ -7,7 +7,8 @@ Usage: python3 -B bench/store.py [--share SHARE] [--far MS MB] [PART ..]
 - restore: SQLite's blocks are moved, with their bytes before and after; then a service is filled with them from PostgreSQL and
   from a server of S3 that is 30 ms away, there and back, by 50 MB a second in all, by turns.
 - commits: durable ones, one after the other, with and without a mover that works off many blocks of the same database, by turns.
-- branch: of a database of 10 MiB and of 10 GiB whose blocks and images are in the store, of which no byte is there: none is read.
+- branch: of a database of 10 MiB and of 10 GiB whose blocks and images are in the store, by turns: its rows are as many and as large, and of
+  the store only a manifest is there, as nothing else is read.
 """
 
 import argparse
@@ -22,17 +23,20 @@ import sys
 import tempfile
 import threading
 import time
+import uuid
 
 import kept
 import service
 from keepers import Keeping
 from pagelog import Block, Put
+from pagelog.keeper.bases import Bases
 from pagelog.keeper.branching import branch
 from pagelog.keeper.referee import Referee
 from pagelog.keeper.run import Program
 from pagelog.keeper.served import Served
 from pagelog.store.moving import Wish
 from pagelog.store.mover import Mover
+from pagelog.store.pack import BaseFacts, Pack, Packed, manifest_of
 from pagelog.store.place import store_of
 from pagelog.store.rescuing import rescue
 from pagelog.store.settings import StoreSettings
@@ -49,28 +53,34 @@ KEYS = {
 PIECE = 65536
 STATES = ("ordered", "paid", "shipped", "returned")
 _OBJECTS = """
-INSERT INTO pagelog_object (log, first, last, key, size, digest, raw, raw_digest, after, state)
-SELECT %(log)s, 5000 * n + 1, 5000 * (n + 1), 'none/blocks/' || n, 2000000, '', 8000000, '', '', 2
+INSERT INTO pagelog_object (log, first, last, key, size, digest, raw, raw_digest, after, came, until, state)
+SELECT %(log)s, 5000 * n + 1, 5000 * (n + 1), %(folder)s || '/blocks/' || lpad(to_hex(5000 * n + 1), 16, '0') || '-' ||
+    lpad(to_hex(5000 * (n + 1)), 16, '0') || '.g1.' || md5(n::text) || '.' || md5((n + 1)::text) || '.' || left(md5('o' || n), 16) || '.zst',
+  2300000, sha256(n::text::bytea), 8388608, sha256(n::text::bytea), decode(md5((n + 1)::text), 'hex'), now(), now(), 2
 FROM generate_series(0, %(objects)s - 1) n RETURNING 1
 """
 _IMAGES = """
 WITH packed AS (
   INSERT INTO pagelog_pack (log, number, key, size, digest, raw, state)
-  SELECT %(log)s, n, 'none/images/' || n, 4000000, '', 16000000, 2
-  FROM generate_series(0, %(images)s / 32) n),
+  SELECT %(log)s, n, %(folder)s || '/images/' || lpad(to_hex(%(base)s::bigint), 16, '0') || '.' || lpad(to_hex(32 * n - 32), 8, '0') || '-' ||
+    lpad(to_hex(32 * n - 1), 8, '0') || '.' || left(md5('p' || n), 16) || '.pack', 6000000, sha256(n::text::bytea), 16777216, 2
+  FROM generate_series(1, (%(images)s + 31) / 32) n),
 based AS (
-  INSERT INTO pagelog_base (log, base, chain, digest, pages, came)
-  VALUES (%(log)s, %(last)s, '', '', 64 * %(images)s, now()))
+  INSERT INTO pagelog_base (log, base, chain, digest, pages, came) VALUES (%(log)s, %(base)s, '', '', 64 * %(images)s, now()))
 INSERT INTO pagelog_image (log, range, base, pages, crc, data, pack, at, length, digest)
-SELECT %(log)s, n, %(last)s, '\\xffffffffffffffff', 0, '', n / 32, 100, 100, '\\x00'
+SELECT %(log)s, n, %(base)s, '\\xffffffffffffffff', 0, '', n / 32 + 1, 190000 * (n %% 32) + 32, 190000, decode(md5(n::text), 'hex')
 FROM generate_series(0, %(images)s - 1) n RETURNING 1
 """
+_PACKS = "SELECT key, digest, size FROM pagelog_pack WHERE log = %s ORDER BY number"
 _REST = """
 WITH stored AS (
-  INSERT INTO pagelog_store (log, folder, moved, cut) VALUES (%(log)s, 'none', %(last)s, %(last)s)),
+  INSERT INTO pagelog_store (log, folder, moved, cut) VALUES (%(log)s, %(folder)s, %(last)s, %(last)s)),
 newest AS (INSERT INTO pagelog_block (log, lsn, crc, data) VALUES (%(log)s, %(last)s + 1, 0, ''))
 UPDATE pagelog_log SET archived = %(last)s + 1 WHERE id = %(log)s RETURNING 1
 """
+_WRITTEN = "SELECT pg_current_wal_insert_lsn() - '0/0'::pg_lsn"
+SIZES = (("10 MiB", 2, 1, 20), ("10 GiB", 1280, 482, 20_480))
+"""Objects, those behind the newest base, which is made after twice as many blocks as there are pages, and images."""
 
 
 # A server of S3, and a long way to it, each a process of its own.
@@ -290,26 +300,72 @@ def durable(primary, keeping, wish, seconds=4.0):
 
 def branch_of(server, share, far):
     """See above."""
-    with contextlib.closing(Referee(server.new_url(), "bench", "life")) as referee:
-        referee.prepare()
-        for size, objects, images in (("10 MiB", 2, 20), ("10 GiB", 1280, 20_480)):
-            name, last = f"of-{objects}", 5000 * objects
-            referee.create(name, service.WIDE_TABLE, b"s" * 16)
-            row = referee.everything().row(name)
-            values = {"log": row.id, "objects": objects, "images": images, "last": last}
-            for statement in (_OBJECTS, _IMAGES, _REST):
-                referee._ask(statement, values)
+    with tempfile.TemporaryDirectory() as folder:
+        settings = StoreSettings(f"file://{folder}")
+        referee = Referee(server.new_url(), "bench", "life", store=settings)
+        with contextlib.closing(referee):
+            referee.prepare()
+            made = [
+                (
+                    f"{size}, {kind}",
+                    made_of(referee, store_of(settings), f"of-{number}-{kind}", *of, is_named),
+                )
+                for number, (size, *of) in enumerate(SIZES)
+                for kind, is_named in (("named", True), ("copied", False))
+            ]
             referee._connected().execute("VACUUM ANALYZE")
-            row, times = referee.everything().row(name), []
-            for number in range(5):
-                began = time.perf_counter()
-                assert branch(referee, row, last + 1, f"{name}-{number}")
-                times.append(time.perf_counter() - began)
+            times = {what: [] for what, _ in made}
+            written = {what: [] for what, _ in made}
+            for turn in range(max(3, round(10 * share))):
+                for what, name in made:
+                    row = referee.everything().row(name)
+                    [[before]] = referee._ask(_WRITTEN)
+                    began = time.perf_counter()
+                    assert branch(referee, row, row.archived, f"{name}-{turn}")
+                    times[what].append(time.perf_counter() - began)
+                    [[after]] = referee._ask(_WRITTEN)
+                    written[what].append(after - before)
+            for what, some in times.items():
+                print(
+                    f"branch of {what}: {1000 * statistics.median(some):.0f} ms, "
+                    f"{1000 * min(some):.0f} to {1000 * max(some):.0f}, of {len(some)} in turns; "
+                    f"{statistics.median(written[what]) / 1024:,.0f} KiB of WAL; load {os.getloadavg()[0]:.1f}"
+                )
+            row = referee.everything().row(f"{made[2][1]}-0")
+            began = time.perf_counter()
+            Bases(referee, row.id).unfold()
             print(
-                f"branch of {size}, {objects} objects and {images} images: "
-                f"{', '.join(f'{1000 * each:.0f}' for each in times)} ms; "
-                f"load {os.getloadavg()[0]:.1f}"
+                f"its rows of images are written later in {1000 * (time.perf_counter() - began):.0f} ms"
             )
+
+
+def made_of(referee, store, name, objects, behind, images, is_named):
+    """A database whose rows are as those of one of that size; of its store only the manifest is there. Where that is not named rows of images
+    are copied, as before it is there."""
+    referee.create(name, service.WIDE_TABLE, b"s" * 16)
+    row = referee.everything().row(name)
+    base, folder = 5000 * (objects - behind), f"{name}.{row.identity[:8]}"
+    values = {"log": row.id, "objects": objects, "images": images, "last": 5000 * objects}
+    values |= {"base": base, "folder": folder}
+    referee._ask(_OBJECTS, values)
+    referee._ask(_REST, values)
+    referee._ask(_IMAGES, values)
+    packs = [
+        Pack(key, bytes(digest), size) for key, digest, size in referee._ask(_PACKS, (row.id,))
+    ]
+    packed = [
+        (Packed(n, base, 2**64 - 1, 0, 190_000 * (n % 32) + 32, 190_000, bytes(16)), n // 32)
+        for n in range(images)
+    ]
+    facts = BaseFacts(uuid.UUID(row.identity), base, bytes(16), bytes(16), 64 * images, 1, 0)
+    manifest, data = manifest_of(facts, packs, packed, folder)
+    store.put(manifest.key, data)
+    if is_named:
+        referee._ask(
+            "UPDATE pagelog_base SET manifest = %s, manifest_digest = %s, is_stored = true WHERE log = %s RETURNING 1",
+            (manifest.key, manifest.digest, row.id),
+        )
+    return name
 
 
 PARTS = {"restore": restore, "commits": commits, "branch": branch_of}
@@ -317,6 +373,8 @@ PARTS = {"restore": restore, "commits": commits, "branch": branch_of}
 
 class Server(kept.Alone):
     """One PostgreSQL, with a database for each who asks."""
+
+    kind = Keeping
 
     def new_url(self):
         name = f"other{len(os.listdir(self.leader.folder))}{time.monotonic_ns()}"
