@@ -78,6 +78,7 @@ PLANTS = {
     "packs of a branch": Plant("../store/tables", " AND NOT EXISTS (SELECT 1 FROM pagelog_pack p WHERE p.key = g.key)\n  AND NOT EXISTS (SELECT 1 FROM pagelog_base",
                                "\n  AND NOT EXISTS (SELECT 1 FROM pagelog_base", "branches", "images_are_shared"),
     "packs on their way": Plant("history", "p.number = i.pack AND p.state = 2)", "p.number = i.pack)", "branches", "on_their_way_are_copied"),
+    "the library of S3, for that alone": Plant("../store/moving", "import json\n", "import json\nimport pagelog.store.s3\n", "buckets", "for_s3_alone"),
     "a name no further back than its base": Plant("naming", "max(base.position + 1, position - _WITHIN)", "max(1, position - _WITHIN)", "branches", "blocks_are_gone"),
     "a name in its base": Plant("naming", "    return _text(image.data[_NAME_AT:])\n", "    return None\n", "branches", "blocks_are_gone"),
     "no manifest before the blocks": Plant("../store/tables", "b.broken IS NULL AND s.moved >= b.base\n", "b.broken IS NULL\n", "rescues", "later_than_the_blocks"),

@@ -6,6 +6,8 @@ import hashlib
 import json
 import os
 import signal
+import subprocess
+import sys
 import tempfile
 import threading
 import unittest
@@ -39,7 +41,7 @@ from pagelog.store.place import Missing, Store, StoreAway, StoreError, Taken, st
 from pagelog.store.s3 import TRIES, Bucket
 from pagelog.store.settings import StoreSettings
 from s3_stub import S3
-from service import PATIENCE, WIDE_TABLE, put
+from service import PATIENCE, SOURCE, WIDE_TABLE, put
 from sqlite_named import connected
 from test_images import pages
 from test_store import SMALL, Stored, WithImages, pages_of
@@ -109,6 +111,17 @@ class Settings(unittest.TestCase):
                 f'[archive]\nstore = "s3://b"\n[store]\n{wrong}\n',
             )
         self.assertRaisesRegex(CredentialsError, "of no use", self.read, '[store]\nage = "1s"\n')
+
+    def test_the_library_of_s3_is_imported_for_s3_alone(self) -> None:
+        """It takes a second of a processor, and is not installed everywhere."""
+        code = (
+            "import sys; sys.path.insert(0, sys.argv[1]); import pagelog.cli.words, pagelog.keeper.keeping, pagelog.store.moving; "
+            "from pagelog.store.place import store_of; from pagelog.store.settings import StoreSettings; "
+            "store_of(StoreSettings('file:///tmp')); print(sorted({m.split('.')[0] for m in sys.modules} & {'boto3', 'botocore'}))"
+        )
+        command = [sys.executable, "-B", "-c", code, str(SOURCE)]
+        done = subprocess.run(command, capture_output=True, text=True, check=True)
+        self.assertEqual(done.stdout.strip(), "[]")
 
 
 def at_once() -> Any:
