@@ -9,7 +9,8 @@
  *
  * What holds: PostgreSQL has the image that its base names, or the object of its pack does.
  *
- * Left out: pruning, which takes rows alone, and manifests, which nobody believes who has rows. Taken for granted: an object goes only
+ * Left out: pruning, which takes rows alone, and manifests, which nobody believes who has rows: a branch without them believes one by its
+ * SHA-256, and its packs have rows. Taken for granted: an object goes only
  * when nobody stands amid a step, and no state that PostgreSQL may go back to names it, since `grace` is longer than either.
  */
 #ifndef MADE

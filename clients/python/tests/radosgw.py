@@ -338,6 +338,7 @@ def main(arguments: list[str]) -> int:
     arguments = [word for word in arguments if word != "--swift"]
     os.environ.setdefault("PAGELOG_TEST_FSYNC", "off")
     began = time.monotonic()
+    signal.signal(signal.SIGTERM, lambda *_: sys.exit(1))  # its processes end with it
     with SERVER:
         print(f"{type(SERVER).__name__} is up after {time.monotonic() - began:.1f} s", flush=True)
         prepare()
