@@ -79,6 +79,8 @@ PLANTS = {
                                "\n  AND NOT EXISTS (SELECT 1 FROM pagelog_base", "branches", "images_are_shared"),
     "packs on their way": Plant("history", "p.number = i.pack AND p.state = 2)", "p.number = i.pack)", "branches", "on_their_way_are_copied"),
     "the library of S3, for that alone": Plant("../store/moving", "import json\n", "import json\nimport pagelog.store.s3\n", "buckets", "for_s3_alone"),
+    "page servers, blocks in the store": Plant("referee", "if rows[0][0] <= last - first and self.has_stored(log, first):", "if False:", "pages", "begins_with_the_first_block"),
+    "page servers, images in the store": Plant("bases", "        if any(row[5] is not None for row in rows):\n", "        if False:\n", "pages", "images_of_a_base"),
     "a name no further back than its base": Plant("naming", "max(base.position + 1, position - _WITHIN)", "max(1, position - _WITHIN)", "branches", "blocks_are_gone"),
     "a name in its base": Plant("naming", "    return _text(image.data[_NAME_AT:])\n", "    return None\n", "branches", "blocks_are_gone"),
     "no manifest before the blocks": Plant("../store/tables", "b.broken IS NULL AND s.moved >= b.base\n", "b.broken IS NULL\n", "rescues", "later_than_the_blocks"),

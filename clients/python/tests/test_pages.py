@@ -33,7 +33,7 @@ from pagelog.console.source import Source
 from pagelog.credentials import load
 from pagelog.cli.words import pagelogctl
 from pagelog.errors import ConnectionLost, Unreachable
-from pagelog.keeper.bases import make_base
+from pagelog.keeper.bases import Bases, make_base
 from pagelog.keeper.images import Replay
 from pagelog.keeper.referee import BrokenArchive, Doubt, Referee, digest
 from pagelog.keeper.rows import PagesRow
@@ -47,6 +47,7 @@ from pagelog.pages.stores import MOST_ASIDE, SetAside, PageStore, asides_in
 from pagelog.place import BelowBase
 from pagelog.request import Role
 from pagelog.rules import AboveTheEnd, UnknownPrincipal
+from pagelog.store.settings import StoreSettings
 from service import PATIENCE, TABLE, WIDE_TABLE, Service, token
 from test_set_back import SetBack
 
@@ -619,6 +620,8 @@ class Pages(Paged):
 class Served(unittest.TestCase):
     """Page servers of a database under a keeper."""
 
+    store: StoreSettings | None = None
+
     def setUp(self) -> None:
         self.keeping = self.enterContext(self.new_keeping())
         self.keeping.referee.prepare()
@@ -646,7 +649,7 @@ class Served(unittest.TestCase):
         )
         self.made = made = PageServers(
             settings,
-            lambda me: Referee(self.keeping.url, me),
+            lambda me: Referee(self.keeping.url, me, store=self.store),
             ["shop"],
             lambda name, said: self.said.append(f"{name}: {said}"),
         )
@@ -689,6 +692,56 @@ class Served(unittest.TestCase):
     def commit(primary: NamedPrimary, n: int) -> int:
         primary.append(Put(n % 4, 0, b"%08d" % n))
         return primary.commit(durable=True)
+
+
+class Stored(Served):
+    """What is to be followed is in an object store, and there alone."""
+
+    def new_keeping(self) -> Keeping:
+        keeping = super().new_keeping()
+        self.objects = Path(self.enterContext(tempfile.TemporaryDirectory()))
+        keeping.stores(self.objects, seal="4KiB", age="0s", tail="0s")
+        self.store = StoreSettings(f"file://{self.objects}")
+        return keeping
+
+    def commits(self) -> list[int]:
+        """Archives, some before a base and some behind it, until PostgreSQL has nothing of it."""
+        with self.keeping.primary() as primary:
+            positions = [self.commit(primary, n) for n in range(10)]
+            self.keeping.word("rollover", "shop")
+            eventually(lambda: self.keeping.row().images > 0, "a base")
+            positions += [self.commit(primary, n) for n in range(10, 20)]
+        eventually(
+            lambda: self.here() == (0, 0, positions[-1]), "all in the store, and there alone"
+        )
+        return positions
+
+    def here(self) -> tuple[int, int, int]:
+        """How many blocks and images PostgreSQL has, and up to where the store has them."""
+        [[blocks, images, cut]] = self.keeping.referee._ask(
+            "SELECT (SELECT count(*) FROM pagelog_block), (SELECT count(*) FROM pagelog_image WHERE data <> ''), "
+            "(SELECT max(cut) FROM pagelog_store)"
+        )
+        return int(blocks), int(images), int(cut or 0)
+
+    def follows(self, positions: list[int], first: int) -> None:
+        """A new page server has the pages of these from number `first` on."""
+        self.servers()
+        run, address = self.follows_to(positions[-1])
+        reader = self.reader(run, address)
+        for n, position in list(enumerate(positions))[first:]:
+            self.assertEqual(reader.page(n % 4, position).data[:8], b"%08d" % n, position)
+
+    def test_it_begins_with_the_first_block(self) -> None:
+        self.follows(self.commits(), 0)
+
+    def test_it_begins_with_the_images_of_a_base(self) -> None:
+        positions = self.commits()
+        row = self.keeping.row()
+        bases = Bases(self.keeping.referee, row.id)
+        base = bases.newest(row.archived)
+        self.assertGreater(bases.prune(base.position), 0)
+        self.follows(positions, sum(position < base.position for position in positions))
 
 
 class Kept(Served):
