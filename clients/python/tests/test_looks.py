@@ -160,6 +160,47 @@ class Looks(unittest.IsolatedAsyncioTestCase):
         assert found is not None
         self.assertEqual(found[1].entries, ())  # else it is the answer to the look before
 
+    async def test_an_idle_one_is_looked_at_without_a_task_until_it_says_something_else(
+        self,
+    ) -> None:
+        open_before = len(os.listdir("/proc/self/fd"))
+        served = self.served()
+        work = self.work(served)
+        for count in range(1, 6):
+            work.see(served)
+            await self.until(lambda: served.health.answers == count)  # noqa: B023
+        self.assertEqual(len(self.tasks), 1)
+        # Its process, and the connection of looks.
+        self.assertEqual(len(os.listdir("/proc/self/fd")) - open_before, 2)
+        writer = await asyncio.to_thread(self.writer, served)
+        writer.append(Put(0, 0, b"x"))
+        await asyncio.to_thread(writer.commit)
+        work.see(served)
+        await asyncio.wait_for(self.until(lambda: served.hard == 1), PATIENCE)
+        self.assertEqual(len(self.tasks), 2)
+
+    async def test_an_idle_one_that_hangs_or_dies_is_left_to_a_task(self) -> None:
+        served = self.served()
+        work, looker = self.work(served), served._quick_looker
+        assert served.process is not None and looker is not None
+        pid = served.process.facts.pid
+        for tasks, signals in ((1, (signal.SIGSTOP, signal.SIGCONT)), (2, (signal.SIGKILL,))):
+            before = served.health.answers
+            for count in (1, 2):
+                work.see(served)
+                await self.until(lambda: served.health.answers == before + count)  # noqa: B023
+            self.assertEqual(len(self.tasks), tasks)
+            looker._timeout = 0.2
+            os.kill(pid, signals[0])
+            await asyncio.wait_for(
+                self.until(lambda: (work.see(served), len(self.tasks) > tasks)[1]),  # noqa: B023
+                PATIENCE,
+            )
+            looker._timeout = PATIENCE
+            for each in signals[1:]:
+                os.kill(pid, each)
+            await asyncio.gather(*self.tasks, return_exceptions=True)
+
     async def test_an_address_of_its_host_that_is_silent_is_no_silence_of_its_own(self) -> None:
         served, sockets = self.served(), list[socket.socket]()
         self.addCleanup(lambda: [each.close() for each in sockets])

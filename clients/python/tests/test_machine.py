@@ -134,9 +134,7 @@ class Cases(unittest.TestCase):
             Action.CLOSE, replace(OURS, wanted="c"), HOLDS, others=(OF_C,), successor=Stage.MAKING
         )
         self.check(Action.NOTHING, replace(OURS, paused=True), HOLDS, successor=Stage.READY)
-        self.assertIs(
-            state_of(Facts("a", TTL, OURS, HOLDS), Action.SUCCEED), DatabaseState.SUCCEEDING
-        )
+        self.assertIs(state_of(OURS, HOLDS, Action.SUCCEED), DatabaseState.SUCCEEDING)
 
     def test_of_a_service_that_had_no_memory_for_a_writer(self) -> None:
         full = replace(HOLDS, is_full=True)
@@ -277,10 +275,8 @@ class Cases(unittest.TestCase):
     def test_a_database_whose_run_was_lost_is_not_said_to_be_served(self) -> None:
         lost = replace(HOLDS, is_known=False)
         for row in (None, ROW, RELEASED):
-            self.assertIs(state_of(Facts("a", TTL, row, lost)), DatabaseState.WENT_BACK)
-        self.assertIs(
-            state_of(Facts("a", TTL, ROW, replace(STANDBY, reached=5001))), DatabaseState.WENT_BACK
-        )
+            self.assertIs(state_of(row, lost), DatabaseState.WENT_BACK)
+        self.assertIs(state_of(ROW, replace(STANDBY, reached=5001)), DatabaseState.WENT_BACK)
 
     def test_no_service_that_may_be_the_only_copy_of_what_postgresql_has_lost_is_ended(
         self,
@@ -358,15 +354,15 @@ class Cases(unittest.TestCase):
         self.check(Action.FILL, replace(OURS, run="s"), replace(STANDBY, is_open=False))
 
     def test_states(self) -> None:
-        self.assertIs(state_of(Facts("a", TTL, ROW)), DatabaseState.AWAY)
-        self.assertIs(state_of(Facts("a", TTL, ROW, STANDBY)), DatabaseState.STANDBY)
-        self.assertIs(state_of(Facts("a", TTL, RELEASED), Action.TAKE), DatabaseState.TAKING)
+        self.assertIs(state_of(ROW, None), DatabaseState.AWAY)
+        self.assertIs(state_of(ROW, STANDBY), DatabaseState.STANDBY)
+        self.assertIs(state_of(RELEASED, None, Action.TAKE), DatabaseState.TAKING)
         self.assertIs(
-            state_of(Facts("a", TTL, replace(OURS, address=None), HOLDS), Action.FILL),
+            state_of(replace(OURS, address=None), HOLDS, Action.FILL),
             DatabaseState.TAKING,
         )
-        self.assertIs(state_of(Facts("a", TTL, OURS, HOLDS)), DatabaseState.SERVING)
-        self.assertIs(state_of(Facts("a", TTL, OURS, HOLDS), Action.CLOSE), DatabaseState.CLOSING)
+        self.assertIs(state_of(OURS, HOLDS), DatabaseState.SERVING)
+        self.assertIs(state_of(OURS, HOLDS, Action.CLOSE), DatabaseState.CLOSING)
 
 
 class Clocks(unittest.TestCase):

@@ -4,7 +4,7 @@ from __future__ import annotations
 
 import asyncio
 from contextlib import suppress
-from dataclasses import dataclass
+from dataclasses import dataclass, replace
 from typing import Any, Mapping
 
 from pagelog.keeper.beginning import Beginning
@@ -185,7 +185,7 @@ class Database:
             and self.served.identity == row.identity
         ):
             self.shared.spawn(self._put_table_back(self.served), row.name)
-        self.kick()
+        self._see_what_to_do()
 
     def has_changed(self, row: Row) -> None:
         """It is as a look has shown it, or as a statement of this keeper has left it."""
@@ -245,9 +245,10 @@ class Database:
                 row.run == own.run or (row.archived, row.chain) == (served.reached, served.chain)
             ):
                 served.be_lacked(False)
-            elif went_back(row if self.is_known else None, own):
+            elif went_back(self._known_row, own):
                 served.be_lacked(True)
-        served.be_only_copy(is_only_copy(self.facts()), seconds())
+        own = replace(own, went_back=served.lack.went_back)
+        served.be_only_copy(is_only_copy(self._known_row, own), seconds())
 
     def _own(self) -> Own | None:
         settings, served = self.shared.settings, self.served
@@ -281,6 +282,10 @@ class Database:
         )
 
     @property
+    def _known_row(self) -> Row | None:
+        return self.row if self.is_known else None
+
+    @property
     def _may_be_asked_for_more(self) -> bool:
         """Whether a writer without memory may have a succession now: anybody may say that he is one."""
         return seconds() - self._switched_at >= self.shared.settings.ttl
@@ -297,7 +302,7 @@ class Database:
         return Facts(
             me=settings.name,
             ttl=settings.ttl,
-            row=self.row if self.is_known else None,
+            row=self._known_row,
             own=own,
             still=self.still_for,
             others=self._others,
@@ -374,16 +379,12 @@ class Database:
     def may_be_only_copy(self) -> bool:
         """Whether its service may have what PostgreSQL has lost."""
         own = self._own()
-        return (
-            own is not None
-            and own.alive
-            and (own.went_back or went_back(self.row if self.is_known else None, own))
-        )
+        return own is not None and own.alive and (own.went_back or went_back(self._known_row, own))
 
     @property
     def state(self) -> DatabaseState:
         """What the database is to this keeper."""
-        return state_of(self.facts(), self.doing)
+        return state_of(self._known_row, self._own(), self.doing)
 
     @property
     def holds(self) -> bool:
@@ -461,6 +462,18 @@ class Database:
         self._news = True
         if self._acting is None or self._acting.done():
             self._acting = self.shared.spawn(self._act(), self.row.name)
+
+    def _see_what_to_do(self) -> None:
+        """As `kick`. No task is begun where nothing is to be done about what this keeper holds, as at most looks."""
+        is_at_it = self._acting is not None and not self._acting.done()
+        is_quiet = self.holds and self.own.kind is RunKind.HOLDER and not self.row.paused
+        if is_quiet and not is_at_it:
+            decision = decide(self.facts())
+            if decision.action is Action.NOTHING:
+                self._say(decision)
+                self.moves.tell()
+                return
+        self.kick()
 
     async def _act(self) -> None:
         goes_on = False

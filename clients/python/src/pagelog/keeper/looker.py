@@ -3,7 +3,8 @@
 from __future__ import annotations
 
 import asyncio
-from typing import Sequence
+import time
+from typing import Callable, NamedTuple, Sequence
 
 from pagelog.client import FIRST_EPOCH, reported_epoch
 from pagelog.connection import REPLY_SIZE, Address
@@ -17,6 +18,15 @@ _SILENT = 0.25
 """Seconds after which the next address of a host is tried beside one that is silent."""
 
 
+class LastLook(NamedTuple):
+    """A look that was answered: what was asked, for which entry, and the answer, as it came and as it is."""
+
+    probe: int
+    frames: bytes
+    bodies: list[bytes]
+    found: tuple[State, Entries]
+
+
 class Looker:
     """A connection for one look at a time. Whatever else than its state comes back, it says that it does not know: an `Operator` asks
     again then, and finds out why."""
@@ -28,6 +38,9 @@ class Looker:
             timeout,
         )
         self._line: _LookerLine | None = None
+        self._last: LastLook | None = None
+        self._asked_again: float | None = None
+        """Since when the answer to `look_again` is waited for."""
         self._epoch = FIRST_EPOCH
         """The highest one that it was told of. In one process epochs only rise."""
 
@@ -37,6 +50,7 @@ class Looker:
         Where another epoch has begun, as with each generation that of its writer, it asks again in that.
         """
         acts: tuple[Act, Act] = (Status(), Audit(probe, 1))
+        self._last = None
         replies = await self._replies(acts)
         told = max((reported_epoch(reply) or 0 for reply in replies), default=0)
         if told > self._epoch:
@@ -47,14 +61,42 @@ class Looker:
                 fits = not any(
                     mismatch(act, self._epoch, reply) for act, reply in zip(acts, replies)
                 )
+                if fits and self._line is not None:
+                    self._last = LastLook(
+                        probe, self._frames(acts), self._line.bodies, (state, entries)
+                    )
                 return (state, entries) if fits else None
         return None
+
+    def look_again(self, probe: int, told: Callable[[tuple[State, Entries] | None], None]) -> bool:
+        """The same where it may have the answer that it had the last time, as an idle service has: no task waits for it. `told` is called
+        once with that, or with None where it has another. False where `look` has to ask: also where nothing comes within its time.
+        """
+        last, line = self._last, self._line
+        if self._asked_again is not None:
+            is_late = time.monotonic() - self._asked_again >= self._timeout
+            if is_late:
+                self.close()
+            return not is_late
+        if last is None or line is None or last.probe != probe or not line.is_open:
+            return False
+
+        expected, found = last.bodies, last.found
+
+        def answered(bodies: list[bytes]) -> None:
+            if line is self._line:
+                self._asked_again = None
+                told(found if bodies == expected else None)
+
+        self._asked_again = time.monotonic()
+        line.ask_then(last.frames, len(expected), answered)
+        return True
 
     def close(self) -> None:
         """Closes the connection. The next look makes another."""
         if self._line is not None:
             self._line.close()
-        self._line = None
+        self._line = self._last = self._asked_again = None
 
     async def _replies(self, acts: Sequence[Act]) -> list[Reply]:
         """What comes back; nothing where that is not whole."""
@@ -73,16 +115,17 @@ class Looker:
                 self.close()  # its replies would be taken for those of the next look
 
     async def _bodies(self, acts: Sequence[Act]) -> list[bytes]:
-        head = Head(self._credentials.id, self._credentials.token, Role.OPERATOR, 0, self._epoch)
-        bodies = [Request(head, act).encode() for act in acts]
         if self._line is None:
             host, port, loop = self._address.host, self._address.port, asyncio.get_running_loop()
             _, self._line = await loop.create_connection(
                 _LookerLine, host, port, happy_eyeballs_delay=_SILENT
             )
-        return await self._line.ask(
-            b"".join(len(body).to_bytes(4, "big") + body for body in bodies), len(bodies)
-        )
+        return await self._line.ask(self._frames(acts), len(acts))
+
+    def _frames(self, acts: Sequence[Act]) -> bytes:
+        head = Head(self._credentials.id, self._credentials.token, Role.OPERATOR, 0, self._epoch)
+        bodies = [Request(head, act).encode() for act in acts]
+        return b"".join(len(body).to_bytes(4, "big") + body for body in bodies)
 
 
 class _LookerLine(asyncio.Protocol):
@@ -91,22 +134,33 @@ class _LookerLine(asyncio.Protocol):
     def __init__(self) -> None:
         self._transport: asyncio.Transport | None = None
         self._in = bytearray()
-        self._bodies: list[bytes] = []
+        self.bodies: list[bytes] = []
+        """Those of the last replies."""
         self._wanted = 0
-        self._answered: asyncio.Future[None] | None = None
+        self._answered: Callable[[list[bytes]], None] | None = None
+
+    @property
+    def is_open(self) -> bool:
+        """Whether the service has not ended it."""
+        return self._transport is not None
 
     async def ask(self, frames: bytes, count: int) -> list[bytes]:
         """The bodies of so many replies. Raises `OSError`."""
         if self._transport is None:
             raise ConnectionError("the service ended the connection")
-        self._bodies, self._wanted, self._answered = (
-            [],
-            count,
-            asyncio.get_running_loop().create_future(),
+        answered: asyncio.Future[list[bytes]] = asyncio.get_running_loop().create_future()
+        self.ask_then(
+            frames, count, lambda bodies: None if answered.done() else answered.set_result(bodies)
         )
+        if len(bodies := await answered) < count:
+            raise ConnectionError("the service ended the connection")
+        return bodies
+
+    def ask_then(self, frames: bytes, count: int, answered: Callable[[list[bytes]], None]) -> None:
+        """Calls this once with the bodies of so many replies, or with fewer where the connection ends before."""
+        assert self._transport is not None
+        self.bodies, self._wanted, self._answered = [], count, answered
         self._transport.write(frames)
-        await self._answered
-        return self._bodies
 
     def close(self) -> None:
         """Ends it."""
@@ -121,8 +175,7 @@ class _LookerLine(asyncio.Protocol):
     def connection_lost(self, error: Exception | None) -> None:
         """Called by the loop: the service has ended it, or `close`."""
         self._transport = None
-        if self._answered is not None and not self._answered.done():
-            self._answered.set_exception(ConnectionError("the service ended the connection"))
+        self._say([])
 
     def data_received(self, data: bytes) -> None:
         """Called by the loop. What nobody has asked for ends it."""
@@ -130,10 +183,15 @@ class _LookerLine(asyncio.Protocol):
         while len(self._in) >= 4 and len(self._in) >= (
             end := 4 + int.from_bytes(self._in[:4], "big")
         ):
-            self._bodies.append(bytes(self._in[4:end]))
+            self.bodies.append(bytes(self._in[4:end]))
             del self._in[:end]
-        is_asked = self._answered is not None and not self._answered.done()
-        if not is_asked or len(self._bodies) > self._wanted or len(self._in) > REPLY_SIZE:
+        is_asked = self._answered is not None
+        if not is_asked or len(self.bodies) > self._wanted or len(self._in) > REPLY_SIZE:
             self.close()
-        elif len(self._bodies) == self._wanted and self._answered is not None:
-            self._answered.set_result(None)
+        elif len(self.bodies) == self._wanted:
+            self._say(self.bodies)
+
+    def _say(self, bodies: list[bytes]) -> None:
+        answered, self._answered = self._answered, None
+        if answered is not None:
+            answered(bodies)

@@ -193,7 +193,7 @@ def decide(facts: Facts) -> Decision:
     decision = _decide(facts)
     if decision.action is Action.TAKE and facts.is_unreached:
         return Decision(Action.NOTHING, "no client would reach its service here: the front is away")
-    if decision.action in (Action.END, Action.TAKE) and is_only_copy(facts):
+    if decision.action in (Action.END, Action.TAKE) and is_only_copy(facts.row, facts.own):
         return Decision(
             Action.SET_ASIDE,
             f"{decision.why}; PostgreSQL went back, and the service is kept",
@@ -202,9 +202,8 @@ def decide(facts: Facts) -> Decision:
     return decision
 
 
-def is_only_copy(facts: Facts) -> bool:
+def is_only_copy(row: Row | None, own: Own | None) -> bool:
     """Whether the service that is here may be the only copy of what PostgreSQL has lost."""
-    row, own = facts.row, facts.own
     if own is None or not own.alive or (row is not None and row.dropped):
         return False
     return own.went_back or went_back(row, own)
@@ -242,7 +241,7 @@ def _decide(facts: Facts) -> Decision:
         return _of_a_run_that_is_over(facts, row, own)
     if own is not None and (not own.alive or own.silent >= facts.ttl):
         return Decision(Action.END, "the standby's service ended or hangs")
-    if own is not None and own.share < ANEW_AT and is_only_copy(facts):
+    if own is not None and own.share < ANEW_AT and is_only_copy(row, own):
         return _of_what_went_back(facts, row, own)
     if (
         row.run is not None and row.holder == facts.me
@@ -333,7 +332,7 @@ def _of_a_run_that_is_over(facts: Facts, row: Row, own: Own) -> Decision:
         return Decision(
             Action.LOOK_UP, f"PostgreSQL has another run than that of generation {own.generation}"
         )
-    if is_only_copy(facts):
+    if is_only_copy(row, own):
         return _of_what_went_back(facts, row, own)
     if row.run is None and row.generation == own.generation:
         return Decision(Action.END, f"generation {row.generation} was released")
@@ -447,21 +446,21 @@ def _of_another_holder(facts: Facts, row: Row) -> Decision:
     return Decision(Action.NOTHING, f"{row.holder} has it")
 
 
-def state_of(facts: Facts, doing: Action = Action.NOTHING) -> DatabaseState:
+def state_of(row: Row | None, own: Own | None, doing: Action = Action.NOTHING) -> DatabaseState:
     """What the database is to this keeper, while it does this."""
-    if facts.own is None:
+    if own is None:
         return DatabaseState.TAKING if doing in (Action.TAKE, Action.ADOPT) else DatabaseState.AWAY
     if doing is Action.CLOSE:
         return DatabaseState.CLOSING
     if doing is Action.SUCCEED:
         return DatabaseState.SUCCEEDING
-    if is_only_copy(facts):
+    if is_only_copy(row, own):
         return DatabaseState.WENT_BACK
-    if facts.own.kind is RunKind.STANDBY:
+    if own.kind is RunKind.STANDBY:
         return DatabaseState.TAKING if doing is Action.TAKE else DatabaseState.STANDBY
     return (
         DatabaseState.TAKING
-        if doing is Action.FILL or facts.row is None or facts.row.address is None
+        if doing is Action.FILL or row is None or row.address is None
         else DatabaseState.SERVING
     )
 

@@ -24,6 +24,7 @@ FRONT = "~front"
 """In what is noted of the front of a keeper, in place of a database's name: no database has it. A keeper that knows of no fronts ends it, as
 a service that did not come to listen."""
 _END = 10.0
+_PAGE = os.sysconf("SC_PAGE_SIZE")
 """For how many seconds the end of a process that was killed is waited for."""
 
 
@@ -310,8 +311,11 @@ class Run:
     def memory(self) -> int:
         """Bytes of the machine's memory that it holds; 0 where it has ended."""
         try:
-            with open(f"/proc/{self.facts.pid}/statm", "rb", buffering=0) as file:
-                return int(file.read().split()[1]) * os.sysconf("SC_PAGE_SIZE")
+            descriptor = os.open(f"/proc/{self.facts.pid}/statm", os.O_RDONLY | os.O_CLOEXEC)
+            try:
+                return int(os.read(descriptor, 256).split()[1]) * _PAGE
+            finally:
+                os.close(descriptor)
         except (OSError, IndexError, ValueError):
             return 0
 

@@ -9,7 +9,7 @@ from contextlib import suppress
 from dataclasses import dataclass, field
 from enum import Enum
 from itertools import islice
-from typing import Iterable, Iterator, Sequence
+from typing import Callable, Iterable, Iterator, Sequence
 
 from pagelog.block import Block
 from pagelog.connection import Address, Connection
@@ -502,11 +502,15 @@ class Served:
 
     def was_written(self) -> bool:
         """Whether a client has: each begins with an epoch of its own."""
-        return self._operator.status().epoch > EPOCH
+        try:
+            return self._operator.status().epoch > EPOCH
+        finally:
+            self._operator.connection.close()
 
     def open(self) -> None:
         """From now on its table is that of the database, or lets clients read alone."""
         self._operator.set_table(self._table(Form.READING if self._is_read_only else Form.OPEN))
+        self._operator.connection.close()  # it is asked again at its end: until then it has the connection of looks
         self.access = Access.OPEN
         self.weigh()
 
@@ -545,6 +549,13 @@ class Served:
             if not self._has_more(*found):
                 return True
         return False
+
+    def look_again(self, told: Callable[[bool], None]) -> bool:
+        """As `looked_at_once`, where it may answer as it did the last time: `told` is called once with whether it has. False where that
+        is not to be had so."""
+        return self._quick_looker is not None and self._quick_looker.look_again(
+            self._probe, lambda found: told(found is not None and not self._has_more(*found))
+        )
 
     def look(self) -> None:
         """Asks for its end, and how many entries its audit list has at least: two entries, and more where the list has grown."""

@@ -3,6 +3,7 @@
 from __future__ import annotations
 
 import asyncio
+from functools import partial
 from typing import TYPE_CHECKING, Callable
 
 from pagelog.errors import AuditListFull, PagelogError, TurnsSpent
@@ -44,7 +45,18 @@ class Work:
         served.be_silent(self._silent.see((served.run, served.health.answers), seconds()))
         if self.archiver is not None and served.hangs:
             self.archiver.stir()
-        if self._looking is None or self._looking.done():
+        if not self._is_looking and not served.look_again(partial(self._looked_again, served)):
+            self._looking = self._shared.spawn(self._look(served), self._name)
+
+    @property
+    def _is_looking(self) -> bool:
+        return self._looking is not None and not self._looking.done()
+
+    def _looked_again(self, served: Served, is_as_before: bool) -> None:
+        """It has answered as the last time, or otherwise: then it is asked by a task."""
+        if is_as_before:
+            self._note_look(served)
+        elif served is self._served and not self._is_looking:
             self._looking = self._shared.spawn(self._look(served), self._name)
 
     async def _look(self, served: Served) -> None:
@@ -59,6 +71,9 @@ class Work:
                 self._shared.repeats.say(
                     self._name, f"the service does not answer its keeper: {error}"
                 )
+        self._note_look(served)
+
+    def _note_look(self, served: Served) -> None:
         if self.recorder is not None and served is self._served:
             self.recorder.look(served.entries)
         if served.hard > served.reached and served is self._served:
