@@ -232,6 +232,28 @@ active [KEEPERS] proctype Keeper() {
 end:
     do
     /* A batch: done or refused, and the reply comes or is lost; or it comes late. */
+// fast_path_referee.c: take_answer
+                    // ..
+                    // if (result == NULL)
+                    // *is_whole = true;
+                    // return session->has_row && !session->warned;
+                    // ..
+// fast_path_referee.c: finish
+                    // ..
+                    // if (session->kept[at]) enter(session->ways[at]);
+                    // else end_way(session->ways[at], WAY_NOT_KEPT);
+                    // ..
+// fast_path_referee.c: enter
+                    // ..
+                    // way->reached = way->batch.reached;
+                    // ..
+                    // tell_all(way);
+                    // ..
+// fast_path_lines.c: tell_all
+                    // ..
+                    // bool is_due = line->position != 0 && line->position <= way->reached;
+                    // if (is_due && !tell(way, line
+                    // ..
     :: d_step { mine != 0 && (stage == NONE || stage == MAKING) && !doubts && alive[mine] && hard[mine] > reached[mine] ->
           keep(mine, reached[mine]);
 #ifdef TOLD_BEFORE_THE_REPLY
@@ -241,7 +263,21 @@ end:
           reached[mine] = (is_done -> reached[mine] + 1 : reached[mine]); tell()
 #endif
        }
-    :: d_step { mine != 0 && (stage == NONE || stage == MAKING) && !doubts && alive[mine] && hard[mine] > reached[mine] -> keep(mine, reached[mine]); doubts = 1 }
+// fast_path_referee.c: lose
+                    // ..
+                    // end_way(session->ways[at], WAY_DOUBT);
+                    // ..
+// fast_path.c: advance
+                    // if (way->is_over && way->phase != KEEPING)
+                    // end_way(way, WAY_STOPPED);
+                    // ..
+    :: d_step { mine != 0 && (stage == NONE || stage == MAKING) && !doubts && alive[mine] && hard[mine] > reached[mine] -> keep(mine, reached[mine]);
+#ifdef A_DOUBT_IS_TOLD
+          reached[mine]++; tell()
+#else
+          doubts = 1
+#endif
+       }
     :: d_step { mine != 0 && (stage == NONE || stage == MAKING) && !doubts && alive[mine] && hard[mine] > reached[mine] && late_run[ME] == 0 ->
           late_run[ME] = mine; late_old[ME] = reached[mine]; doubts = 1 }
     :: d_step { late_run[ME] != 0 ->
@@ -250,7 +286,15 @@ end:
           :: else -> succeed(late_run[ME], late_old[ME], late_next[ME], late_number[ME])
           fi;
           late_run[ME] = 0; late_old[ME] = 0; late_next[ME] = 0; late_number[ME] = 0 }
-    /* A batch in doubt is looked up. Who holds it no more ends its service. */
+    /* A batch in doubt is looked up, and what of it is not archived is tried again behind what is. Who holds it no more ends its service. */
+// fast_path.c: take_batch
+                    // ..
+                    // bool follows = before->batch.blocks > 0 && before->reached == way->reached && before->chain_len == way->chain_len &&
+                    // memcmp(before->chain, way->chain, way->chain_len) == 0;
+                    // ..
+                    // if (!follows || !fits)
+                    // return;
+                    // ..
 // referee.py: kept
                     // found = self._ask("UPDATE pagelog_log SET archived = archived WHERE id = %s
                     // RETURNING archived, chain, generation, run", (log,))
