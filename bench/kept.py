@@ -6,6 +6,7 @@ Usage: python3 -B bench/kept.py [--share SHARE] [--alone] [--tls] [--blocks N [-
 
 import argparse
 import contextlib
+import ctypes
 import json
 import os
 import pathlib
@@ -18,6 +19,7 @@ import sys
 import tempfile
 import threading
 import time
+from collections import Counter
 
 import programs
 
@@ -37,6 +39,7 @@ from pagelog.keeper.referee import Referee, digest  # noqa: E402
 from pagelog.keeper.rows import Batch  # noqa: E402
 from pagelog.keeper.run import Program  # noqa: E402
 from pagelog.keeper.served import Served  # noqa: E402
+from pagelog.request import Head, Report, Request, Role, Write  # noqa: E402
 from replicated import Pair, Server  # noqa: E402
 from secured import SecureAlone  # noqa: E402
 
@@ -52,6 +55,24 @@ def processor_seconds(pid):
     """What a process has taken of processors."""
     fields = pathlib.Path(f"/proc/{pid}/stat").read_text().rpartition(")")[2].split()
     return (int(fields[11]) + int(fields[12])) / TICKS
+
+
+def all_below(pid):
+    """A process, and all that it and its have started."""
+    found = [pid]
+    for task in pathlib.Path(f"/proc/{pid}/task").iterdir():
+        for child in (task / "children").read_text().split():
+            found += all_below(int(child))
+    return found
+
+
+def processor_ms(pids):
+    """What the threads that these processes have now have taken of processors, in milliseconds: exact also of what takes little."""
+    return sum(
+        int((task / "schedstat").read_text().split()[0]) / 1e6
+        for pid in pids
+        for task in pathlib.Path(f"/proc/{pid}/task").iterdir()
+    )
 
 
 def at(share, times):
@@ -303,103 +324,123 @@ def loop(pair, share):
 # Many databases.
 
 PROCESSES = 4
+MOST_TIMES = 1 << 20
 
 
-class DatabaseWriter:
-    """One database, whose commits are begun and waited for apart, over a line of its own."""
+class Writer(ctypes.Structure):
+    """One of kept_writers.c: a database, over a connection to its service and a line to its keeper, or a session of PostgreSQL."""
 
-    def __init__(self, name, options):
-        self.primary = Primary.named(
-            name,
-            keepers=options["keepers"],
-            principal=2,
-            token=token(2),
-            operator=(1, token(1)),
-            patience=service.PATIENCE,
-            trust=trust(),
-        )
-        self.primary.append(RECORD)
-        self.primary.commit(durable=True)
-        place = self.primary.place
-        self.line = line_to(place)
-        self.question = f"durable {name} {place.generation} "
-        self.fileno = self.line.fileno
-
-    def begin(self):
-        self.primary.append(RECORD)
-        self.line.sendall(f"{self.question}{self.primary.commit()}\n".encode())
-
-    def take(self):
-        answer = self.line.recv(200)
-        assert answer.startswith(b"durable "), answer
-        return True
-
-    def rest(self):
-        self.primary.durable(self.primary.end)
+    _fields_ = [
+        ("connection", ctypes.c_void_p),
+        ("data", ctypes.c_char_p),
+        ("data_len", ctypes.c_size_t),
+        ("service", ctypes.c_int),
+        ("line", ctypes.c_int),
+        ("frames", ctypes.POINTER(ctypes.c_char)),
+        ("frames_len", ctypes.c_size_t),
+        ("places", ctypes.c_size_t * 4),
+        ("question", ctypes.c_char_p),
+        ("lsn", ctypes.c_uint64),
+        ("shift", ctypes.c_uint64),
+        ("got", ctypes.c_size_t),
+        ("asks_keeper", ctypes.c_int),
+        ("began", ctypes.c_double),
+    ]
 
 
-class SessionWriter:
-    """One session of PostgreSQL's own."""
-
-    def __init__(self, url, number):
-        self.session = psycopg.connect(url + "&target_session_attrs=read-write", autocommit=True)
-        self.session.execute(
-            f"CREATE TABLE IF NOT EXISTS plain{number} (id serial PRIMARY KEY, data bytea NOT NULL)"
-        )
-        self.session.pgconn.prepare(
-            b"put", f"INSERT INTO plain{number} (data) VALUES ($1)".encode()
-        )
-        self.data = Block.of(1, (RECORD,)).data
-        self.fileno = self.session.fileno
-
-    def begin(self):
-        self.session.pgconn.send_query_prepared(b"put", [self.data], [1])
-        self.session.pgconn.flush()
-
-    def take(self):
-        self.session.pgconn.consume_input()
-        while not self.session.pgconn.is_busy():
-            result = self.session.pgconn.get_result()
-            if result is None:
-                return True
-            assert result.status == 1, result.error_message
-        return False
-
-    def rest(self):
-        pass
+def frames_at(primary, lsn):
+    """A commit of one block: two writes and a report."""
+    account = primary.credentials
+    head = Head(account.id, account.token, Role.PRIMARY, primary.database, primary.epoch)
+    block = Block.of(lsn, (RECORD,))
+    bodies = [
+        Request(head, act).encode() for act in (Write(0, block), Write(1, block), Report(lsn))
+    ]
+    return b"".join(len(body).to_bytes(4, "big") + body for body in bodies)
 
 
-def commit_for(writers, seconds):
-    """How long each commit took, each writer one after the other, by one thread."""
-    poll, by_number, began, times = select.poll(), {each.fileno(): each for each in writers}, {}, []
-    for number in by_number:
-        poll.register(number, select.POLLIN)
-    ends = time.perf_counter() + seconds
-    for number, each in by_number.items():
-        began[number] = time.perf_counter()
-        each.begin()
-    while began:
-        for number, _ in poll.poll():
-            if by_number[number].take():
-                now = time.perf_counter()
-                times.append(now - began.pop(number))
-                if now < ends:
-                    began[number] = now
-                    by_number[number].begin()
-    return times
+def database_writer(name, options):
+    """That of a database, and what has to stay as long as it writes."""
+    named = Primary.named(
+        name,
+        keepers=options["keepers"],
+        principal=2,
+        token=token(2),
+        operator=(1, token(1)),
+        patience=service.PATIENCE,
+    )
+    named.append(RECORD)
+    named.commit(durable=True)
+    place, primary = named.place, named._primary
+    lsn, line = primary.durable, line_to(place)
+    mark = (1 << 48) - 1  # the only one of its bytes in the frames
+    marked, sought = frames_at(primary, mark), mark.to_bytes(8, "big")
+    places = [at for at in range(len(marked)) if marked.startswith(sought, at)]
+    assert len(places) == 3
+    frames = ctypes.create_string_buffer(marked, len(marked))
+    made = Writer(
+        service=primary.connection._socket.fileno(),
+        line=line.fileno(),
+        frames=frames,
+        frames_len=len(marked),
+        places=(ctypes.c_size_t * 4)(*places),
+        question=f"durable {name} {place.generation} ".encode(),
+        lsn=lsn,
+        shift=place.shift,
+    )
+    return made, (named, line, frames)
+
+
+def session_writer(url, number):
+    """That of a session, and what has to stay."""
+    session = psycopg.connect(url + "&target_session_attrs=read-write", autocommit=True)
+    session.execute(
+        f"CREATE TABLE IF NOT EXISTS plain{number} (id serial PRIMARY KEY, data bytea NOT NULL)"
+    )
+    session.pgconn.prepare(b"put", f"INSERT INTO plain{number} (data) VALUES ($1)".encode())
+    session.pgconn.nonblocking = 1
+    data = Block.of(1, (RECORD,)).data
+    return Writer(connection=session.pgconn.pgconn_ptr, data=data, data_len=len(data)), session
+
+
+def library():
+    """kept_writers.c, compiled."""
+    folder = programs.ROOT / "bench" / "work"
+    folder.mkdir(exist_ok=True)
+    made = folder / "kept_writers.so"
+    include = subprocess.run(
+        ["pg_config", "--includedir"], check=True, capture_output=True, text=True
+    ).stdout.strip()
+    source = programs.ROOT / "bench" / "kept_writers.c"
+    subprocess.run(
+        [*"gcc -shared -fPIC -O2 -Wall -Wextra -Werror -I".split(), include, source]
+        + ["-o", made, "-lpq"],
+        check=True,
+    )
+    return made
 
 
 def writers_of_one_process(words):
     """`kept.py --writers JSON`: told a line, it commits so long, and says how many and how long they took."""
-    made = [DatabaseWriter(name, words) for name in words["names"]] + [
-        SessionWriter(words["url"], number) for number in words["numbers"]
+    made = [database_writer(name, words) for name in words["names"]] + [
+        session_writer(words["url"], number) for number in words["numbers"]
     ]
+    writers = (Writer * len(made))(*(each for each, _ in made))
+    commit_for = ctypes.CDLL(words["library"]).commit_for
+    commit_for.restype = ctypes.c_size_t
+    commit_for.argtypes = [
+        ctypes.POINTER(Writer),
+        ctypes.c_size_t,
+        ctypes.c_double,
+        ctypes.POINTER(ctypes.c_double),
+        ctypes.c_size_t,
+    ]
+    times = (ctypes.c_double * MOST_TIMES)()
     print("ready", flush=True)
     for line in sys.stdin:
-        times = commit_for(made, float(line))
-        print(json.dumps([len(times), statistics.median(times), at(99, times) / 1000]), flush=True)
-        for each in made:
-            each.rest()
+        count = commit_for(writers, len(made), float(line), times, MOST_TIMES)
+        took = times[:count]
+        print(json.dumps([count, statistics.median(took), at(99, took) / 1000]), flush=True)
 
 
 class Writers:
@@ -433,9 +474,24 @@ class Writers:
 
 def many(pair, share):
     """Ten and a hundred databases with a writer each, beside as many sessions of PostgreSQL, by turns."""
+    if pair.kind is SecureAlone:
+        return print("many: its clients speak no TLS")
     for count in (10, 100):
         for trail in (0, 7):
             many_of(pair, count, trail, max(1.0, 4 * share))
+
+
+def each_ms(parts, work):
+    """What the work gives, and what it took of processors: by these parts, pids by name."""
+    before = {name: processor_ms(pids) for name, pids in parts.items()}
+    given = work()
+    return given, {name: processor_ms(pids) - before[name] for name, pids in parts.items()}
+
+
+def shown(spent, made):
+    """What was taken of processors a commit, by parts."""
+    each = ", ".join(f"{name} {taken / made:.3f}" for name, taken in spent.items())
+    return f"{sum(spent.values()) / made:.3f} ms of processors a commit: {each}"
 
 
 def many_of(pair, count, trail, seconds):
@@ -449,35 +505,49 @@ def many_of(pair, count, trail, seconds):
         for name in names:
             kept.referee.create(name, kept.table.read_text(), b"s" * 16)
         kept.start("a")
+        built = {"library": str(library())}
         shares = [list(range(first, count, PROCESSES)) for first in range(min(PROCESSES, count))]
         ours = Writers(
             stack,
             [
                 {"names": [names[at] for at in some], "numbers": [], "keepers": kept.addresses}
+                | built
                 for some in shares
             ],
         )
         theirs = Writers(
-            stack, [{"names": [], "numbers": some, "url": pair.url} for some in shares]
+            stack, [{"names": [], "numbers": some, "url": pair.url} | built for some in shares]
         )
         ours.rate(0.5), theirs.rate(0.5)
-        pid, rounds, spent, made = kept.processes["a"].pid, [], 0.0, 0.0
+        pid, rounds, made, spent = kept.processes["a"].pid, [], [0.0, 0.0], [Counter(), Counter()]
         threads, descriptors = len(os.listdir(f"/proc/{pid}/task")), len(
             os.listdir(f"/proc/{pid}/fd")
         )
+        servers = [
+            int((server.data / "postmaster.pid").read_text().split()[0]) for server in pair.servers
+        ]
+        of_both = {"PostgreSQL": [each for server in servers for each in all_below(server)]}
+        of_ours = {"services": all_below(pid)[1:], "keeper": [pid]}
+        parts = (
+            {"clients": [each.pid for each in ours.processes]} | of_ours | of_both,
+            {"clients": [each.pid for each in theirs.processes]} | of_both,
+        )
         for _ in range(5):
-            before = processor_seconds(pid)
-            mine = ours.rate(seconds)
-            spent += processor_seconds(pid) - before
-            made += mine[0] * seconds
-            rounds.append((mine, theirs.rate(seconds)))
+            told = [
+                each_ms(part, lambda: some.rate(seconds))  # noqa: B023
+                for part, some in zip(parts, (ours, theirs))
+            ]
+            for who, (rate, taken) in enumerate(told):
+                made[who] += rate[0] * seconds
+                spent[who].update(taken)
+            rounds.append([rate for rate, _ in told])
         kept.kill("a", signal.SIGKILL)
     shares = sorted(mine[0] / other[0] for mine, other in rounds)
     print(
         f"{count} databases{' with a trail' if trail else ''}, a writer each, {len(rounds)} rounds of {seconds:.0f} s: "
         f"{statistics.median(mine[0] for mine, _ in rounds):,.0f} durable commits a second, PostgreSQL {statistics.median(other[0] for _, other in rounds):,.0f}: "
         f"{statistics.median(shares):.2f} ({shares[0]:.2f} to {shares[-1]:.2f}); p50 {1e3 * statistics.median(mine[1] for mine, _ in rounds):.2f} and "
-        f"{1e3 * statistics.median(other[1] for _, other in rounds):.2f} ms; {1e3 * spent / made:.3f} ms of the keeper's processor a commit, "
+        f"{1e3 * statistics.median(other[1] for _, other in rounds):.2f} ms; {shown(spent[0], made[0])}; PostgreSQL's own {shown(spent[1], made[1])}; "
         f"{threads} threads, {descriptors} descriptors; load {os.getloadavg()[0]:.1f}",
         flush=True,
     )
