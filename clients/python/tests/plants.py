@@ -154,6 +154,13 @@ PLANTS = {
     "fence of one": Plant("statements", "run = %(run)s AND generation = %(generation)s AND archived = %(old)s RETURNING id)\n",
                           "archived = %(old)s RETURNING id)\n", "fast_path", "another_run_has_it"),
     "position of one": Plant("statements", " AND archived = %(old)s RETURNING id)\n", " RETURNING id)\n", "fast_path", "has_something_else"),
+    "run of each": Plant("statements", "l.run = d.run AND l.generation = d.generation AND l.archived = d.old\n  RETURNING",
+                         "l.generation = d.generation AND l.archived = d.old\n  RETURNING", "many", "under_its_own_fence"),
+    "generation of each": Plant("statements", "l.generation = d.generation AND l.archived = d.old\n  RETURNING", "l.archived = d.old\n  RETURNING",
+                                "many", "under_its_own_fence"),
+    "position of each": Plant("statements", " AND l.archived = d.old\n  RETURNING", "\n  RETURNING", "many", "under_its_own_fence"),
+    "one block each": Plant("fast_path_statement.c", "is_one_each &= session", "is_one_each |= session", "many", "one_statement_and_one"),
+    "values of each": Plant("fast_path_statement.c", "{ARRAY, put_new}, {ARRAY, put_crcs}", "{ARRAY, put_old}, {ARRAY, put_crcs}", "many", "of_one_block_each"),
     "fence of a zombie": Plant("statements", "l.run = due.run AND l.generation = due.generation AND",
                                "(l.run = due.run OR l.generation < due.generation + 9) AND", "standbys", "machine_that_stood_still"),
     "take": Plant("statements", "generation = %(generation)s AND archived = %(archived)s AND run IS NOT DISTINCT FROM %(seen_run)s::text\n"

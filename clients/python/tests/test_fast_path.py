@@ -1637,7 +1637,7 @@ class Without(unittest.TestCase):
             ways = self.keeper(**section)._shared.ways
             self.assertEqual(
                 (ways.confirms, len(ways.values)),
-                ("require_standby" in section, 4 if "trail" in section else 3),
+                ("require_standby" in section, 5 if "trail" in section else 4),
             )
 
 

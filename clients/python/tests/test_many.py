@@ -16,7 +16,7 @@ import psycopg
 from psycopg.waiting import Ready, Wait
 
 from keepers import Gate, Keeping, Kept, Tried, Trigger, batch_of, blocks, eventually
-from pagelog.keeper import hosts, fast_calls
+from pagelog.keeper import hosts, fast_calls, statements
 from pagelog.keeper.doubts import Doubts
 from pagelog.keeper.database import Database
 from pagelog.keeper.quick import QuickReferee
@@ -200,13 +200,13 @@ class Together(Hot):
                 await asyncio.sleep(0.001)
         return await self.hot(), clients
 
-    async def behind(self, first: Client, clients: list[Client]) -> Gate:
-        """One has a statement at a gate, and all others wait for the next one."""
+    async def behind(self, first: Client, clients: list[Client], most: int = 3) -> Gate:
+        """One has a statement at a gate, and all others wait for the next one, with so many blocks at most."""
         gate = Gate(self.url, "NEW.name = 'shop'")
         first.send(self.durable(self.write()))
         await asyncio.to_thread(gate.somebody_waits)
         for other, client in zip(self.others, clients):
-            client.send(other.durable(other.write(1 + len(other.written) % 3)))
+            client.send(other.durable(other.write(1 + len(other.written) % most)))
         await self.until(lambda: self.plane.due == len(self.others), "their pulls")
         return gate
 
@@ -222,11 +222,17 @@ class InOneStatement(Together):
     async def test_all_that_is_due_is_one_statement_and_one_that_is_fenced_fails_alone(
         self,
     ) -> None:
+        await self.one_is_fenced(most=3)
+
+    async def test_all_that_is_due_is_one_statement_also_of_one_block_each(self) -> None:
+        await self.one_is_fenced(most=1)
+
+    async def one_is_fenced(self, most: int) -> None:
         first, clients = await self.all_hot()
         threads, sessions = threading.active_count(), self.sessions()
         tried = Tried(self.url, "pagelog keeper one")
         self.addCleanup(tried.close)
-        gate = await self.behind(first, clients)
+        gate = await self.behind(first, clients, most)
         fenced, lost = self.others[4], clients[4]
         self.execute("UPDATE pagelog_log SET generation = 9 WHERE name = %s", fenced.row.name)
         await asyncio.to_thread(gate.open)
@@ -315,6 +321,48 @@ class InOneStatement(Together):
         for other in self.others:
             other.assert_whole()
         self.assert_whole()
+
+
+class Each(Referees):
+    def test_batches_of_one_block_each_are_kept_each_under_its_own_fence(self) -> None:
+        rows = [new_database(self.referee, f"each{number}") for number in range(5)]
+        taken = [self.referee.take(row, "r") for row in rows]
+        self.assertNotIn(None, taken)
+        data = blocks(1, len(rows), b"a block ")
+        starts = [1 + sum(map(len, data[:at])) for at in range(len(data))]
+        generations = [each.generation for each in taken if each is not None]
+        runs, olds = ["r"] * len(rows), [0] * len(rows)
+        runs[0], olds[1], generations[3] = "another", 4, generations[3] + 1
+        found = self.referee._ask(
+            statements.KEEP_EACH,
+            {
+                "chains": b"".join(b"%016d" % number for number in range(len(rows))),
+                "logs": [row.id for row in rows],
+                "runs": runs,
+                "generations": generations,
+                "olds": olds,
+                "news": [old + 1 for old in olds],
+                "crcs": list(range(len(rows))),
+                "starts": starts,
+                "lengths": list(map(len, data)),
+                "bytes": b"".join(data),
+            },
+        )
+        self.assertEqual(sorted(found), [(rows[2].id, 3), (rows[4].id, 5)])
+        kept = self.referee._ask(
+            "SELECT l.id, l.archived, l.chain, b.lsn, b.crc, b.data FROM pagelog_log l LEFT JOIN pagelog_block b ON b.log = l.id "
+            "WHERE l.id = ANY(%s) ORDER BY l.id",
+            ([row.id for row in rows],),
+        )
+        self.assertEqual(
+            [tuple(each) for each in kept],
+            [
+                (row.id, 1, b"%016d" % at, 1, at, data[at])
+                if at in (2, 4)
+                else (row.id, 0, b"", None, None, None)
+                for at, row in enumerate(rows)
+            ],
+        )
 
 
 class Locked(Together):

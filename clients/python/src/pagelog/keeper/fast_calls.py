@@ -89,6 +89,7 @@ class SessionStart(ctypes.Structure):
         ("connection", ctypes.c_void_p),
         ("keep", ctypes.c_char_p),
         ("keep_block", ctypes.c_char_p),
+        ("keep_each", ctypes.c_char_p),
         ("keep_lines", ctypes.c_char_p),
         ("flushed", ctypes.c_char_p),
     ]

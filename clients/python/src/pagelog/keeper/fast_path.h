@@ -74,7 +74,7 @@ struct way_start {
 struct session_start {
     uint64_t key;
     void *connection;           /* PGconn: nothing else is asked over it meanwhile */
-    const char *keep, *keep_block; /* the statements of batches and of one block, as they were prepared */
+    const char *keep, *keep_block, *keep_each; /* the statements of batches, of one block, and of one block each, as they were prepared */
     const char *keep_lines;     /* that of batches some of which have lines; NULL: lines cannot be kept over it */
     const char *flushed;        /* the statement that tells how far this server and a synchronous standby have flushed; NULL: none is required */
 };

@@ -127,7 +127,7 @@ struct session {
     uint64_t key;
     PGconn *connection;
     int watched;                        /* a descriptor of its socket, which libpq may close at any time; -1: there is none */
-    char *keep, *keep_block, *keep_lines, *flushed;
+    char *keep, *keep_block, *keep_each, *keep_lines, *flushed;
     bool is_retracted;                  /* under the plane's lock */
 
     enum answer answer;

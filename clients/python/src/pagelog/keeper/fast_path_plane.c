@@ -78,10 +78,11 @@ static struct session *new_session(const struct session_start *start) {
     session->watched = -1;
     session->keep = strdup(start->keep);
     session->keep_block = strdup(start->keep_block);
+    session->keep_each = strdup(start->keep_each);
     session->keep_lines = start->keep_lines == NULL ? NULL : strdup(start->keep_lines);
     session->flushed = start->flushed == NULL ? NULL : strdup(start->flushed);
-    if (session->keep == NULL || session->keep_block == NULL || (session->keep_lines == NULL) != (start->keep_lines == NULL) ||
-        (session->flushed == NULL) != (start->flushed == NULL)) {
+    bool has_all = session->keep != NULL && session->keep_block != NULL && session->keep_each != NULL;
+    if (!has_all || (session->keep_lines == NULL) != (start->keep_lines == NULL) || (session->flushed == NULL) != (start->flushed == NULL)) {
         free_session(session);
         return NULL;
     }

@@ -15,6 +15,7 @@ enum {
 void free_session(struct session *session) {
     free(session->keep);
     free(session->keep_block);
+    free(session->keep_each);
     free(session->keep_lines);
     free(session->flushed);
     free(session->text);

@@ -183,6 +183,8 @@ struct value {
 /* The values in the order of the statements in statements.py. */
 static const struct value of_block[] = {{ALONE, put_new}, {BYTES, put_chain}, {ALONE, put_log}, {ALONE, NULL /* the run */},
                                         {ALONE, put_generation}, {ALONE, put_old}, {ALONE, put_crcs}, {BYTES, put_data}};
+static const struct value of_each[] = {{BYTES, put_chain}, {ARRAY, put_log}, {ARRAY, put_run}, {ARRAY, put_generation}, {ARRAY, put_old},
+                                       {ARRAY, put_new}, {ARRAY, put_crcs}, {ARRAY, put_starts}, {ARRAY, put_lengths}, {BYTES, put_data}};
 static const struct value of_many[] = {{BYTES, put_chain}, {ARRAY, put_log}, {ARRAY, put_run}, {ARRAY, put_generation}, {ARRAY, put_old},
                                        {ARRAY, put_new}, {BYTES, put_data}, {ARRAY, put_owners}, {ARRAY, put_lsns}, {ARRAY, put_crcs},
                                        {ARRAY, put_starts}, {ARRAY, put_lengths}};
@@ -222,12 +224,16 @@ static bool put_values(struct session *session, struct values *values, const str
 
 /* Puts the values of the statement that keeps what is due. Returns its name; NULL without memory. */
 static const char *statement_of(struct session *session, struct values *values) {
-    bool has_lines = false;
+    bool has_lines = false, is_one_each = true;
     for (size_t at = 0; at < session->count; at++) {
         has_lines |= session->ways[at]->trail.count > 0;
+        is_one_each &= session->ways[at]->batch.blocks == 1;
     }
-    if (!has_lines && session->count == 1 && session->ways[0]->batch.blocks == 1) {
+    if (!has_lines && is_one_each && session->count == 1) {
         return put_values(session, values, of_block, COUNT(of_block), false) ? session->keep_block : NULL;
+    }
+    if (!has_lines && is_one_each) {
+        return put_values(session, values, of_each, COUNT(of_each), false) ? session->keep_each : NULL;
     }
     bool is_put = put_values(session, values, of_many, COUNT(of_many), false) &&
                   (!has_lines || put_values(session, values, of_lines, COUNT(of_lines), true));

@@ -56,6 +56,18 @@ _OF_LINES = [
 VALUES = {
     statements.KEEP: _OF_MANY,
     statements.KEEP_BLOCK: ["new", "chain", "id", "run", "generation", "old", "crc", "bytes"],
+    statements.KEEP_EACH: [
+        "chains",
+        "logs",
+        "runs",
+        "generations",
+        "olds",
+        "news",
+        "crcs",
+        "starts",
+        "lengths",
+        "bytes",
+    ],
     statements.REACHED: [],
 }
 """The values of its statements, in the order in which the thread gives them."""
@@ -173,12 +185,13 @@ class FastPlane:
 
     def connected(self, session: QuickSessionOf) -> None:
         """It has its statements: it is lent."""
-        keep, keep_block, flushed, *more = (each.name for each in session.statements)
+        keep, keep_block, keep_each, flushed, *more = (each.name for each in session.statements)
         start = SessionStart(
             session.key,
             session.statements[0].connection,
             keep,
             keep_block,
+            keep_each,
             more[0] if more else None,
             flushed if self.confirms else None,
         )
@@ -285,7 +298,7 @@ class QuickSessionOf:
     def __init__(self, plane: FastPlane, key: int, referee: QuickReferee) -> None:
         self._plane, self.key, self.referee = plane, key, referee
         self.statements: tuple[Prepared, ...] = ()
-        """Of batches, of one block, of how far a standby is, and of batches with lines, while it is connected."""
+        """Of batches, of one block, of one block each, of how far a standby is, and of batches with lines, while it is connected."""
         self.is_lent = self._is_over = False
         self._connecting: asyncio.Future[tuple[Prepared, ...]] | None = None
         self.not_before = 0.0

@@ -49,6 +49,8 @@ class QuickReferee(Referee):
         super()._connect()
         assert self._connection is not None
         self._connection.execute("SET plan_cache_mode = force_generic_plan")
+        # Of the few rows of a statement each is found by its key, however many a table has, or was thought to have.
+        self._connection.execute("SET enable_seqscan = off")
 
     def prepare_if_free(self, statement: str) -> Prepared | None:
         """As `prepare_statement`; None where a table of it is locked, as a trail's may be for long."""
