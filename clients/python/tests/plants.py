@@ -159,6 +159,7 @@ PLANTS = {
     "generation of each": Plant("statements", "l.generation = d.generation AND l.archived = d.old\n  RETURNING", "l.archived = d.old\n  RETURNING",
                                 "many", "under_its_own_fence"),
     "position of each": Plant("statements", " AND l.archived = d.old\n  RETURNING", "\n  RETURNING", "many", "under_its_own_fence"),
+    "fast path, waits for more": Plant("fast_path_referee.c", "GATHER_MS = 2,", "GATHER_MS = 600000,", "many", "that_take_long"),
     "one block each": Plant("fast_path_statement.c", "is_one_each &= session", "is_one_each |= session", "many", "one_statement_and_one"),
     "values of each": Plant("fast_path_statement.c", "{ARRAY, put_new}, {ARRAY, put_crcs}", "{ARRAY, put_old}, {ARRAY, put_crcs}", "many", "of_one_block_each"),
     "fence of a zombie": Plant("statements", "l.run = due.run AND l.generation = due.generation AND",

@@ -384,6 +384,28 @@ class Locked(Together):
         self.assertEqual(await first.answer(), self.durable(len(self.written)))
         self.assert_whole()
 
+    async def test_statements_that_take_long_hold_up_no_batch_that_comes_alone(self) -> None:
+        first, clients = await self.all_hot()
+        with psycopg.connect(self.url) as session:
+            session.execute("SELECT 1 FROM pagelog_log WHERE name <> 'shop' FOR UPDATE")
+            for count, (other, client) in enumerate(zip(self.others, clients), 1):
+                client.send(other.durable(other.write()))
+                await self.until(lambda: self.waiting() == count, "its statement")  # noqa: B023
+            for _ in range(3):
+                await self.commit_quickly(first)
+            self.assertEqual(self.ends, [])  # nor did these take so long that they are in doubt
+            self.assertEqual([client.has_answer() for client in clients], [False, False])
+        for other, client in zip(self.others, clients):
+            self.assertEqual(await client.answer(), other.durable(len(other.written)))
+
+    def waiting(self) -> int:
+        """How many statements of the keeper wait for a lock."""
+        with psycopg.connect(self.url) as connection:
+            found = connection.execute(
+                "SELECT count(*) FROM pg_stat_activity WHERE application_name = 'pagelog keeper one' AND wait_event_type = 'Lock'"
+            ).fetchone()
+        return int(found[0]) if found else 0
+
 
 class Other:
     """One more database of a `Hot`, with a service of its own."""

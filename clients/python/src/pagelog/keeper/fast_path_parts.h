@@ -133,7 +133,7 @@ struct session {
     enum answer answer;
     bool warned, has_row, wants_out, leaves, is_unclean, is_back;
     char why[WAY_WHY];                  /* what the server has said of its statement, or libpq of the connection */
-    int64_t due;
+    int64_t asked_at, due;
     int64_t confirm_at;                 /* when a standby is asked for again that had not flushed all; 0: it is being asked for */
     uint64_t wanted, standby;           /* how far one has to have flushed; how far it had; 0: not known */
     struct way *ways[SESSION_WAYS];     /* whose batches are on their way */

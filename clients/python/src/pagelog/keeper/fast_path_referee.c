@@ -9,6 +9,8 @@
 
 enum {
     CONFIRM_MS = 2,     /* between two questions for the standby */
+    GATHER_MS = 2,      /* so long after a statement began the next one waits for more batches */
+    ENOUGH = 4,         /* so many are always worth one */
     TRIMMED = 1 << 16,  /* bytes that a way may keep */
 };
 
@@ -152,7 +154,8 @@ static void ask(struct session *session) {
         return;
     }
     session->answer = ANSWERING;
-    session->due = now_ms() + session->ways[0]->start.referee_ms;
+    session->asked_at = now_ms();
+    session->due = session->asked_at + session->ways[0]->start.referee_ms;
     wake_by(plane, session->due);
     session->warned = session->has_row = false;
     session->why[0] = 0;
@@ -171,8 +174,25 @@ static void ask(struct session *session) {
     session->answer = FREE;
 }
 
+/* Whether what is due is worth a statement beside those that are on their way, each of which costs as much as a few batches in one: it is
+ * as much as they have, or enough. One that takes long holds up nobody. */
+static bool is_worth_one(struct plane *plane) {
+    size_t count = 0;
+    int64_t now = now_ms();
+    for (const struct session *session = plane->sessions; session != NULL; session = session->next) {
+        if (session->answer != FREE && now < session->asked_at + GATHER_MS) {
+            count += session->count;
+            wake_by(plane, session->asked_at + GATHER_MS);
+        }
+    }
+    return plane->due >= (count < ENOUGH ? count : ENOUGH);
+}
+
 void keep_due(struct plane *plane) {
     for (struct session *session = plane->sessions; session != NULL && plane->first_due != NULL; session = session->next) {
+        if (!is_worth_one(plane)) {
+            return;
+        }
         if (session->answer == FREE && !session->leaves && !session->is_unclean) {
             ask(session);
         }
