@@ -305,6 +305,7 @@ PLANTS = {
                                         "cut_anywhere_is_told_once"),
     "late state": Plant("looker", "            if not is_whole:\n", "            if False:\n", "looks", "late_answer"),
     "looked at again, as before": Plant("looker", "told(found if bodies == expected else None)", "told(found)", "looks", "without_a_task"),
+    "looked at again, another entry": Plant("looker", "last.found[1].entries or not line", "last.probe != probe or not line", "looks", "without_a_task"),
     "looked at again, hangs": Plant("looker", "            if is_late:\n                self.close()\n            return not is_late\n", "            return True\n", "looks",
                                     "left_to_a_task"),
     "an operator's connection": Plant("served", "        self._operator.connection.close()  # it", "        # it", "looks", "without_a_task"),
