@@ -33,6 +33,7 @@ void pagelog_turn_prove(struct pagelog_turn *turn, uint32_t principal,
 void pagelog_turn_leave(struct pagelog_turn *turn) {
     pagelog_line_leave(&turn->line);
     turn->is_mine = turn->is_mine || (turn->is_held && turn->has_newest);
+    if (turn->is_held) turn->mine_in = 0;
     turn->has_newest = false;
     turn->slice = 0;
     turn->is_asked = turn->is_soon = turn->is_held = turn->is_same = turn->is_kept = false;
@@ -193,6 +194,7 @@ enum pagelog_outcome pagelog_turn_ask(struct pagelog_turn *turn, const struct pa
     uint64_t time = pagelog_now();
     turn->is_used = true;
     if (!lead_to(turn, place) || time < turn->shunned) return PAGELOG_LOST;
+    if (turn->mine_in > 0 && turn->mine_in != turn->generation) turn->is_mine = false;
     if (!is_fresh(turn, time) && turn->line.socket >= 0 && pagelog_turn_look(turn) == PAGELOG_LOST)
         turn->shunned = 0;
     bool is_over = turn->is_wanted || (turn->slice > 0 && time >= turn->slice);
@@ -228,10 +230,15 @@ void pagelog_turn_hold(struct pagelog_turn *turn) {
     if (turn->is_kept && !is_fresh(turn, pagelog_now())) pagelog_turn_heartbeat(turn);
 }
 
-void pagelog_turn_give(struct pagelog_turn *turn) {
+void pagelog_turn_give(struct pagelog_turn *turn, uint64_t generation) {
     uint64_t now = pagelog_now();
     turn->is_used = false;
     if (turn->is_held) turn->given = now;
+    if (turn->is_held && turn->generation != generation) {
+        pagelog_turn_leave(turn);
+        turn->mine_in = generation;
+        return;
+    }
     if (turn->line.socket < 0 || (!turn->is_held && !turn->is_asked)) return;
     if (turn->slice > 0 && turn->is_held && (now >= turn->slice || !writes_on(turn))) return give_back(turn);
     if (is_fresh(turn, now)) return;

@@ -25,6 +25,7 @@ struct pagelog_turn {
     bool is_used;    /* it was asked for, and not given back since */
     bool has_newest; /* its holder has all that was written before */
     bool is_mine; /* such a one was held when its line or its generation ended: whoever had it comes first */
+    uint64_t mine_in; /* in this generation alone; 0: in the next one that it is asked for in */
     bool is_same; /* the turn before was this one's too: nobody has written since */
     bool is_kept; /* it may be used again */
     bool is_wanted;     /* another waits for it */
@@ -67,8 +68,9 @@ void pagelog_turn_heartbeat(struct pagelog_turn *turn);
 /* As that, of a turn which is kept, unless it was looked after a moment ago. */
 void pagelog_turn_hold(struct pagelog_turn *turn);
 
-/* Gives it back, or waits for it no more. One that is kept stays, unless it is wanted; a slice for its time,
- * where one transaction has come right after the other. */
-void pagelog_turn_give(struct pagelog_turn *turn);
+/* Gives it back, or waits for it no more, in the generation that its holder is in: one of another has ended
+ * with that, and who asks next says that it was its own. One that is kept stays, unless it is wanted; a slice
+ * for its time, where one transaction has come right after the other. */
+void pagelog_turn_give(struct pagelog_turn *turn, uint64_t generation);
 
 #endif

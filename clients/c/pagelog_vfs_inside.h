@@ -57,7 +57,7 @@ struct database {
     bool has_heartbeat;
     struct connection *turn_of;       /* who has it, or waits for it; NULL: nobody */
     unsigned turn_writes;             /* in the transaction that has it */
-    bool is_contended;                /* another process has written since the turn before, or has the turn */
+    unsigned contended;               /* turns to come that are asked for before a begin, as others write */
     struct connection *first_waiting; /* of this process, for the write lock, in the order of asking */
     unsigned
         durable_waits;   /* commits that are in the log, and wait until they are durable; others may read */

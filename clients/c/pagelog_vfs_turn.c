@@ -14,6 +14,7 @@
 
 enum {
     MANY_WRITES = 16, /* of a transaction, after which it looks whether its turn is wanted */
+    MANY_TURNS = 16,  /* in a row without another process, after which none is expected */
     MOMENT_MS = 1000,
 };
 
@@ -80,7 +81,10 @@ static void take(struct connection *connection, enum pagelog_outcome outcome) {
     bool is_same = database->turn.is_same, is_slice = database->turn.slice > 0;
     pthread_mutex_unlock(&database->turn_guard);
     if (outcome != PAGELOG_DONE || !is_same) pagelog_file_doubt(database->file);
-    database->is_contended = outcome == PAGELOG_DONE && (!is_same || is_slice);
+    if (outcome == PAGELOG_DONE && (!is_same || is_slice))
+        database->contended = MANY_TURNS;
+    else if (database->contended > 0)
+        database->contended = outcome == PAGELOG_DONE ? database->contended - 1 : 0;
     database->turn_of = connection;
     database->turn_writes = 0;
 }
@@ -156,7 +160,7 @@ void pagelog_give_turn(struct connection *connection) {
         pagelog_file_hand_over(database->file, 0, 0);
         pthread_mutex_lock(&database->turn_guard);
         database->turn.written = has_written ? state.writing_epoch : 0;
-        pagelog_turn_give(&database->turn);
+        pagelog_turn_give(&database->turn, pagelog_file_generation(database->file));
         pthread_mutex_unlock(&database->turn_guard);
     }
 }
@@ -186,7 +190,7 @@ static bool writes_now(const struct connection *connection) {
 
 int pagelog_wait_for_turn(struct connection *connection) {
     struct database *database = connection->database;
-    bool is_foreseen = !connection->wants_turn && database->is_contended && database->sharing == 0 &&
+    bool is_foreseen = !connection->wants_turn && database->contended > 0 && database->sharing == 0 &&
                        connection->busy && writes_now(connection);
     connection->wants_turn |= is_foreseen;
     bool asks = connection->wants_turn && database->sharing == 0;
@@ -276,7 +280,7 @@ static int have_turn(struct connection *connection) {
     }
     bool may_come = outcome == PAGELOG_LOST && connection->busy && pagelog_turn_may_come(&database->turn);
     connection->wants_turn = outcome == PAGELOG_CONFLICT;
-    database->is_contended |= connection->wants_turn;
+    if (connection->wants_turn) database->contended = MANY_TURNS;
     if (connection->wants_turn || may_come) {
         pagelog_give_turn(connection);
         return SQLITE_BUSY;

@@ -1,7 +1,8 @@
 """Writers of several processes that take turns, at real keepers: two and eight forked processes, each with a hundred requests of three
 statements, as a web server's workers have them. No error, and no update is lost.
 
-Usage: kept_turns.py [REQUESTS] [LEVEL] [faults]     (while services are killed, and the database changes hands and generations)
+Usage: kept_turns.py [REQUESTS] [LEVEL] [faults] [PROCESSES ..]     (while services are killed, and the database changes hands and
+generations; so many processes, such as sixteen)
 """
 
 import json
@@ -131,7 +132,7 @@ def look(keeping, what, said, requests, took):
     clean.close()
 
 
-def main(requests, level, with_faults):
+def main(requests, level, with_faults, counts):
     with Keeping(ttl=1.5 if with_faults else 3.0, more="unproved = false\n") as keeping:
         keeping.referee.create(NAME, (kept.HERE.parent / "table.toml").read_text(), b"s" * 16)
         keeping.start("a", "b")
@@ -142,7 +143,7 @@ def main(requests, level, with_faults):
         first.execute("insert into counter values (0)")
         first.execute("create table visit(who, number)")
         first.close()
-        for count in (2, 8) if with_faults else (1, 2, 8):
+        for count in counts or ((2, 8) if with_faults else (1, 2, 8)):
             since = time.monotonic()
             ends = [
                 in_child(lambda who=who: worker(addresses, who, requests, level))
@@ -165,4 +166,10 @@ def main(requests, level, with_faults):
 
 
 if __name__ == "__main__":
-    main(int((sys.argv[1:] or [100])[0]), (sys.argv[2:] or ["full"])[0], sys.argv[3:] == ["faults"])
+    more = sys.argv[3:]
+    main(
+        int((sys.argv[1:] or [100])[0]),
+        (sys.argv[2:] or ["full"])[0],
+        more[:1] == ["faults"],
+        [int(each) for each in more if each != "faults"],
+    )

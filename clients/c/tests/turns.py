@@ -147,6 +147,37 @@ def test_who_is_amid_a_transaction_is_first_in_the_next_generation():
             same("both", (None, [0, 1]), waits())
 
 
+def test_who_has_committed_in_the_next_generation_is_the_one_who_had_the_turn():
+    """Its transaction began in the one before, and nobody else has had the turn meanwhile: it says so at its next begin."""
+    for event in (StubKeeper.succeed, StubKeeper.die):
+        with for_ever("EARLY"), StubKeeper() as keeper:
+            connection, other = amid_a_transaction(keeper), named(keeper, 5, busy=60)
+            event(keeper)
+            connection.execute("commit")
+            connection.execute("begin immediate")
+            fill(connection, 1, first=1)
+            connection.execute("commit")
+            fill(other, 1, first=2)
+            same("all of it", [0, 1, 2], rows(connection))
+
+
+def test_who_had_the_turn_long_ago_is_not_the_one_who_had_it():
+    """It has committed in the generation after that, and asks for nothing there."""
+    with for_ever("EARLY"), StubKeeper() as keeper:
+        connection = amid_a_transaction(keeper)
+        keeper.succeed()
+        connection.execute("commit")
+        keeper.succeed()
+        thread = threading.Thread(target=lambda: fill(connection, 1, first=1))
+        connection.execute("pragma busy_timeout = 60000")
+        thread.start()
+        until(lambda: keeper.turns._waiting, "it waits for who had it last")
+        with keeper.changed:
+            keeper.turns._begin()
+        thread.join()
+        same("all of it", [0, 1], rows(connection))
+
+
 def test_a_writer_that_is_alone_goes_on_at_once():
     """It has kept the turn, and says so in the next generation, where others would be waited for."""
     with for_ever("EARLY"), StubKeeper() as keeper:
@@ -677,6 +708,20 @@ def test_who_is_given_the_turn_begins_by_one_message():
             [0, 1, 2, 3],
             [number for number, in connection.execute("select a from t order by rowid")],
         )
+
+
+def test_who_has_met_another_asks_before_it_reads_for_some_turns():
+    """Another that has the turn by then is waited for: it is not told that it is busy, and does not sleep for a moment."""
+    with StubKeeper() as keeper:
+        connection, other = named(keeper, busy=60), named(keeper, 5, busy=60)
+        connection.execute("create table t(a, b)")
+        for number, each in enumerate((connection, other, connection)):
+            fill(each, 1, first=number)
+        asked = heard(keeper, "turn")
+        fill(connection, 5, first=3)
+        same("at once", [False] * 5, ["now" in words for words in asked])
+        fill(connection, 60, first=8)
+        same("all of it", list(range(68)), rows(other))
 
 
 def test_a_transaction_that_reads_waits_for_no_turn():
