@@ -77,7 +77,7 @@ class OfC:
             ("turns_hold", [turns, number]),
             ("turns_gone", [turns, number, ctypes.c_int64]),
             ("turns_has", [turns, number]),
-            ("turns_next", [turns, number, ctypes.c_int64]),
+            ("turns_next", [turns, number, ctypes.c_int, ctypes.c_int64]),
             ("turns_expect", [turns, ctypes.c_int64]),
             ("turns_see_clock", [turns, ctypes.c_int64]),
             ("turns_free", [turns]),
@@ -161,11 +161,11 @@ class Both:
         self.python.expect()
         self.c.library.turns_expect(self.c.turns, self.c.now)
 
-    def next(self, generation: int) -> None:
-        after = self.python.next(generation)
+    def next(self, generation: int, is_whole: bool) -> None:
+        after = self.python.next(generation, is_whole=is_whole)
         assert isinstance(after, Turns)
         self.python = after
-        self.c.library.turns_next(self.c.turns, generation, self.c.now)
+        self.c.library.turns_next(self.c.turns, generation, is_whole, self.c.now)
 
     def wait(self, ms: int) -> None:
         now = self.clock.now + ms
@@ -226,8 +226,9 @@ class Rules(unittest.TestCase):
                     both.expect()
                 case ["next"]:
                     generation = both.python.generation + chance.choice((1, 1, 2))
-                    both.told.append(f"generation {generation}")
-                    both.next(generation)
+                    is_whole = chance.random() < 0.5
+                    both.told.append(f"generation {generation}, {is_whole=}")
+                    both.next(generation, is_whole)
             both.compare()
 
     def test_in_any_conversation_they_say_what_the_rules_in_python_say(self) -> None:

@@ -565,6 +565,29 @@ class Successions(Meanwhile):
                 (Stage.FAILED, is_broken, not is_broken),
             )
 
+    async def test_what_it_begins_has_the_whole_log_before_it(self) -> None:
+        """And says so, or its writers would wait for who gave a turn back."""
+        self.held(is_whole=False)
+        succession, made = self.successor()
+        made.is_whole = False
+        keeper = Mock(Keeper, _named=lambda name: {"shop": self.database}.get(name))
+        archiver = Mock(turn=asyncio.Lock(), caught_up=AsyncMock(), is_over=False, lining=None)
+        moved = Mock(return_value=(Mock(end=5, images=0, blocks=()), 0.0, ROW))
+
+        async def goes_on(database: Database, successor: Mock, _: Row) -> None:
+            self.assertEqual(
+                [Keeper._is_whole(keeper, "shop"), Keeper._is_whole(keeper, "other")], [False] * 2
+            )
+            database.served = successor
+            self.assertTrue(Keeper._is_whole(keeper, "shop"))
+
+        with patch("pagelog.keeper.succession.turn_of", Mock(return_value=AsyncMock())):
+            with patch.object(Succession, "_moved", moved), patch.object(
+                Database, "goes_on", goes_on
+            ):
+                self.assertTrue(await succession.switch(archiver))
+        self.assertIs(self.database.served, made)
+
     async def test_what_a_writer_says_of_memory_is_taken_of_what_is_held_alone(self) -> None:
         keeper = Mock(
             Keeper, _named=lambda name: {"shop": self.database}.get(name), _may=lambda *_: True

@@ -367,6 +367,20 @@ class Rules(unittest.TestCase):
             self.clock.end()
             self.assertEqual(self.b.lines, ["turn shop other"])
 
+    def test_where_the_whole_log_was_brought_over_who_gave_a_turn_back_is_not_waited_for(
+        self,
+    ) -> None:
+        """Nothing lacks there that it could bring. Who has the turn as a generation ends may be amid a transaction all the same."""
+        every = AllTurns(self.clock, is_whole=lambda _: True)  # type: ignore[arg-type]
+        every.take(self.a, ["turn", "shop"], 1)  # type: ignore[arg-type]
+        every.take(self.a, ["back", "shop"], 1)  # type: ignore[arg-type]
+        every.take(self.b, ["turn", "shop", "now"], 2)  # type: ignore[arg-type]
+        self.assertEqual((self.b.lines, self.clock.open), (["turn shop other"], []))
+        every.take(self.a, ["turn", "shop", "now"], 3)  # type: ignore[arg-type]
+        self.assertEqual(
+            (self.a.lines, [each for each, _ in self.clock.open]), (["turn shop other"], [EARLY])
+        )
+
     def test_it_is_early_while_who_waits_asks_what_became_of_the_generation_before(self) -> None:
         """But not for ever."""
         with mock.patch("pagelog.keeper.turns.time.monotonic") as now:

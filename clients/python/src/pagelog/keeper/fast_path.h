@@ -178,7 +178,7 @@ void turns_gone(struct turns *, uint64_t line, int64_t now);
 /* Whether it has the turn, or waits for it. */
 int turns_has(const struct turns *, uint64_t line);
 
-void turns_next(struct turns *, uint64_t generation, int64_t now);
+void turns_next(struct turns *, uint64_t generation, int is_whole, int64_t now);
 void turns_expect(struct turns *, int64_t now);
 
 /* Does what is due. Returns when something is due next. */
@@ -209,7 +209,7 @@ enum writers_word {
 struct writers_order {
     int word;                   /* writers_word */
     uint64_t line, asker;       /* numbers */
-    int how;                    /* of a turn */
+    int how;                    /* of a turn; of the next generation, whether it is whole */
     int64_t epoch;              /* of a back; -1: it was not said */
     uint64_t generation;        /* the next one */
     int descriptor;             /* of a turn: from now on the thread reads this line, of which nothing is left unread; -1: it does not */

@@ -257,9 +257,9 @@ void turns_free(struct turns *turns) {
     free(turns);
 }
 
-void turns_next(struct turns *turns, uint64_t generation, int64_t now) {
+void turns_next(struct turns *turns, uint64_t generation, int is_whole, int64_t now) {
     bool was_lately = turns->given_back >= 0 && now < turns->given_back + LATELY * turns->ttl;
-    bool is_used = turns->holder != NULL || was_lately;
+    bool is_used = turns->holder != NULL || (was_lately && is_whole == 0);
     bool was_idle = generation == turns->generation + 1 && !is_used && !turns->is_early;
     end(turns);
     begin(turns, generation, was_idle, now);

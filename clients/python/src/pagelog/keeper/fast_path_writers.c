@@ -377,7 +377,7 @@ static void obey_order(const struct order *order, int64_t now) {
         turns_expect(writers->turns, now);
         break;
     case WRITERS_NEXT:
-        turns_next(writers->turns, what->generation, now);
+        turns_next(writers->turns, what->generation, what->how, now);
         return_all(writers);
         break;
     case WRITERS_END:

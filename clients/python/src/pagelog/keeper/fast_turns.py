@@ -78,10 +78,10 @@ class FastTurns:
             case ["hold", _]:
                 self._do(_Word.HOLD, line)
 
-    def next(self, generation: int) -> FastTurns:
-        """Ends the turns of this generation, and begins those of a later one, which this keeper has too."""
+    def next(self, generation: int, *, is_whole: bool = False) -> FastTurns:
+        """Ends the turns of this generation, and begins those of a later one, which this keeper has too, as `turns.Turns` does."""
         self.generation = generation
-        self._do(_Word.NEXT, generation=generation)
+        self._do(_Word.NEXT, how=int(is_whole), generation=generation)
         return self
 
     def expect(self) -> None:

@@ -125,7 +125,9 @@ class Keeper:
         self._moving = Quota(EACH_WHERE, ALL_WHERE)
         """The answers to `where` that wait."""
         self._turns = AllTurns(
-            ttl=settings.ttl, fast=lambda *what: self._shared.ways.turns_of(*what)
+            ttl=settings.ttl,
+            fast=lambda *what: self._shared.ways.turns_of(*what),
+            is_whole=self._is_whole,
         )
         self._storing = self._new_storing()
         self._rival: NamedLife | None = None
@@ -871,6 +873,11 @@ class Keeper:
             if database is not None and database.holds and database.served is not None
             else None
         )
+
+    def _is_whole(self, name: str) -> bool:
+        """Whether the generation that is held here began with all that was in the log of the one before."""
+        database = self._named(name)
+        return database is not None and database.served is not None and database.served.is_whole
 
     def turn(
         self, line: Line, words: list[str], of: Of | None = None, epoch: int | None = None

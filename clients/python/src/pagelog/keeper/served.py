@@ -125,6 +125,8 @@ class Served:
         """Whether no other run was given the number of its generation, so that older clients, who name no run, can be answered."""
         self.is_after_release = False
         """Whether another keeper has released the generation before: it may be ending its audit list still."""
+        self.is_whole = False
+        """Whether its log began with all that was in the log of the generation before."""
         self._is_read_only = is_read_only
         self.is_noted = False
         """Whether the referee is known to have noted it as a standby."""

@@ -108,11 +108,11 @@ class Turns:
     def __contains__(self, line: Line) -> bool:
         return line is self._holder or line in self._waiting
 
-    def next(self, generation: int) -> Turns:
-        """Ends the turns of this generation, and begins those of a later one, which this keeper has too."""
-        is_used = (
-            self._holder is not None or time.monotonic() < self._given_back + LATELY * self._ttl
-        )
+    def next(self, generation: int, *, is_whole: bool = False) -> Turns:
+        """Ends the turns of this generation, and begins those of a later one, which this keeper has too. `is_whole`: it begins with all that
+        was in the log of this one, so that nobody who gave a turn back has to bring anything."""
+        is_awaited = not is_whole and time.monotonic() < self._given_back + LATELY * self._ttl
+        is_used = self._holder is not None or is_awaited
         was_idle = generation == self.generation + 1 and not is_used and not self._is_early
         self.end()
         turns = Turns(self.name, generation, self._after, was_idle=was_idle, ttl=self._ttl)
@@ -323,9 +323,11 @@ class AllTurns:
         *,
         ttl: float = TTL,
         fast: Callable[[str, int, float], FastTurns | None] = lambda *_: None,
+        is_whole: Callable[[str], bool] = lambda _: False,
     ) -> None:
-        """`fast` has the thread give those of a database from a generation on, with this ttl; None where it cannot."""
-        self._after, self._ttl, self._fast = after, ttl, fast
+        """`fast` has the thread give those of a database from a generation on, with this ttl; None where it cannot. `is_whole` says whether
+        the generation that is held began with all that was in the log of the one before."""
+        self._after, self._ttl, self._fast, self._is_whole = after, ttl, fast, is_whole
         self._turns: dict[str, Turns | FastTurns] = {}
 
     def take(
@@ -354,7 +356,7 @@ class AllTurns:
         if turns is None:
             turns = self._turns[name] = self._begun(name, generation)
         elif turns.generation != generation:
-            turns = self._turns[name] = turns.next(generation)
+            turns = self._turns[name] = turns.next(generation, is_whole=self._is_whole(name))
         return turns
 
     def _begun(self, name: str, generation: int) -> Turns | FastTurns:
