@@ -287,7 +287,7 @@ PLANTS = {
     "fast path, one for all": Plant("fast_path_referee.c", "if (session->kept[at]) {\n            enter", "if (session->kept[0]) {\n            enter",
                                     "many", "fenced_fails_alone"),
     "fast path, one each": Plant("fast_path_parts.h", "SESSION_WAYS = 256,", "SESSION_WAYS = 1,", "many", "fenced_fails_alone"),
-    "fast path, one batch": Plant("fast_path_referee.c", "    way->rung |= way->pulled == way->most; /* there may be more */\n", "", "fast_path",
+    "fast path, one batch": Plant("fast_path_service.c", "    way->rung |= blocks > 0 && way->pulled == way->most; /* there may be more */\n", "", "fast_path",
                                   "though_nobody_waits"),
     "blocks from PostgreSQL": Plant("succession", "            await asyncio.to_thread(self._bring, served, successor, reached, chain)\n",
                                     "            raise BrokenArchive('none')\n", "successions", "come_from_the_present_service"),

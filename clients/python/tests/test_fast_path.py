@@ -7,6 +7,7 @@ import gc
 import os
 import random
 import resource
+import select
 import signal
 import socket
 import tempfile
@@ -227,6 +228,31 @@ class Hot(Referees, unittest.IsolatedAsyncioTestCase):
             await asyncio.sleep(0.001)
         await self.until(lambda: self.archiver._done >= self.archiver._rings, "the last pull")
         return client
+
+    async def relayed(self, noted: Callable[[bytes], object]) -> None:
+        """From now on what the fast path asks its service is noted before it gets there; nothing is answered where that is False."""
+        pulling_line = Served.pulling_line
+
+        def relay(ours: socket.socket, real: socket.socket) -> None:
+            with ours, real, suppress(OSError):
+                while True:
+                    for side in select.select([ours, real], [], [])[0]:
+                        data = side.recv(1 << 16)
+                        if not data or (side is ours and noted(data) is False):
+                            return
+                        (real if side is ours else ours).sendall(data)
+
+        async def line(served: Served) -> tuple[int, bytes, bytes]:
+            descriptor, *asks = await pulling_line(served)
+            ours, theirs = socket.socketpair()
+            real = socket.socket(fileno=descriptor)
+            real.setblocking(True)
+            theirs.setblocking(False)
+            threading.Thread(target=relay, args=(ours, real), daemon=True).start()
+            return theirs.detach(), *asks  # type: ignore[return-value]
+
+        with patch.object(Served, "pulling_line", line):
+            await self.next_one()
 
     async def next_one(self) -> None:
         """Its way ends, and another begins."""
@@ -892,6 +918,111 @@ class Statements(Hot):
         self.served.reach(*way.last)
         self.begin()
         await self.hot(client)
+        self.assert_whole()
+
+
+class Ahead(Hot):
+    """What comes behind a statement that is on its way."""
+
+    async def asyncSetUp(self) -> None:
+        await super().asyncSetUp()
+        self.asked: list[int] = []
+        """The LSNs that are pulled."""
+        self.silent_at: set[int] = set()
+        """Where one of these is, the service ends the connection."""
+
+    def noted(self, frame: bytes) -> bool:
+        self.asked.append(int.from_bytes(frame[-10:-2], "big"))
+        return self.asked[-1] not in self.silent_at
+
+    async def two(self) -> tuple[Client, Client, Gate]:
+        """Two clients, for the first of which a statement waits at the gate."""
+        client, other = await self.hot(), self.client()
+        await self.relayed(self.noted)
+        await self.hot(client)
+        while len(self.way._lent) < 2:  # both lines are the thread's, and nobody waits elsewhere
+            await self.commit(other)
+            await asyncio.sleep(0.001)
+        await self.until(lambda: self.archiver._done >= self.archiver._rings, "the last pull")
+        gate = Gate(self.url, "true")
+        client.send(self.durable(self.write()))
+        await asyncio.to_thread(gate.somebody_waits)
+        self.ends.clear()
+        return client, other, gate
+
+    async def pulled(self, other: Client, position: int, count: int = 1) -> None:
+        """It waits for the last of so many positions, which are pulled."""
+        other.send(self.durable(position))
+        await self.until(lambda: position - count + 1 in self.asked, "the next pull")
+        self.assertFalse(other.has_answer())
+
+    async def test_it_is_pulled_meanwhile_and_told_after_its_own_statement(self) -> None:
+        client, other, gate = await self.two()
+        try:
+            await self.pulled(other, position := self.write(3), 3)
+            self.assertFalse(client.has_answer())
+        finally:
+            await asyncio.to_thread(gate.open)
+        self.assertEqual(await client.answer(), self.durable(position - 3))
+        self.assertEqual(await other.answer(), self.durable(position))
+        self.assertEqual((self.ends, self.asked.count(position - 2)), ([], 1))
+        self.assert_whole()
+
+    async def test_what_a_statement_has_no_room_for_is_pulled_meanwhile(self) -> None:
+        """Though nobody says anything more."""
+        client = await self.hot()
+        await self.relayed(self.noted)
+        await self.hot(client)
+        gate, position = Gate(self.url, "true"), self.write(1100)
+        try:
+            client.send(self.durable(position))
+            await asyncio.to_thread(gate.somebody_waits)
+            await self.until(lambda: position - 1100 + 1024 + 1 in self.asked, "the next pull")
+            self.assertFalse(client.has_answer())
+        finally:
+            await asyncio.to_thread(gate.open)
+        self.assertEqual(await client.answer(), self.durable(position))
+        self.assertEqual(self.ends[1:], [])
+        self.assert_whole()
+
+    async def test_what_is_not_there_is_said_once_the_statement_has_ended(self) -> None:
+        client, other, gate = await self.two()
+        position = len(self.written)
+        try:
+            await self.pulled(other, position + 1)
+            await asyncio.sleep(0.05)
+            self.assertFalse(other.has_answer())
+        finally:
+            await asyncio.to_thread(gate.open)
+        self.assertEqual(await client.answer(), self.durable(position))
+        self.assertEqual(await other.answer(), f"above shop {self.served.generation} {position}")
+        self.assertEqual(self.ends, [])
+
+    async def test_what_was_pulled_is_pulled_again_where_the_statement_is_in_doubt(self) -> None:
+        for cuts in (True, False):
+            client, other, gate = await self.two()
+            try:
+                await self.pulled(other, position := self.write())
+                (self.session.referee.cut if cuts else self.archiver.leave_way)()
+            finally:
+                await asyncio.to_thread(gate.open)
+            self.assertEqual(await client.answer(), self.durable(position - 1))
+            self.assertEqual(await other.answer(), self.durable(position))
+            self.assertEqual(self.ends[0], End.DOUBT if cuts else End.STOPPED)
+            self.assert_whole()
+
+    async def test_a_service_that_ends_meanwhile_is_left_once_the_statement_has_ended(self) -> None:
+        client, other, gate = await self.two()
+        try:
+            self.silent_at.add(position := self.write())
+            await self.pulled(other, position)
+            await asyncio.sleep(0.05)
+            self.assertEqual((client.has_answer(), self.ends), (False, []))
+        finally:
+            await asyncio.to_thread(gate.open)
+        self.assertEqual(await client.answer(), self.durable(position - 1))
+        self.assertEqual(await other.answer(), self.durable(position))
+        self.assertEqual(self.ends[0], End.SERVICE)
         self.assert_whole()
 
 
@@ -1737,6 +1868,7 @@ def _cases() -> Iterator[type[unittest.TestCase]]:
         Shifted,
         Lines,
         Statements,
+        Ahead,
         Fences,
         Cut,
         Stalled,

@@ -2,6 +2,7 @@
 
 from __future__ import annotations
 
+import asyncio
 import contextlib
 import ctypes
 import os
@@ -77,13 +78,14 @@ class OfC:
             ("turns_hold", [turns, number]),
             ("turns_gone", [turns, number, ctypes.c_int64]),
             ("turns_has", [turns, number]),
+            ("turns_epoch", [turns, number]),
             ("turns_next", [turns, number, ctypes.c_int, ctypes.c_int64]),
             ("turns_expect", [turns, ctypes.c_int64]),
             ("turns_see_clock", [turns, ctypes.c_int64]),
             ("turns_free", [turns]),
         ):
             getattr(self.library, name).argtypes = kinds
-        self.library.turns_see_clock.restype = ctypes.c_int64
+        self.library.turns_see_clock.restype = self.library.turns_epoch.restype = ctypes.c_int64
         new = self.library.turns_new
         new.restype = turns
         new.argtypes = [
@@ -275,6 +277,28 @@ class Rules(unittest.TestCase):
             both.expect()
             both.compare()
         self.assertEqual(both.lines[0].lines, ["turn shop other"])
+
+    def test_the_epoch_that_a_writer_is_expected_in(self) -> None:
+        both = self.both()
+        one, other = both.lines[:2]
+
+        def expected(generation: int = 1) -> int:
+            return int(both.c.library.turns_epoch(both.c.turns, generation))
+
+        def has_it(line: Heard, epoch: int | None) -> list[int]:
+            both.ask(line, How(0))
+            during = expected()
+            both.back(line, epoch)
+            return [during, expected()]
+
+        self.assertEqual(expected(), -1)
+        told = [
+            has_it(*each) for each in ((one, 5), (other, 6), (other, None), (one, None), (other, 9))
+        ]
+        self.assertEqual(told, [[-1, 5], [6, 6], [6, 6], [7, 6], [7, 9]])
+        self.assertEqual(expected(2), -1)
+        both.next(2, is_whole=True)
+        self.assertEqual((expected(1), expected(2)), (-1, -1))
 
     def test_one_principal_has_so_many_waits(self) -> None:
         both = self.both(lines=MOST_WAITING + 4)
@@ -554,6 +578,39 @@ class Lines(Writers):
         self.assertEqual(await a.ask(self.turn()), "elsewhere shop")
 
 
+class Epochs(Writers):
+    async def test_what_a_writer_says_of_its_epoch_saves_a_pull_and_what_is_wrong_costs_one(
+        self,
+    ) -> None:
+        client, epochs = await self.hot(), list[int]()
+        await self.relayed(lambda frame: epochs.append(int.from_bytes(frame[29:33], "big")))
+        await self.hot(client)
+        a, b = await self.writer(), await self.writer()
+
+        async def pulled(said: int | None = None) -> list[int]:
+            """The epochs of the pulls for a block that is not there, once another epoch has begun."""
+            await asyncio.to_thread(self.served.close)
+            await asyncio.to_thread(self.served.open)
+            if said is not None:
+                a.send(self.turn(), self.back(said), self.turn())
+                while not self.said_at_once(a).endswith("same"):
+                    pass
+                a.send(self.back())
+            epochs.clear()
+            answer = await client.ask(self.durable(len(self.written) + 1))
+            self.assertTrue(answer.startswith("above shop"), answer)
+            return epochs[:]
+
+        first, second = await pulled()
+        self.assertLess(first, second)
+        after = 2 * second - first  # as many begin each time
+        self.assertEqual(await pulled(after), [after])
+        last = 2 * after - second
+        self.assertEqual(await pulled(last + 5), [last + 5, last])
+        self.assertEqual(self.ends, [])
+        del b
+
+
 class Short(Writers):
     """With a short ttl, by the clock of the thread."""
 
@@ -591,7 +648,9 @@ class Short(Writers):
 
 
 def load_tests(loader: unittest.TestLoader, *_: object) -> unittest.TestSuite:
-    return unittest.TestSuite(loader.loadTestsFromTestCase(case) for case in (Rules, Lines, Short))
+    return unittest.TestSuite(
+        loader.loadTestsFromTestCase(case) for case in (Rules, Lines, Epochs, Short)
+    )
 
 
 if __name__ == "__main__":

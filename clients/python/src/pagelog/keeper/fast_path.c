@@ -46,8 +46,7 @@ static void take_batch(struct way *way, struct way *before) {
     }
     way->batch = before->batch;
     way->trail = before->trail;
-    way->pulled = before->pulled;
-    way->most = before->most;
+    way->rung = true; /* there may be more */
     before->batch.bytes = before->trail.lines = before->trail.data = NULL;
     before->batch.blocks = before->batch.room = before->trail.lines_room = before->trail.data_room = 0;
 }
@@ -100,6 +99,7 @@ void way_free(struct way *way) {
     free(way->list_of);
     free(way->asks);
     free(way->batch.bytes);
+    free(way->ahead.bytes);
     free(way->trail.lines);
     free(way->trail.data);
     free(way->in);
@@ -195,6 +195,7 @@ bool begin_way(struct way *way) {
         way->next->place = &way->next;
     }
     plane->ways = way;
+    meet_writers(way);
     way->asked_at = now_ms();
     if (way->batch.blocks > 0) {
         set_due(way); /* as it was before */
@@ -242,12 +243,20 @@ void set_active(struct way *way) {
     }
 }
 
+/* Whether what comes behind the batch that is on its way is pulled meanwhile. The lines of an audit list come with one batch after the other. */
+static bool pulls_ahead(const struct way *way) {
+    bool may_pull = way->phase == KEEPING && !way->is_ahead && !way->is_gone && !way->is_over && !way->trail.is_kept;
+    bool has_room = way->ahead.blocks == 0 && !way->start.is_careful;
+    return may_pull && has_room && !way->news_wanted && is_wanted(way, way->batch.reached);
+}
+
 void advance(struct way *way) {
+    tell_archived(way);
     if (way->is_over && way->phase != KEEPING) {
         end_way(way, WAY_STOPPED);
     } else if (way->phase == READY && way->is_gone) {
-        end_way(way, WAY_SERVICE);
-    } else if (way->phase == READY && is_wanted(way)) {
+        end_way(way, way->gone_for);
+    } else if (way->phase == READY ? is_wanted(way, 0) : pulls_ahead(way)) {
         begin_pull(way);
     }
 }
@@ -290,6 +299,7 @@ void end_way(struct way *way, enum way_end end) {
     if (way->next != NULL) {
         way->next->place = way->place;
     }
+    leave_writers(way);
     if (way->phase == DUE) {
         take_from_due(way);
     }

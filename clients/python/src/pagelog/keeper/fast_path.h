@@ -178,6 +178,10 @@ void turns_gone(struct turns *, uint64_t line, int64_t now);
 /* Whether it has the turn, or waits for it. */
 int turns_has(const struct turns *, uint64_t line);
 
+/* The epoch of this generation in which who has the turn writes, or had it last, as far as they have said; -1: that is not known. It may have
+ * begun no epoch yet, or another one. */
+int64_t turns_epoch(const struct turns *, uint64_t generation);
+
 void turns_next(struct turns *, uint64_t generation, int is_whole, int64_t now);
 void turns_expect(struct turns *, int64_t now);
 

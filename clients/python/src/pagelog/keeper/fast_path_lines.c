@@ -139,6 +139,14 @@ void tell_above(struct way *way) {
     }
 }
 
+void tell_archived(struct way *way) {
+    if (way->tells) {
+        way->tells = false;
+        tell_all(way);
+        tell_news(way);
+    }
+}
+
 void tell_news(struct way *way) {
     if (way->news_due) {
         way->news_due = false;
@@ -146,9 +154,9 @@ void tell_news(struct way *way) {
     }
 }
 
-bool is_wanted(const struct way *way) {
+bool is_wanted(const struct way *way, uint64_t position) {
     for (const struct line *line = way->lines; line != NULL; line = line->next) {
-        if (line->position != 0) {
+        if (line->position > position) {
             return true;
         }
     }

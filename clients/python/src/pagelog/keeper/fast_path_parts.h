@@ -57,6 +57,7 @@ struct batch {
     uint64_t reached;                   /* the archived position with them */
     uint8_t chain[WAY_DIGEST];
     size_t chain_len;
+    uint64_t pulls_for;                 /* the last kick before they were asked for */
 };
 
 /* Lines of the audit list, on their way into the trail. */
@@ -84,6 +85,7 @@ struct way {
     char *name, *of, *log, *run, *list, *list_of;
     uint8_t *asks;                      /* a pull, and behind it a question for lines */
     struct way *next, **place;          /* of all */
+    struct writers *writers;            /* of its database, if the thread gives their turns */
     struct way *next_due;
     struct way *next_active;
     struct event archived, ended;
@@ -100,10 +102,12 @@ struct way {
     enum phase phase;
     struct line *lines;
     bool is_over, is_gone, rung, news_wanted, news_due, is_active, has_ended;
-    enum way_end end;
+    enum way_end end, gone_for;         /* why it ends, or will once its statement has */
     int64_t due, asked_at;
-    uint64_t kicked, pulls_for;         /* the last kick, and the last one before the pull */
-    struct batch batch;
+    uint64_t kicked;                    /* the last kick */
+    struct batch batch, ahead;          /* what is kept, or pulled to be; and what is pulled meanwhile, to be kept next */
+    bool is_ahead;                      /* that is being pulled */
+    bool tells;                         /* something is archived that nobody was told yet */
     struct trail trail;
     size_t pulls;                       /* whose replies are to come of the service */
     uint64_t first;                     /* the position that the next one of them was asked for */
@@ -111,7 +115,8 @@ struct way {
     size_t most;                        /* blocks of one */
     size_t pulled;                      /* blocks of the last one; below the most where it has come to the end */
     bool awaits_lines;
-    bool is_outdated;                   /* they were asked for in an epoch that is over: all is asked for again */
+    bool is_outdated;                   /* they were asked for in another epoch: all is asked for again */
+    bool expects_epoch;                 /* theirs was never told by the service */
     char why[WAY_WHY];                  /* what PostgreSQL has said of a statement in doubt */
     uint8_t *in;
     size_t in_len, in_room;
@@ -162,6 +167,7 @@ struct writer {
 struct writers {
     struct plane *plane;
     struct writers *next, **place;
+    struct way *way;                    /* of their database, if there is one */
     struct event ended;
     uint64_t key;
     char *name;
@@ -302,11 +308,15 @@ void tell_above(struct way *way);
 /* What it was kicked for before the last pull is archived, or is not there. */
 void tell_news(struct way *way);
 
-bool is_wanted(const struct way *way);
+/* Tells what is due of what was archived last. */
+void tell_archived(struct way *way);
+
+/* Whether somebody waits for what is behind a position, or there may be more. */
+bool is_wanted(const struct way *way, uint64_t position);
 
 /* fast_path_service.c */
 
-/* Asks for new blocks. */
+/* Asks for new blocks: where a statement is on its way for those that come behind it. */
 void begin_pull(struct way *way);
 
 /* What has come of the service. */
@@ -365,6 +375,10 @@ int64_t see_writers_clock(struct writers *writers, int64_t now);
 
 /* All lines are the keeper's, and nobody has a turn. */
 void end_writers(struct writers *writers);
+
+/* Has a way that begins know those of its database; and one that has ended no more. */
+void meet_writers(struct way *way);
+void leave_writers(struct way *way);
 
 void free_writer(struct writer *line);
 void free_writers(struct writers *writers);

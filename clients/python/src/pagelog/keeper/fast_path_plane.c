@@ -320,6 +320,7 @@ static void hear(struct plane *plane, void *source) {
         break;
     case SESSION:
         go_on_keeping(source);
+        keep_due(plane); /* before anybody is told: PostgreSQL has something to do meanwhile */
         break;
     case WRITER:
         hear_writer(source);
@@ -394,6 +395,7 @@ void plane_run(struct plane *plane) {
         see_clocks(plane);
         see_to_active(plane);
         keep_due(plane);
+        see_to_active(plane); /* those that may pull ahead now */
         leave_sessions(plane);
         publish(plane);
     } while (goes_on(plane));

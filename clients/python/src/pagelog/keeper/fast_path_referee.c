@@ -140,6 +140,7 @@ static void take_due(struct session *session) {
         has_one = is_alone;
         take_from_due(way);
         way->phase = KEEPING;
+        set_active(way);
         bytes += way->batch.len;
         session->kept[session->count] = false;
         session->ways[session->count++] = way;
@@ -265,19 +266,35 @@ static bool confirm(struct session *session) {
     return PQsendQueryPrepared(session->connection, session->flushed, 0, NULL, NULL, NULL, 0) == 1 && flush(session);
 }
 
+static void trim_bytes(uint8_t **bytes, size_t *room) {
+    if (*room > TRIMMED) {
+        free(*bytes);
+        *bytes = NULL;
+        *room = 0;
+    }
+}
+
 /* Gives back what much has taken. */
 static void trim(struct way *way) {
-    if (way->batch.room > TRIMMED && !way->rung) {
-        free(way->batch.bytes);
-        free(way->in);
-        way->batch.bytes = way->in = NULL;
-        way->batch.room = way->in_room = 0;
+    if (way->phase == READY && !way->rung) {
+        trim_bytes(&way->batch.bytes, &way->batch.room);
+        trim_bytes(&way->ahead.bytes, &way->ahead.room);
+        trim_bytes(&way->in, &way->in_room);
     }
-    if (way->trail.lines_room > TRIMMED) {
-        free(way->trail.lines);
-        way->trail.lines = NULL;
-        way->trail.lines_room = 0;
+    trim_bytes(&way->trail.lines, &way->trail.lines_room);
+}
+
+/* What was pulled meanwhile is the next batch, or becomes it once all has come. */
+static void go_on_behind(struct way *way) {
+    struct batch archived = way->batch;
+    way->batch = way->ahead;
+    way->ahead = archived;
+    way->ahead.blocks = way->ahead.len = 0;
+    way->phase = way->is_ahead ? PULLING : READY;
+    if (!way->is_ahead && way->batch.blocks > 0) {
+        set_due(way);
     }
+    way->is_ahead = false;
 }
 
 /* The batch is archived. */
@@ -286,22 +303,20 @@ static void enter(struct way *way) {
     way->reached = way->batch.reached;
     way->chain_len = way->batch.chain_len;
     memcpy(way->chain, way->batch.chain, way->batch.chain_len);
-    way->done = way->pulls_for;
+    way->done = way->batch.pulls_for;
     way->news_due |= way->is_watched;
     pthread_mutex_unlock(&way->plane->lock);
     if (way->trail.count > 0) {
         enter_lines(&way->trail);
     }
-    way->phase = READY;
-    way->rung |= way->pulled == way->most; /* there may be more */
+    go_on_behind(way);
     way->start.is_careful = 0;
+    way->tells = true;
     trim(way);
     wake_by(way->plane, until(way));
     if (way->start.noted != NULL && *way->start.noted < way->reached) {
         *way->start.noted = way->reached;
     }
-    tell_all(way);
-    tell_news(way);
     set_active(way);
 }
 

@@ -19,9 +19,15 @@ enum {
 
 /* Pulling. */
 
+/* What the blocks come into that are being pulled. */
+static struct batch *pulled_of(struct way *way) {
+    return way->phase == KEEPING ? &way->ahead : &way->batch;
+}
+
 /* Sends questions, and waits for the replies. False where the service does not take them. */
 static bool send_questions(struct way *way, const uint8_t *from, size_t len) {
-    way->phase = PULLING;
+    way->is_ahead = way->phase == KEEPING;
+    way->phase = way->is_ahead ? KEEPING : PULLING;
     way->due = now_ms() + way->start.service_ms;
     wake_by(way->plane, way->due);
     return send(way->start.service, from, len, MSG_NOSIGNAL) == (ssize_t)len;
@@ -34,13 +40,32 @@ static size_t put_audit(const struct way *way, uint8_t *to) {
     return way->start.audit_len;
 }
 
+static void set_epoch(struct way *way, uint64_t epoch) {
+    size_t at[] = {EPOCH_AT, way->start.pull_len + EPOCH_AT};
+    for (size_t frame = 0; frame < (way->trail.is_kept ? 2 : 1); frame++) {
+        for (size_t byte = 0; byte < 4; byte++) {
+            way->asks[at[frame] + byte] = (uint8_t)(epoch >> (24 - 8 * byte));
+        }
+    }
+}
+
+/* Asks in the epoch in which the writer writes, as far as that is known: each other one is denied, and asked again. */
+static void expect_epoch(struct way *way) {
+    int64_t epoch = way->writers == NULL ? -1 : turns_epoch(way->writers->turns, way->start.generation);
+    way->expects_epoch = epoch > (int64_t)number_in(way->asks + EPOCH_AT, 4) && epoch <= UINT32_MAX;
+    if (way->expects_epoch) {
+        set_epoch(way, (uint64_t)epoch);
+    }
+}
+
 /* Asks for the blocks behind those of the batch, by several pulls where there may be many; and for the lines that speak of them in the same
  * message: most batches are of one pull. False where the service takes no request. */
 static bool ask(struct way *way) {
     uint8_t questions[(PULLS + 1) * FRAME_MOST];
-    size_t len = 0, room = (WAY_BLOCKS - way->batch.blocks) / PULL_MOST;
+    const struct batch *batch = pulled_of(way);
+    size_t len = 0, room = (WAY_BLOCKS - batch->blocks) / PULL_MOST;
     way->pulls = way->depth < room ? way->depth : room;
-    way->first = way->batch.reached + 1;
+    way->first = batch->reached + 1;
     for (size_t pull = 0; pull < way->pulls; pull++) {
         memcpy(questions + len, way->asks, way->start.pull_len);
         len += way->start.pull_len;
@@ -63,29 +88,56 @@ static bool ask_lines(struct way *way) {
     return send_questions(way, question, put_audit(way, question));
 }
 
+/* Its service is gone, or has said what nobody asked. What is on its way is kept before the way ends. */
+static void leave_service(struct way *way, enum way_end end) {
+    way->is_gone = true;
+    way->gone_for = end;
+    watch_no_more(way->plane, way->start.service);
+    set_active(way);
+}
+
+/* Ends it for what has become of a pull. A statement that is on its way is waited for. */
+static void give_up(struct way *way, enum way_end end) {
+    if (way->phase != KEEPING) {
+        end_way(way, end);
+        return;
+    }
+    way->is_ahead = false;
+    way->ahead.blocks = 0;
+    leave_service(way, end);
+}
+
+/* Where the batch begins that is pulled now. */
+static void begin_batch(struct way *way) {
+    struct batch *batch = pulled_of(way);
+    bool is_ahead = way->phase == KEEPING;
+    batch->blocks = batch->len = 0;
+    batch->pulls_for = way->kicked;
+    batch->reached = is_ahead ? way->batch.reached : way->reached;
+    batch->chain_len = is_ahead ? way->batch.chain_len : way->chain_len;
+    memcpy(batch->chain, is_ahead ? way->batch.chain : way->chain, batch->chain_len);
+}
+
 void begin_pull(struct way *way) {
     for (struct line *line = way->lines; line != NULL; line = line->next) {
         line->asked = line->position != 0;
     }
     way->rung = false;
-    way->pulls_for = way->kicked;
     way->most = way->start.is_careful ? 1 : PULL_MOST;
     way->news_due |= way->news_wanted;
     way->news_wanted = false;
-    way->batch.blocks = way->batch.len = 0;
-    way->batch.reached = way->reached;
-    way->batch.chain_len = way->chain_len;
-    memcpy(way->batch.chain, way->chain, way->chain_len);
+    begin_batch(way);
+    expect_epoch(way);
     way->in_len = 0;
     way->depth = 1;
     if (!ask(way)) {
-        end_way(way, WAY_SERVICE);
+        give_up(way, WAY_SERVICE);
     }
 }
 
 /* Takes a block, whose LSN is the next one, under its position. */
 static bool take_block(struct way *way, const uint8_t *block, size_t len) {
-    struct batch *batch = &way->batch;
+    struct batch *batch = pulled_of(way);
     if (len < 8 || number_in(block, 8) != batch->reached + 1 - way->start.shift) {
         return false;
     }
@@ -108,7 +160,7 @@ static bool take_block(struct way *way, const uint8_t *block, size_t len) {
 /* Takes blocks without records, which no pull serves, up to before this position, if the batch has room for them. `rest`: bytes that come
  * behind them. False without memory. */
 static bool fill_up(struct way *way, uint64_t position, size_t rest) {
-    struct batch *batch = &way->batch;
+    struct batch *batch = pulled_of(way);
     uint8_t empty[EMPTY_LEN] = {0};
     while (batch->reached + 1 < position && batch->blocks < WAY_BLOCKS) {
         if (!grow(&batch->bytes, &batch->room, batch->len + EMPTY_LEN + rest)) {
@@ -125,7 +177,7 @@ static enum way_end take_blocks(struct way *way, const uint8_t *body, size_t len
     if (len < REPLY_HEAD || body[0] != BLOCKS) {
         return WAY_SERVICE;
     }
-    struct batch *batch = &way->batch;
+    struct batch *batch = pulled_of(way);
     uint64_t least = way->first, next = number_in(body + 1, 8) + way->start.shift;
     *count = (size_t)number_in(body + 9, 2);
     if (*count > way->most || next <= least || least > batch->reached + 1) {
@@ -154,27 +206,24 @@ static enum way_end take_blocks(struct way *way, const uint8_t *body, size_t len
     return at != len ? WAY_SERVICE : fill_up(way, next, 0) ? WAY_STOPPED : WAY_NO_MEMORY;
 }
 
-/* Whether a reply denies what was asked for the sake of an epoch that has begun: all is asked for again, in that. */
+/* Whether a reply denies what was asked for the sake of the epoch: all is asked for again, in the one that it says. That is below what was
+ * asked in only where this was expected, and not known. */
 static bool is_outdated(struct way *way, const uint8_t *body, size_t len) {
-    uint64_t epoch = len == DENIED_LEN ? number_in(body + 4, 8) : 0;
-    if (epoch <= number_in(way->asks + EPOCH_AT, 4) || body[0] != DENIED || body[1] != 1 || body[2] != 0 || body[3] < 2 || body[3] > 3 ||
-        epoch > UINT32_MAX) {
+    uint64_t epoch = len == DENIED_LEN ? number_in(body + 4, 8) : 0, asked = number_in(way->asks + EPOCH_AT, 4);
+    bool is_other = epoch > asked || (epoch > 0 && epoch < asked && way->expects_epoch);
+    if (!is_other || body[0] != DENIED || body[1] != 1 || body[2] != 0 || body[3] < 2 || body[3] > 3 || epoch > UINT32_MAX) {
         return false;
     }
-    size_t at[] = {EPOCH_AT, way->start.pull_len + EPOCH_AT};
-    for (size_t frame = 0; frame < (way->trail.is_kept ? 2 : 1); frame++) {
-        for (size_t byte = 0; byte < 4; byte++) {
-            way->asks[at[frame] + byte] = (uint8_t)(epoch >> (24 - 8 * byte));
-        }
-    }
+    way->expects_epoch = false;
+    set_epoch(way, epoch);
     return true;
 }
 
 /* Whether a reply denies the pull because the log ends with the blocks of the batch. */
-static bool is_the_end(const struct way *way, const uint8_t *body, size_t len) {
+static bool is_the_end(struct way *way, const uint8_t *body, size_t len) {
     static const uint8_t no_such_block[] = {DENIED, 3, 0, 1};
     return len == DENIED_LEN && memcmp(body, no_such_block, sizeof no_such_block) == 0 &&
-           number_in(body + sizeof no_such_block, 8) == way->batch.reached - way->start.shift;
+           number_in(body + sizeof no_such_block, 8) == pulled_of(way)->reached - way->start.shift;
 }
 
 /* Reads what has come. False where the service is of no use, or `lacks_memory`. */
@@ -198,7 +247,7 @@ static bool receive(struct way *way, bool *lacks_memory) {
 
 /* Takes a reply with blocks, or that of the end of the log. What was asked behind the end is passed over: it is asked for again. */
 static enum way_end take_pulled(struct way *way, const uint8_t *body, size_t len) {
-    struct batch *batch = &way->batch;
+    struct batch *batch = pulled_of(way);
     way->pulls--;
     way->is_outdated |= is_outdated(way, body, len);
     if (way->pulled < way->most || batch->blocks == WAY_BLOCKS || way->is_outdated) {
@@ -222,7 +271,7 @@ static enum way_end take_pulled(struct way *way, const uint8_t *body, size_t len
 static void rest(struct way *way) {
     way->phase = READY;
     pthread_mutex_lock(&way->plane->lock);
-    way->done = way->found_nothing = way->pulls_for;
+    way->done = way->found_nothing = way->batch.pulls_for;
     pthread_mutex_unlock(&way->plane->lock);
     wake_by(way->plane, until(way));
     tell_above(way);
@@ -231,8 +280,9 @@ static void rest(struct way *way) {
 }
 
 /* Whether there may be more blocks, and room for them. */
-static bool pulls_on(const struct way *way) {
-    return way->pulled == way->most && !way->start.is_careful && way->batch.blocks + PULL_MOST <= WAY_BLOCKS && way->batch.len < WAY_BYTES;
+static bool pulls_on(struct way *way) {
+    const struct batch *batch = pulled_of(way);
+    return way->pulled == way->most && !way->start.is_careful && batch->blocks + PULL_MOST <= WAY_BLOCKS && batch->len < WAY_BYTES;
 }
 
 /* Goes on once all has come that was asked for. Returns WAY_STOPPED where nothing stands against it. */
@@ -244,7 +294,11 @@ static enum way_end go_on(struct way *way) {
         way->is_outdated = false;
         return ask(way) ? WAY_STOPPED : WAY_SERVICE;
     }
-    if (way->batch.blocks == 0) {
+    size_t blocks = pulled_of(way)->blocks;
+    way->rung |= blocks > 0 && way->pulled == way->most; /* there may be more */
+    if (way->is_ahead) {
+        way->is_ahead = false; /* it waits for the statement that is on its way; of nothing nobody is told before that ends */
+    } else if (blocks == 0) {
         rest(way);
     } else if (way->trail.is_kept && !pack_lines(&way->trail)) {
         return WAY_NO_MEMORY;
@@ -264,7 +318,7 @@ static enum way_end take_listed(struct way *way, const uint8_t *body, size_t len
     if (!take_lines(way, body, len, &is_more)) {
         return WAY_LINES;
     }
-    bool is_needed = way->batch.blocks > 0 && !pulls_on(way);
+    bool is_needed = pulled_of(way)->blocks > 0 && !pulls_on(way);
     return !is_more || !is_needed || ask_lines(way) ? WAY_STOPPED : WAY_SERVICE;
 }
 
@@ -290,24 +344,17 @@ static enum way_end take_replies(struct way *way) {
     return end == WAY_STOPPED && is_all ? go_on(way) : end;
 }
 
-/* Its service is gone, or has said what nobody asked. What is on its way is kept before the way ends. */
-static void leave_service(struct way *way) {
-    way->is_gone = true;
-    watch_no_more(way->plane, way->start.service);
-    set_active(way);
-}
-
 void go_on_pulling(struct way *way) {
     bool lacks_memory = false;
     if (way->has_ended) {
         return;
     }
-    if (way->phase != PULLING) {
-        leave_service(way);
+    if (way->phase != PULLING && !way->is_ahead) {
+        leave_service(way, WAY_SERVICE);
         return;
     }
     enum way_end end = receive(way, &lacks_memory) ? take_replies(way) : lacks_memory ? WAY_NO_MEMORY : WAY_SERVICE;
     if (end != WAY_STOPPED) {
-        end_way(way, end);
+        give_up(way, end);
     }
 }

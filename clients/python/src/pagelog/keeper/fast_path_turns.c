@@ -38,6 +38,7 @@ struct turns {
     size_t waiting;
     struct seat *holder, *last;
     int64_t given_back, epoch;          /* -1: none was */
+    int64_t writes_in;                  /* the epoch in which the holder writes, once it has begun; -1: it is not known */
     unsigned in_a_row, unheard;
     bool is_kept, has_heartbeat, is_early;
     int64_t slice, grace, early;        /* when they end; 0: there is none */
@@ -140,6 +141,9 @@ static void give(struct turns *turns, struct seat *seat, int64_t now) {
     char more[KEYS], *at = more;
     turns->in_a_row = is_same ? turns->in_a_row + 1 : 0;
     turns->holder = turns->last = seat;
+    if (!is_same) {
+        turns->writes_in = turns->epoch < 0 ? -1 : turns->epoch + 1;
+    }
     turns->is_kept = has_slice || (turns->in_a_row >= MANY && turns->first == NULL);
     turns->has_heartbeat = seat->has_heartbeat;
     turns->slice = has_slice ? now + SLICE : turns->slice;
@@ -213,7 +217,7 @@ static void take_away(struct turns *turns, int64_t now) {
 
 static void begin(struct turns *turns, uint64_t generation, bool was_idle, int64_t now) {
     turns->generation = generation;
-    turns->epoch = -1;
+    turns->epoch = turns->writes_in = -1;
     turns->in_a_row = 0;
     turns->last = NULL;
     turns->is_early = generation > 1 && !was_idle;
@@ -319,7 +323,7 @@ void turns_back(struct turns *turns, uint64_t line, int64_t epoch, int64_t now) 
     }
     if (seat == turns->holder) {
         turns->given_back = now;
-        turns->epoch = epoch < 0 ? turns->epoch : epoch;
+        turns->epoch = turns->writes_in = epoch < 0 ? turns->epoch : epoch;
         pass_on(turns, now);
     }
     tidy(turns);
@@ -351,6 +355,10 @@ void turns_gone(struct turns *turns, uint64_t line, int64_t now) {
 int turns_has(const struct turns *turns, uint64_t line) {
     const struct seat *seat = seat_of(turns, line);
     return seat != NULL && (seat->waits || seat == turns->holder);
+}
+
+int64_t turns_epoch(const struct turns *turns, uint64_t generation) {
+    return turns->generation == generation ? turns->writes_in : -1;
 }
 
 /* The clock. */

@@ -323,6 +323,26 @@ static struct order *next_order(struct plane *plane) {
     return order;
 }
 
+static void meet(struct way *way, struct writers *writers) {
+    if (way->writers == NULL && writers->way == NULL && strcmp(way->name, writers->name) == 0) {
+        way->writers = writers;
+        writers->way = way;
+    }
+}
+
+void meet_writers(struct way *way) {
+    for (struct writers *writers = way->plane->writers; writers != NULL; writers = writers->next) {
+        meet(way, writers);
+    }
+}
+
+void leave_writers(struct way *way) {
+    if (way->writers != NULL) {
+        way->writers->way = NULL;
+        way->writers = NULL;
+    }
+}
+
 static void begin(struct writers *writers) {
     struct plane *plane = writers->plane;
     writers->next = plane->writers;
@@ -331,6 +351,9 @@ static void begin(struct writers *writers) {
         writers->next->place = &writers->next;
     }
     plane->writers = writers;
+    for (struct way *way = plane->ways; way != NULL; way = way->next) {
+        meet(way, writers);
+    }
 }
 
 static void ask(struct writers *writers, const struct order *order, int64_t now) {
@@ -428,6 +451,9 @@ void end_writers(struct writers *writers) {
     *writers->place = writers->next;
     if (writers->next != NULL) {
         writers->next->place = writers->place;
+    }
+    if (writers->way != NULL) {
+        leave_writers(writers->way);
     }
     turns_free(writers->turns);
     writers->turns = NULL;
