@@ -5,14 +5,14 @@
 #include <stdlib.h>
 #include <string.h>
 
-/* Where a file is read into memory: after so many misses twice as many pages are asked for with each, up to
- * 2 MiB; and how many pages are looked at for each of those. */
-enum { MOST_AHEAD = 256, MISSES_EACH = 2, MOST_MISSES = 8 * MISSES_EACH, LOOKED_FOR = 8 };
+/* Where a file is read into memory, twice as many pages are asked for with each miss, up to 2 MiB, after so
+ * many; and how many pages are looked at for each of those. */
+enum { MOST_AHEAD = 256, MOST_MISSES = 8, LOOKED_FOR = 8 };
 
 /* Of the pages that have room in memory, those that may be on their way and were not asked for yet. */
 enum { SHARE_AHEAD = 4 };
 
-_Static_assert(1 << MOST_MISSES / MISSES_EACH == MOST_AHEAD, "as many as there is room for");
+_Static_assert(1 << MOST_MISSES == MOST_AHEAD, "as many as there is room for");
 
 /* A page that was asked for ahead. It may have come late: after a commit, or where the file is shorter. */
 void pagelog_take_page(void *argument, uint64_t lsn, uint32_t page, const uint8_t *bytes) {
@@ -91,7 +91,7 @@ static uint32_t pages_to_fill(struct pagelog_file *file, uint64_t now) {
     bool is_busy = now - file->fetched_at <= file->fetched_in;
     file->misses = is_busy ? file->misses + 1 : file->misses / 2;
     if (file->misses > MOST_MISSES) file->misses = MOST_MISSES;
-    return has_room(file) ? UINT32_C(1) << file->misses / MISSES_EACH : 1;
+    return has_room(file) ? UINT32_C(1) << file->misses : 1;
 }
 
 /* The page at `next_run`, which begins again behind the last one if it `wraps`; 0: there is none. */

@@ -503,6 +503,27 @@ def test_a_reader_by_key_asks_for_what_its_tree_refers_to():
         writer.close()
 
 
+def test_a_reader_of_one_key_asks_for_few_pages():
+    """Of a database of some 1,500, in which it reads first: twice as many with each page on the way to it."""
+    with Service() as service, Gate(service.address) as gate:
+        writer = connect(service.address)
+        writer.execute("create table t(a integer primary key, b)")
+        for first in range(0, 3000, 500):
+            writer.execute("begin")
+            for key in range(first, first + 500):
+                writer.execute("insert into t values (?, zeroblob(4000))", (key,))
+            writer.execute("commit")
+        true("large", one(writer, "pragma page_count") > 1400)
+        for key in (7, 1500, 2990):
+            gate.asked.clear()
+            connection = reader(gate.address, keep=0)
+            same("a row", 4000, one(connection, "select length(b) from t where a = ?", key))
+            gets = sum(frame[33] == wire.GET for frame in gate.asked)
+            true(f"{gets} gets", gets <= 1 + 2 + 4 + 8)
+            connection.close()
+        writer.close()
+
+
 def test_a_reader_of_a_service_that_stands_still():
     """It fails in time, and reads on once that answers."""
     with Service() as service, Gate(service.address) as gate:
@@ -538,5 +559,6 @@ if __name__ == "__main__":
             "test_readers_beside_a_writer",
             "test_a_scan_waits_for_few_pages",
             "test_a_reader_by_key_asks_for_what_its_tree_refers_to",
+            "test_a_reader_of_one_key_asks_for_few_pages",
         ),
     )

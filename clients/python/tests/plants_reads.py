@@ -25,6 +25,7 @@ PLANTS = {
                                                      "    if (is_next_ahead(log)) return 0;", "c/ahead", "beside_pages_that_are_on_their_way"),
     "ahead, nothing": Plant(_FILE, "    wanted.ahead = choose_pages(file, page, began, pages) - 1;\n", "    choose_pages(file, page, began, pages);\n", "c/readers",
                             "many_pages_at_a_time"),
+    "ahead, all at once": Plant(_FILE, "has_room(file) ? UINT32_C(1) << file->misses : 1", "has_room(file) ? MOST_AHEAD : 1", "c/ahead", "of_one_key"),
     "ahead, of a scan": Plant(_FILE, "follows || (is_ahead && fill == 1)", "false", "c/ahead", "waits_for_few_pages"),
     "ahead, over what was written": Plant(_FILE, "    if (!frame || frame->has_base) return;\n", "    if (!frame) return;\n    if (frame->changed) memcpy(frame->changed, bytes, PAGELOG_PAGE_BYTES);\n",
                                           "c/ahead", "is_written_before_it_comes"),
