@@ -247,6 +247,11 @@ end:
                     // ..
                     // way->reached = way->batch.reached;
                     // ..
+                    // way->tells = true;
+                    // ..
+// fast_path_lines.c: tell_archived
+                    // if (way->tells) {
+                    // way->tells = false;
                     // tell_all(way);
                     // ..
 // fast_path_lines.c: tell_all
@@ -268,6 +273,7 @@ end:
                     // end_way(session->ways[at], WAY_DOUBT);
                     // ..
 // fast_path.c: advance
+                    // tell_archived(way);
                     // if (way->is_over && way->phase != KEEPING)
                     // end_way(way, WAY_STOPPED);
                     // ..
