@@ -7,8 +7,8 @@ Usage: python3 -B bench/store.py [--share SHARE] [--far MS MB] [PART ..]
 - restore: SQLite's blocks are moved, with their bytes before and after; then a service is filled with them from PostgreSQL and
   from a server of S3 that is 30 ms away, there and back, by 50 MB a second in all, by turns.
 - commits: durable ones, one after the other, with and without a mover that works off many blocks of the same database, by turns.
-- branch: of a database of 10 MiB and of 10 GiB whose blocks and images are in the store, by turns: its rows are as many and as large, and of
-  the store only a manifest is there, as nothing else is read.
+- branch: of a database of 10 MiB and of 10 GiB whose blocks and images are in the store, by turns: its rows are as many and as large, and the
+  store is empty, as nothing of it is read.
 """
 
 import argparse
@@ -23,20 +23,17 @@ import sys
 import tempfile
 import threading
 import time
-import uuid
 
 import kept
 import service
 from keepers import Keeping
 from pagelog import Block, Put
-from pagelog.keeper.bases import Bases
 from pagelog.keeper.branching import branch
 from pagelog.keeper.referee import Referee
 from pagelog.keeper.run import Program
 from pagelog.keeper.served import Served
 from pagelog.store.moving import Wish
 from pagelog.store.mover import Mover
-from pagelog.store.pack import BaseFacts, Pack, Packed, manifest_of
 from pagelog.store.place import store_of
 from pagelog.store.rescuing import rescue
 from pagelog.store.settings import StoreSettings
@@ -71,7 +68,6 @@ INSERT INTO pagelog_image (log, range, base, pages, crc, data, pack, at, length,
 SELECT %(log)s, n, %(base)s, '\\xffffffffffffffff', 0, '', n / 32 + 1, 190000 * (n %% 32) + 32, 190000, decode(md5(n::text), 'hex')
 FROM generate_series(0, %(images)s - 1) n RETURNING 1
 """
-_PACKS = "SELECT key, digest, size FROM pagelog_pack WHERE log = %s ORDER BY number"
 _REST = """
 WITH stored AS (
   INSERT INTO pagelog_store (log, folder, moved, cut) VALUES (%(log)s, %(folder)s, %(last)s, %(last)s)),
@@ -306,12 +302,8 @@ def branch_of(server, share, far):
         with contextlib.closing(referee):
             referee.prepare()
             made = [
-                (
-                    f"{size}, {kind}",
-                    made_of(referee, store_of(settings), f"of-{number}-{kind}", *of, is_named),
-                )
+                (size, made_of(referee, f"of-{number}", *of))
                 for number, (size, *of) in enumerate(SIZES)
-                for kind, is_named in (("named", True), ("copied", False))
             ]
             referee._connected().execute("VACUUM ANALYZE")
             times = {what: [] for what, _ in made}
@@ -331,17 +323,10 @@ def branch_of(server, share, far):
                     f"{1000 * min(some):.0f} to {1000 * max(some):.0f}, of {len(some)} in turns; "
                     f"{statistics.median(written[what]) / 1024:,.0f} KiB of WAL; load {os.getloadavg()[0]:.1f}"
                 )
-            row = referee.everything().row(f"{made[2][1]}-0")
-            began = time.perf_counter()
-            Bases(referee, row.id).unfold()
-            print(
-                f"its rows of images are written later in {1000 * (time.perf_counter() - began):.0f} ms"
-            )
 
 
-def made_of(referee, store, name, objects, behind, images, is_named):
-    """A database whose rows are as those of one of that size; of its store only the manifest is there. Where that is not named rows of images
-    are copied, as before it is there."""
+def made_of(referee, name, objects, behind, images):
+    """A database whose rows are as those of one of that size."""
     referee.create(name, service.WIDE_TABLE, b"s" * 16)
     row = referee.everything().row(name)
     base, folder = 5000 * (objects - behind), f"{name}.{row.identity[:8]}"
@@ -350,21 +335,6 @@ def made_of(referee, store, name, objects, behind, images, is_named):
     referee._ask(_OBJECTS, values)
     referee._ask(_REST, values)
     referee._ask(_IMAGES, values)
-    packs = [
-        Pack(key, bytes(digest), size) for key, digest, size in referee._ask(_PACKS, (row.id,))
-    ]
-    packed = [
-        (Packed(n, base, 2**64 - 1, 0, 190_000 * (n % 32) + 32, 190_000, bytes(16)), n // 32)
-        for n in range(images)
-    ]
-    facts = BaseFacts(uuid.UUID(row.identity), base, bytes(16), bytes(16), 64 * images, 1, 0)
-    manifest, data = manifest_of(facts, packs, packed, folder)
-    store.put(manifest.key, data)
-    if is_named:
-        referee._ask(
-            "UPDATE pagelog_base SET manifest = %s, manifest_digest = %s, is_stored = true WHERE log = %s RETURNING 1",
-            (manifest.key, manifest.digest, row.id),
-        )
     return name
 
 
