@@ -34,9 +34,9 @@ from by_tls import trust  # noqa: E402
 from keepers import Keeping, eventually, token  # noqa: E402
 from pagelog import Block, Group, Primary, Put  # noqa: E402
 from pagelog.dialing import dial  # noqa: E402
-from pagelog.keeper.ahead import pieces_of  # noqa: E402
-from pagelog.keeper.referee import Referee, digest  # noqa: E402
-from pagelog.keeper.rows import Batch  # noqa: E402
+from pagelog.referee.ahead import pieces_of  # noqa: E402
+from pagelog.referee.referee import Referee, digest  # noqa: E402
+from pagelog.referee.rows import Batch  # noqa: E402
 from pagelog.keeper.run import Program  # noqa: E402
 from pagelog.keeper.served import Served  # noqa: E402
 from pagelog.request import Head, Report, Request, Role, Write  # noqa: E402

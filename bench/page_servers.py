@@ -34,7 +34,7 @@ import rounds  # noqa: E402
 import serving  # noqa: E402
 from serving import ROOT, SHARE, TABLE, Service, about, build_frames, get, wire  # noqa: E402
 from pagelog import Connection, Reader  # noqa: E402
-from pagelog.keeper.referee import digest  # noqa: E402
+from pagelog.referee.referee import digest  # noqa: E402
 from pagelog.pages.process import PagesProcess  # noqa: E402
 from pagelog.rules import AboveTheEnd  # noqa: E402
 

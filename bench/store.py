@@ -29,14 +29,14 @@ import service
 from keepers import Keeping
 from pagelog import Block, Put
 from pagelog.keeper.branching import branch
-from pagelog.keeper.referee import Referee
+from pagelog.referee.referee import Referee
 from pagelog.keeper.run import Program
 from pagelog.keeper.served import Served
 from pagelog.store.moving import Wish
 from pagelog.store.mover import Mover
-from pagelog.store.place import store_of
+from pagelog.objects.place import store_of
 from pagelog.store.rescuing import rescue
-from pagelog.store.settings import StoreSettings
+from pagelog.objects.settings import StoreSettings
 from sqlite_named import connected
 
 KEYS = {

@@ -64,7 +64,7 @@ inline add(r, b) {
 
 /* ---- The referee ---- */
 
-// statements.py: TAKE
+// referee/statements.py: TAKE
                     // ..
                     // UPDATE pagelog_log SET generation = GREATEST(next_generation, %(least)s), next_generation = GREATEST(next_generation, %(least)s) + 1, run = %(run)s, holder = %(me)s,
                     // ..
@@ -105,7 +105,7 @@ inline go_back() {
     last = NOTHING
 }
 
-// statements.py: CREATE
+// referee/statements.py: CREATE
                     // ..
                     // COALESCE((SELECT max(d.next_generation) + 1 FROM pagelog_log d WHERE d.dropped AND d.name = %(name)s
                     // ..
@@ -134,7 +134,7 @@ end:
     :: d_step { present != 0 && hard[present] > archived && reached[present] == archived -> keep(0) }
     :: d_step { backs < BACK && last != NOTHING -> go_back() }
     :: d_step { database == 1 -> drop_and_create() }
-// numbers.py: see
+// keeper/numbers.py: see
                     // ..
                     // self.note(row.identity, max(row.next_generation - 1, row.generation))
                     // ..
@@ -151,7 +151,7 @@ end:
 /* ---- A client ---- */
 
 /* Whether the question is about this run, as a keeper sees it. */
-// keeping.py: _is_of
+// keeper/keeping.py: _is_of
                     // ..
                     // return of is None or (database.served is not None and of == database.of(database.served))
 #if defined(OLD_CLIENT) || defined(ASKS_A_NUMBER)
@@ -164,7 +164,7 @@ end:
 #define IS_TOLD_BY(k, b) (mine[k] != 0 && IS_OF(mine[k]) && place_of[b] <= reached[mine[k]])
 
 /* What PostgreSQL has: a later generation than that of the run, which has it or not. */
-// fate.py: fate_of_rows
+// referee/fate.py: fate_of_rows
                     // ..
                     // if own is None:
                     // return Fate(loss=Loss.ANOTHER) if rows else Fate()

@@ -74,7 +74,7 @@ active proctype PostgreSQL() {
     bool is_named;
 end:
     do
-/* _KEEP of keeper/bases.py: an image that is kept anew is in no pack. */
+/* _KEEP of referee/bases.py: an image that is kept anew is in no pack. */
 #ifdef KEEPS_ANEW_IN_ITS_PACK
 #define KEPT_ANEW skip
 #else
@@ -83,7 +83,7 @@ end:
     :: d_step { made < MADE -> made++; now.truth = made; now.data = made; KEPT_ANEW; it_is_there() }
     :: d_step { !has_before && backs < BACKS -> has_before = true; copied(before, now) }
     :: d_step { has_before && backs < BACKS -> backs++; has_before = false; copied(now, before); it_is_there() }
-    /* What nothing names goes from the store: _SWEPT of tables.py. */
+    /* What nothing names goes from the store: _SWEPT of object_statements.py. */
     :: amid == 0 ->
        key = 2;
        do
@@ -119,7 +119,7 @@ end:
     /* It reads what no pack has, and packs it: PostgreSQL's digest of it, then the fence. */
     :: d_step { now.pack == 0 && now.data != 0 && now.packs < PACKS -> bytes = now.data; seen = now.packs; amid++ }
        if
-// tables.py: PACK
+// referee/object_statements.py: PACK
                     // ..
                     // WHERE i.pack IS NULL AND sha256(i.data) = v.raw_digest),
                     // ..
@@ -141,7 +141,7 @@ end:
        if
        :: object[OF(bytes, 0)] ->
           if
-// compacting.py: COMPACT
+// store/compacting.py: COMPACT
                     // ..
                     // JOIN pagelog_image i ON i.log = %(log)s AND i.base = %(base)s AND i.range = v.range
                     // JOIN pagelog_pack p ON p.log = i.log AND p.number = i.pack AND p.state = 2
@@ -174,7 +174,7 @@ end:
 #else
           :: skip ->
 #endif
-// tables.py: KEPT_PACK
+// referee/object_statements.py: KEPT_PACK
                     // KEPT_PACK = "UPDATE pagelog_pack SET state = 1 WHERE log = %(log)s AND number = %(number)s AND key = %(key)s AND state = 0 RETURNING log"
 #ifdef KEEPS_ANOTHER_KEY
 #define KEEPS(n, b, a) (now.state[n] == 1)
@@ -185,7 +185,7 @@ end:
              :: d_step { KEEPS(seen, bytes, anew) -> now.state[seen] = 2; it_is_there() }
              :: d_step { !KEEPS(seen, bytes, anew) -> skip }
              fi
-// tables.py: TAKE_BACK
+// referee/object_statements.py: TAKE_BACK
                     // ..
                     // WITH gone AS (DELETE FROM pagelog_pack WHERE log = %(log)s AND number = %(number)s AND key = %(key)s AND state = 0 RETURNING log, number, key),
                     // ..
@@ -208,7 +208,7 @@ end:
 #else
        :: d_step { !now.anew[seen] && now.state[seen] == 2 -> bytes = now.row[seen] }
 #endif
-// tables.py: CUT_PACK
+// referee/object_statements.py: CUT_PACK
                     // ..
                     // UPDATE pagelog_pack SET state = 2 WHERE log = %(log)s AND number = %(number)s AND key = %(key)s AND state = 1 RETURNING log, number),
                     // emptied AS (UPDATE pagelog_image i SET data = '' FROM kept WHERE i.log = kept.log AND i.pack = kept.number)
@@ -229,7 +229,7 @@ end:
 #define IS_KEPT(n) (now.state[n] == 2)
 #endif
        :: d_step { now.anew[seen] && IS_KEPT(seen) -> bytes = now.row[seen] }
-// compacting.py: SWITCH
+// store/compacting.py: SWITCH
                     // ..
                     // WHERE log = %(log)s AND number = %(number)s AND key = %(key)s AND state = 1 AND instead)
                     // ..
@@ -246,7 +246,7 @@ end:
                 now.pack = (IS_IT(bytes) -> seen : now.pack); now.state[seen] = 3; it_is_there() }
           :: d_step { !(IS_KEPT(seen) && now.row[seen] == bytes && now.anew[seen]) -> skip }
           fi
-// compacting.py: EMPTY
+// store/compacting.py: EMPTY
                     // ..
                     // AND NOT EXISTS (SELECT 1 FROM pagelog_image i WHERE i.log = p.log AND i.pack = p.number)
                     // ..

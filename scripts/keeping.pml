@@ -49,7 +49,7 @@ byte late_run[KEEPERS], late_old[KEEPERS], late_next[KEEPERS], late_number[KEEPE
 
 /* ---- Statements ---- */
 
-// statements.py: KEEP
+// referee/statements.py: KEEP
                     // ..
                     // UPDATE pagelog_log l SET archived = due.new, chain = due.chain FROM due
                     // WHERE l.id = due.log AND l.run = due.run AND l.generation = due.generation AND l.archived = due.old
@@ -80,7 +80,7 @@ inline keep(r, p) {
     fi
 }
 
-// statements.py: SUCCEED
+// referee/statements.py: SUCCEED
                     // ..
                     // UPDATE pagelog_log SET generation = %(next)s, run = %(next_run)s, holder = %(me)s, address = %(address)s, secure = %(secure)s, shift = %(shift)s,
                     // ..
@@ -123,7 +123,7 @@ inline publish(r) {
 /* ---- A service ---- */
 
 /* Fills it with what the archive has, up to p. One that breaks off goes on behind what is loaded: the digest of all is compared. */
-// served.py: follow
+// keeper/served.py: follow
                     // if archived <= self.reached:
                     // return
                     // is_fresh = self.loaded == 0
@@ -146,7 +146,7 @@ inline fill(r, p) {
 }
 
 /* The same from the present service, whose log has all that is archived of it. */
-// succession.py: _bring
+// keeper/succession.py: _bring
                     // ..
                     // successor.begin(self._referee, self._database.row.id, reached)
                     // if successor.reached < reached:
@@ -193,11 +193,11 @@ inline hold(r) {
 #define TAKEN 5
 #define FILLED 6
 
-// switch.py: begun
+// keeper/switch.py: begun
                     // if referee.kept(switch.log, switch.next_run) is None:
                     // return None
                     // return referee.held(switch.log, switch.next_run)
-// switch.py: may_begin
+// keeper/switch.py: may_begin
                     // kept = referee.kept(switch.log, switch.run)
                     // return kept is not None and kept.archived == switch.old and has_newest_table(referee, switch)
 #ifdef DOUBT_IS_NO
@@ -232,29 +232,29 @@ active [KEEPERS] proctype Keeper() {
 end:
     do
     /* A batch: done or refused, and the reply comes or is lost; or it comes late. */
-// fast_path_referee.c: take_answer
+// keeper/fast_path_referee.c: take_answer
                     // ..
                     // if (result == NULL)
                     // *is_whole = true;
                     // return session->has_row && !session->warned;
                     // ..
-// fast_path_referee.c: finish
+// keeper/fast_path_referee.c: finish
                     // ..
                     // if (session->kept[at]) enter(session->ways[at]);
                     // else end_way(session->ways[at], WAY_NOT_KEPT);
                     // ..
-// fast_path_referee.c: enter
+// keeper/fast_path_referee.c: enter
                     // ..
                     // way->reached = way->batch.reached;
                     // ..
                     // way->tells = true;
                     // ..
-// fast_path_lines.c: tell_archived
+// keeper/fast_path_lines.c: tell_archived
                     // if (way->tells) {
                     // way->tells = false;
                     // tell_all(way);
                     // ..
-// fast_path_lines.c: tell_all
+// keeper/fast_path_lines.c: tell_all
                     // ..
                     // bool is_due = line->position != 0 && line->position <= way->reached;
                     // if (is_due && !tell(way, line
@@ -268,11 +268,11 @@ end:
           reached[mine] = (is_done -> reached[mine] + 1 : reached[mine]); tell()
 #endif
        }
-// fast_path_referee.c: lose
+// keeper/fast_path_referee.c: lose
                     // ..
                     // end_way(session->ways[at], WAY_DOUBT);
                     // ..
-// fast_path.c: advance
+// keeper/fast_path.c: advance
                     // tell_archived(way);
                     // if (way->is_over && way->phase != KEEPING)
                     // end_way(way, WAY_STOPPED);
@@ -293,7 +293,7 @@ end:
           fi;
           late_run[ME] = 0; late_old[ME] = 0; late_next[ME] = 0; late_number[ME] = 0 }
     /* A batch in doubt is looked up, and what of it is not archived is tried again behind what is. Who holds it no more ends its service. */
-// fast_path.c: take_batch
+// keeper/fast_path.c: take_batch
                     // ..
                     // bool follows = before->batch.blocks > 0 && before->reached == way->reached && before->chain_len == way->chain_len &&
                     // memcmp(before->chain, way->chain, way->chain_len) == 0;
@@ -301,7 +301,7 @@ end:
                     // if (!follows || !fits)
                     // return;
                     // ..
-// referee.py: kept
+// referee/referee.py: kept
                     // found = self._ask("UPDATE pagelog_log SET archived = archived WHERE id = %s
                     // RETURNING archived, chain, generation, run", (log,))
                     // return (Kept(found[0][0], bytes(found[0][1]), found[0][2]) if found and found[0][3] == run else None)
@@ -319,7 +319,7 @@ end:
           fi }
 
     /* The next run. */
-// statements.py: NUMBER
+// referee/statements.py: NUMBER
                     // ..
                     // UPDATE pagelog_log SET next_generation = GREATEST(next_generation, %(least)s) + 1
                     // WHERE id = %(id)s AND run = %(run)s AND generation = %(generation)s AND NOT dropped RETURNING next_generation - 1
@@ -332,7 +332,7 @@ end:
           stage = MAKING }
     :: d_step { stage == MAKING && !doubts && alive[next] && reached[next] < reached[mine] -> fill(next, reached[mine]) }
     :: d_step { stage == MAKING && !doubts && alive[next] && alive[mine] && reached[next] < reached[mine] -> bring(next, mine, reached[mine]) }
-// succession.py: _closed
+// keeper/succession.py: _closed
                     // ..
                     // end = patiently(served, served.close)
                     // ..
@@ -378,7 +378,7 @@ end:
     :: d_step { stage == LOADED && late_run[ME] == 0 ->
           late_run[ME] = mine; late_old[ME] = reached[mine]; late_next[ME] = next; late_number[ME] = number;
           stage = IN_DOUBT }
-// succession.py: _switched
+// keeper/succession.py: _switched
                     // ..
                     // row = await self._ask(begun, switch)
                     // if row is not None or not await self._ask(may_begin, switch):
@@ -407,7 +407,7 @@ end:
     /* It takes the database, if all is as it was seen. */
     :: d_step { mine == 0 && stage == NONE && seen_generation == 0 && (standby != 0 || runs < RUNS) && (ME == 1 || !alive[holder]) ->
           seen_generation = generation; seen_archived = archived }
-// statements.py: TAKE
+// referee/statements.py: TAKE
                     // ..
                     // UPDATE pagelog_log SET generation = GREATEST(next_generation, %(least)s), next_generation = GREATEST(next_generation, %(least)s) + 1, run = %(run)s, holder = %(me)s,
                     // address = %(address)s, secure = %(secure)s, shift = COALESCE(%(shift)s::bigint, shift), images = COALESCE(%(images)s::bigint, images), base = archived,
@@ -434,7 +434,7 @@ end:
           fi;
           seen_generation = 0; seen_archived = 0 }
     /* With a standby that has all, its place is told by the same statement. */
-// beginning.py: _ready
+// keeper/beginning.py: _ready
                     // ..
                     // await self._database.filled(served, row.archived, row.chain)
                     // await asyncio.to_thread(served.check, row.archived, row.chain)
@@ -444,7 +444,7 @@ end:
           hold(mine);
           publish(mine);
           seen_generation = 0; seen_archived = 0 }
-// beginning.py: fill
+// keeper/beginning.py: fill
                     // ..
                     // await database.filled(served, row.base, row.chain)
                     // await asyncio.to_thread(served.check, row.base, row.chain)
@@ -463,7 +463,7 @@ end:
           fi;
 #endif
           upto = 0; stage = FILLED }
-// statements.py: PUBLISH
+// referee/statements.py: PUBLISH
                     // ..
                     // WHERE id = %(id)s AND run = %(run)s
                     // ..

@@ -80,10 +80,10 @@ end:
     /* It reads the next block, and seals it: the fence, then what PostgreSQL has of it. */
     :: d_step { at == 0 && now.moved < now.archived -> at = now.moved + 1; bytes = now.block[at] }
        if
-// tables.py: _SAME
+// referee/object_statements.py: _SAME
                     // _SAME = """(SELECT count(*) = %(count)s AND sha256(string_agg(data, ''::bytea ORDER BY lsn)) = %(raw_digest)s
                     // FROM pagelog_block WHERE log = %(log)s AND lsn BETWEEN %(first)s AND %(last)s)"""
-// tables.py: SEAL
+// referee/object_statements.py: SEAL
                     // ..
                     // WHERE log = %(log)s AND moved = %(first)s - 1 AND chain = %(before)s
                     // AND EXISTS (SELECT 1 FROM pagelog_log WHERE id = %(log)s AND identity = %(identity)s::uuid AND NOT dropped AND archived >= %(last)s)
@@ -116,7 +116,7 @@ end:
 #else
           :: skip ->
 #endif
-// tables.py: KEPT
+// referee/object_statements.py: KEPT
                     // KEPT = "UPDATE pagelog_object SET state = 1 WHERE log = %(log)s AND first = %(first)s AND key = %(key)s AND state = 0 RETURNING log"
 #ifdef KEEPS_ANOTHER_KEY
 #define KEEPS(p, b) (now.state[p] == 1)
@@ -136,7 +136,7 @@ end:
 #else
        :: d_step { now.state[at] == 2 -> bytes = now.row[at] }
 #endif
-// tables.py: CUT
+// referee/object_statements.py: CUT
                     // ..
                     // UPDATE pagelog_object SET state = 2 WHERE log = %(log)s AND first = %(first)s AND key = %(key)s AND state = 1 AND {_SAME}
                     // AND EXISTS (SELECT 1 FROM pagelog_store WHERE log = %(log)s AND cut = %(first)s - 1) RETURNING log, last)
@@ -151,7 +151,7 @@ end:
           :: d_step { !CUTS(at, bytes) -> skip }
           fi
        :: d_step { now.cut >= at && now.block[at] != 0 -> bytes = 0 }
-// tables.py: CLEAR
+// referee/object_statements.py: CLEAR
                     // ..
                     // AND lsn <= (SELECT cut FROM pagelog_store WHERE log = %(log)s) RETURNING 1
                     // ..

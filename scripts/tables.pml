@@ -32,11 +32,11 @@ byte returned = 1;
 #define ME (_pid)
 
 /* Reads the table, and starts a service with it. It is read without a write: an old leader of PostgreSQL has the one before. */
-// statements.py: TABLE
+// referee/statements.py: TABLE
                     // ..
                     // SELECT l.identity, l.table_number, t.text, t.secret, t.sealed, t.key FROM pagelog_table t JOIN pagelog_log l ON l.id = t.log WHERE t.log = %s
                     // ..
-// database.py: new_served
+// keeper/database.py: new_served
                     // ..
                     // text, secret, number, _ = await self.shared.ask(self.shared.referee.table, self.row.id)
                     // return Served(self.row.name, run, text, secret, timeout=self.shared.settings.ttl, is_read_only=self.row.read_only, table_number=number,
@@ -52,7 +52,7 @@ inline archive(r) {
     written[r] = 0
 }
 
-// statements.py: TAKE
+// referee/statements.py: TAKE
                     // ..
                     // AND table_number <= %(table_number)s
                     // ..
@@ -65,7 +65,7 @@ inline archive(r) {
 #define MAY_TAKE(r) (number <= number_of[r])
 #endif
 
-// statements.py: SUCCEED
+// referee/statements.py: SUCCEED
                     // ..
                     // AND table_number <= %(table_number)s
                     // ..
@@ -113,7 +113,7 @@ active proctype Subcommand() {
 end:
     do
     :: left > 0 -> left--;
-// statements.py: SET_TABLE
+// referee/statements.py: SET_TABLE
                     // ..
                     // UPDATE pagelog_log SET table_number = table_number + 1
                     // WHERE id = %(id)s AND identity = %(identity)s::uuid AND table_number = %(seen)s AND NOT dropped RETURNING id, table_number),

@@ -20,8 +20,8 @@ sys.path.insert(0, str(TOP / "clients" / "python" / "src"))
 import yaml  # noqa: E402
 
 from pagelog.credentials import load  # noqa: E402
-from pagelog.keeper.hosts import unverified  # noqa: E402
-from pagelog.keeper.referee import options_of  # noqa: E402
+from pagelog.referee.hosts import unverified  # noqa: E402
+from pagelog.referee.referee import options_of  # noqa: E402
 from pagelog.keeper.settings import Settings  # noqa: E402
 
 ADDRESSES = {"a": "10.77.0.1", "b": "10.77.0.2", "c": "10.77.0.3"}

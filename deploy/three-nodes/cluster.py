@@ -11,9 +11,9 @@ from pathlib import Path
 from typing import Callable, Iterable
 
 import psycopg
-from pagelog.keeper.referee import KeeperError, Referee, digest
+from pagelog.referee.referee import KeeperError, Referee, digest
 from pagelog.libpq import plain_url
-from pagelog.keeper.rows import Look, Row
+from pagelog.referee.rows import Look, Row
 from pagelog.place import Keepers
 
 from clients import NAME

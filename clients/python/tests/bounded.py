@@ -21,8 +21,8 @@ import psycopg  # noqa: E402
 from keepers import Keeping, new_url  # noqa: E402
 from long_runs import STOP, LongRun, is_client  # noqa: E402
 from pagelog import Primary, Put  # noqa: E402
-from pagelog.keeper.bases import Bases  # noqa: E402
-from pagelog.keeper.referee import digest  # noqa: E402
+from pagelog.referee.bases import Bases  # noqa: E402
+from pagelog.referee.referee import digest  # noqa: E402
 from service import PATIENCE, token  # noqa: E402
 from soak import bars, memory_of, picture  # noqa: E402
 

@@ -20,7 +20,7 @@ from urllib.parse import quote
 import psycopg
 
 from keepers import Keeping, new_url
-from pagelog.keeper.schema import FORMAT
+from pagelog.referee.schema import FORMAT
 from service import PATIENCE, SOURCE
 
 HOSTILE = "<img src=x onerror=alert(1)> \"'&</script>/../{x}"

@@ -17,7 +17,7 @@ from typing import Any, Callable
 sys.path.insert(0, str(Path(__file__).resolve().parent.parent / "src"))
 
 from pagelog.keeper import succession  # noqa: E402
-from pagelog.keeper.referee import Doubt  # noqa: E402
+from pagelog.referee.referee import Doubt  # noqa: E402
 from pagelog.keeper.served import Served  # noqa: E402
 from pagelog.keeper.succession import Succession  # noqa: E402
 

@@ -27,11 +27,11 @@ from prometheus_client.parser import text_string_to_metric_families
 
 from pagelog import Block, NamedPrimary, NamedReader, Primary, Put, Reader
 from pagelog.cli.words import pagelogctl
-from pagelog.keeper.referee import KeeperError, Referee, digest
-from pagelog.keeper.rows import Batch, Row
+from pagelog.referee.referee import KeeperError, Referee, digest
+from pagelog.referee.rows import Batch, Row
 from pagelog.keeper.run import orphans_of
 from pagelog.place import Keepers, Place, UnknownName
-from pagelog.store.settings import StoreSettings
+from pagelog.objects.settings import StoreSettings
 from postgres import postgres
 from fast_library import build
 from service import PATIENCE, PROGRAM, SOURCE, TABLE, WIDE_TABLE, Port, put, stand_still, token

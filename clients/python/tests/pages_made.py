@@ -15,7 +15,7 @@ import pages_program
 import psycopg
 from keepers import Keeping, eventually
 from pagelog import Address
-from pagelog.keeper.referee import digest
+from pagelog.referee.referee import digest
 from pagelog.pages.process import PagesProcess
 from pagelog.pages.table import table_of_pages
 from service import PATIENCE, accept_each

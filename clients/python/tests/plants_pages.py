@@ -179,7 +179,7 @@ PLANTS = {
     "pages by TLS, never renewed": Plant(f"{_C}/shown.c", "    if (!has_changed) return;\n", "    if (!has_changed || shown->context) return;\n",
                                          "pages_secured", "newest_certificate"),
     "pages by TLS, no plain one is left out": Plant("../pages/process", "return NOWHERE if self.is_only else", "return", "pages_secured", "led_there_by_tls"),
-    "pages by TLS, told to all": Plant("rows", "    secure: str | None = None\n    \"\"\"The way to it by TLS, as `ways` reads it.\"\"\"\n\n"
+    "pages by TLS, told to all": Plant("../referee/rows", "    secure: str | None = None\n    \"\"\"The way to it by TLS, as `ways` reads it.\"\"\"\n\n"
                                        "    def told(self, is_secure: bool) -> str | None:\n"
                                        "        \"\"\"Its address, as it is told to who came by TLS or without.\"\"\"\n"
                                        "        return address_for(self.address, way_of(self.secure, self.run), is_secure=is_secure)\n\n    @property\n    def is_gone",

@@ -24,11 +24,11 @@ from typing import Any
 
 sys.path.insert(0, str(Path(__file__).resolve().parent.parent / "src"))
 
-from pagelog.keeper.bases import Base, Bases, make_base
+from pagelog.referee.bases import Base, Bases, make_base
 from pagelog.store.checking import checked
 from pagelog.store.legal_holds import holding
-from pagelog.store.place import StoreError, store_of
-from pagelog.store.settings import StoreSettings
+from pagelog.objects.place import StoreError, store_of
+from pagelog.objects.settings import StoreSettings
 from service import Port
 from swift import Swift
 from test_branches import ByRows

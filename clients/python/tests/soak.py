@@ -24,8 +24,8 @@ from by_tls import trust  # noqa: E402
 from keepers import Keeping, new_url  # noqa: E402
 from long_runs import STOP, LongRun, is_client, text_of  # noqa: E402
 from pagelog import BelowBase, Block, PagelogError, Primary, Put, Reader  # noqa: E402
-from pagelog.keeper.bases import Bases  # noqa: E402
-from pagelog.keeper.referee import digest  # noqa: E402
+from pagelog.referee.bases import Bases  # noqa: E402
+from pagelog.referee.referee import digest  # noqa: E402
 from pagelog.keeper.run import fronts_of  # noqa: E402
 from secured import SecureAlone  # noqa: E402
 from service import PATIENCE, token  # noqa: E402

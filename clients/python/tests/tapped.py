@@ -18,7 +18,7 @@ from unittest.mock import patch
 
 sys.path.insert(0, str(Path(__file__).resolve().parent.parent / "src"))
 
-from pagelog.keeper.rows import Where  # noqa: E402
+from pagelog.referee.rows import Where  # noqa: E402
 from pagelog.keeper.served import Served  # noqa: E402
 
 PUBLIC, OWN = "127.0.0.1", "127.0.0.2"

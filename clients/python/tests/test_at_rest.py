@@ -26,7 +26,7 @@ from pagelog.cli.options import status_of
 from pagelog.cli.trail_words import _times
 from pagelog.cli.words import pagelogctl
 from pagelog.keeper.recorder import Recorder
-from pagelog.keeper.referee import Away, Doubt, KeeperError
+from pagelog.referee.referee import Away, Doubt, KeeperError
 from pagelog.reply import LINE_SIZE, Entry, encode_entry
 from pagelog.request import AUDIT_MAX, Operation, Role
 from pagelog.trail import BrokenTrail, Start, Trail, TrailKeeper, TrailList

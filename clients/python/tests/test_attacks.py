@@ -36,11 +36,11 @@ from keepers import (
 )
 from pagelog import Connection, ConnectionLost, OlderEpoch, OtherPrimary, Primary, Reader
 from pagelog.cli.words import pagelogctl
-from pagelog.keeper import referee as referee_module
-from pagelog.keeper.bases import Base, Bases
+from pagelog.referee import referee as referee_module
+from pagelog.referee.bases import Base, Bases
 from pagelog.keeper.doubts import Doubts, Fenced
-from pagelog.keeper.referee import Doubt, Referee, digest
-from pagelog.keeper.rows import Batch, Kept as KeptBatch
+from pagelog.referee.referee import Doubt, Referee, digest
+from pagelog.referee.rows import Batch, Kept as KeptBatch
 from pagelog.keeper.run import ProcessFacts, Run
 from pagelog.keeper.session import Session
 from pagelog.keeper.shared import Shared
@@ -357,7 +357,7 @@ class Lookups(Referees):
             Mock(), "", Session(self.referee, PATIENCE), Mock(), Mock(), print, print
         ), Mock(reached=1, loaded=1)
         with patch(
-            "pagelog.keeper.referee.threading.Timer", side_effect=AssertionError("a thread")
+            "pagelog.referee.referee.threading.Timer", side_effect=AssertionError("a thread")
         ):
             asyncio.run(shared.fill(served, self.row.id, 3, batch.chain))
         served.fill.assert_called_once_with([list(blocks(2, 2))], 3, batch.chain)

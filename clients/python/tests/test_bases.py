@@ -19,12 +19,12 @@ from keepers import Kept as KeptService
 from keepers import blocks, eventually, new_database, new_url
 from pagelog import Block, Put, Zero
 from pagelog.cli.drop_words import _drop_named
-from pagelog.keeper.bases import NOTHING, Base, Bases, make_base
+from pagelog.referee.bases import NOTHING, Base, Bases, make_base
 from pagelog.errors import ConnectionLost
 from pagelog.keeper.history import begin_again
-from pagelog.keeper.images import MARK
+from pagelog.images import MARK
 from pagelog.keeper.loading import Loader
-from pagelog.keeper.referee import (
+from pagelog.referee.referee import (
     BrokenArchive,
     Doubt,
     KeeperError,
@@ -33,9 +33,9 @@ from pagelog.keeper.referee import (
     Refused,
     digest,
 )
-from pagelog.keeper.rows import Batch, Kept
+from pagelog.referee.rows import Batch, Kept
 from pagelog.keeper.run import Program
-from pagelog.keeper.schema import VERSION, script
+from pagelog.referee.schema import VERSION, script
 from pagelog.keeper.served import Served
 from pagelog.keeper.switch import Switch, number, release, succeed
 from pagelog.trail import Trail
@@ -418,7 +418,7 @@ class Fills(Made):
             return read(of, log, first, last)
 
         self.enterContext(patch.object(Referee, "_piece", piece))
-        self.enterContext(patch("pagelog.keeper.ahead.PIECE", 16))
+        self.enterContext(patch("pagelog.referee.ahead.PIECE", 16))
 
     def follow(self) -> None:
         self.served.follow(self.referee, self.row.id, self.kept.archived, self.kept.chain)
@@ -432,7 +432,7 @@ class Fills(Made):
             ]
         )
         size = sum(map(len, self.blocks[16:56])) + 1
-        with patch("pagelog.keeper.ahead._MOST", (40, size)):
+        with patch("pagelog.referee.ahead._MOST", (40, size)):
             self.follow()
         self.assertEqual(self.pieces, [(1, 16), (17, 56), (57, 60)])
         self.assertEqual(
@@ -497,7 +497,7 @@ class Fills(Made):
     def test_a_block_that_is_missing_or_damaged_leaves_what_was_read_before_it(self) -> None:
         self.write(60)
         with psycopg.connect(self.url, autocommit=True) as connection, patch(
-            "pagelog.keeper.ahead._MOST", (16, 1 << 20)
+            "pagelog.referee.ahead._MOST", (16, 1 << 20)
         ):
             for harm, mend, error in (
                 ("SET lsn = 1000", "SET lsn = 40", "1 of the archived blocks 33 to 48 are missing"),
@@ -539,7 +539,7 @@ class Fills(Made):
             raise ConnectionLost("the service ended the connection")
 
         with patch.object(Referee, "_piece", slow), patch.object(Loader, "_move", killed), patch(
-            "pagelog.keeper.referee.LONGEST", PATIENCE
+            "pagelog.referee.referee.LONGEST", PATIENCE
         ):
             self.assertRaisesRegex(ConnectionLost, "the service ended", self.follow)
         self.assertTrue(ended.is_set())

@@ -16,12 +16,12 @@ from typing import Any, Iterator
 from unittest.mock import AsyncMock, Mock, patch
 
 from pagelog.errors import PagelogError
-from pagelog.keeper.ahead import ahead
+from pagelog.referee.ahead import ahead
 from pagelog.keeper.database import Database
 from pagelog.keeper.ending import Ending
 from pagelog.keeper.machine import RunKind
-from pagelog.keeper.referee import Away, Doubt
-from pagelog.keeper.rows import Kept, TableOf
+from pagelog.referee.referee import Away, Doubt
+from pagelog.referee.rows import Kept, TableOf
 from pagelog.keeper.run import NotStarted, _facts_of
 from pagelog.keeper.served import Access
 from pagelog.keeper.settings import Settings

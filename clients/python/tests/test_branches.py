@@ -12,11 +12,11 @@ from keepers import Kept as KeptService
 from keepers import eventually
 from pagelog import Block, Put
 from pagelog.cli.words import pagelogctl
-from pagelog.keeper.bases import Bases, make_base
+from pagelog.referee.bases import Bases, make_base
 from pagelog.keeper.branching import branch, chain_at
 from pagelog.keeper.history import begin_again
-from pagelog.keeper.referee import digest
-from pagelog.keeper.rows import Batch, Row
+from pagelog.referee.referee import digest
+from pagelog.referee.rows import Batch, Row
 from pagelog.place import WrongToken
 from pagelog.store.mover import Mover
 from pagelog.store.sweeping import sweep
@@ -160,7 +160,7 @@ class ByRows(Old):
         asked: list[str] = []
         get = self.store.get
         with patch(
-            "pagelog.store.place.Folder.get",
+            "pagelog.objects.place.Folder.get",
             lambda _, key, *part: (asked.append(key), get(key, *part))[1],
         ):
             for position, most in ((625, 0), (600, 2), (self.border, 1), (self.border + 5, 1 + 2)):

@@ -27,19 +27,19 @@ from pagelog import Lost
 from pagelog.credentials import load
 from pagelog.cli.words import pagelogctl
 from pagelog.errors import CredentialsError
-from pagelog.keeper.bases import Bases, make_base
+from pagelog.referee.bases import Bases, make_base
 from pagelog.keeper.branching import branch
 from pagelog.keeper.holding import held_since, hold
-from pagelog.keeper.referee import Referee
-from pagelog.keeper.rows import Row
+from pagelog.referee.referee import Referee
+from pagelog.referee.rows import Row
 from pagelog.keeper.storing import Storing
 from pagelog.store import legal_holds
 from pagelog.store.copying import part_of_day, verify
 from pagelog.store.mover import Mover
 from pagelog.store.moving import Moving, Wish
-from pagelog.store.place import Missing, Store, StoreAway, StoreError, Taken, store_of
-from pagelog.store.s3 import TRIES, Bucket
-from pagelog.store.settings import StoreSettings
+from pagelog.objects.place import Missing, Store, StoreAway, StoreError, Taken, store_of
+from pagelog.objects.s3 import TRIES, Bucket
+from pagelog.objects.settings import StoreSettings
 from s3_stub import S3
 from service import PATIENCE, SOURCE, WIDE_TABLE, put
 from sqlite_named import connected
@@ -116,7 +116,7 @@ class Settings(unittest.TestCase):
         """It takes a second of a processor, and is not installed everywhere."""
         code = (
             "import sys; sys.path.insert(0, sys.argv[1]); import pagelog.cli.words, pagelog.keeper.keeping, pagelog.store.moving; "
-            "from pagelog.store.place import store_of; from pagelog.store.settings import StoreSettings; "
+            "from pagelog.objects.place import store_of; from pagelog.objects.settings import StoreSettings; "
             "store_of(StoreSettings('file:///tmp')); print(sorted({m.split('.')[0] for m in sys.modules} & {'boto3', 'botocore'}))"
         )
         command = [sys.executable, "-B", "-c", code, str(SOURCE)]
@@ -520,7 +520,7 @@ class Silent(unittest.TestCase):
             lambda reports: told._take(json.dumps({"logs": reports}).encode()),
         )
         self.addCleanup(made.close)
-        with patch("pagelog.store.s3.READ", read), patch("pagelog.store.s3.TRIES", 1):
+        with patch("pagelog.objects.s3.READ", read), patch("pagelog.objects.s3.TRIES", 1):
             made._opened()
         return made
 

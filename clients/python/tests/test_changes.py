@@ -29,9 +29,9 @@ from pagelog.cli.words import pagelogctl
 from pagelog.errors import PagelogError, TableError
 from pagelog.keeper.keeping import Keeper
 from pagelog.keeper.machine import DatabaseState
-from pagelog.keeper.referee import Away, Doubt, Referee
-from pagelog.keeper.rows import Look, Row, TableOf, Where
-from pagelog.keeper.schema import NUMBERS
+from pagelog.referee.referee import Away, Doubt, Referee
+from pagelog.referee.rows import Look, Row, TableOf, Where
+from pagelog.referee.schema import NUMBERS
 from pagelog.keeper.served import Served
 from pagelog.keeper.settings import Settings
 from pagelog.keeper.switch import Switch, begun, may_begin, number, succeed

@@ -11,13 +11,14 @@ from unittest.mock import patch
 
 from keepers import new_url
 from pagelog import Block, Put
-from pagelog.keeper.bases import Bases, make_base
+from pagelog.referee.bases import Bases, make_base
 from pagelog.keeper.branching import branch
 from pagelog.keeper.holding import hold, let_go
-from pagelog.keeper.images import PAGES, Replay
-from pagelog.keeper.referee import Referee, digest
-from pagelog.keeper.rows import Batch, Kept
-from pagelog.store import compacting, tables
+from pagelog.images import PAGES, Replay
+from pagelog.referee.referee import Referee, digest
+from pagelog.referee.rows import Batch, Kept
+from pagelog.store import compacting
+from pagelog.referee import object_statements as tables
 from pagelog.store.mover import Mover
 from pagelog.store.moving import Wish
 from pagelog.store.packing import PackMover

@@ -20,7 +20,7 @@ from keepers import Kept, new_url
 from pagelog.console.source import Source
 from pagelog.console.watcher import PACE
 from pagelog.cli.words import pagelogctl
-from pagelog.keeper.referee import Referee
+from pagelog.referee.referee import Referee
 from pagelog.trail import Trail, TrailKeeper
 from postgres import SilentProxy, postgres
 from pagelog.request import Get, Pull

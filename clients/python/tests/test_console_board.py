@@ -34,7 +34,7 @@ from pagelog.console.source import Look, NoLook, SourceLook, Source
 from pagelog.console.watcher import Watcher
 from pagelog.console.web import WebPages
 from pagelog.keeper.aside import ASIDE
-from pagelog.keeper.rows import KeeperRow, Row
+from pagelog.referee.rows import KeeperRow, Row
 from service import PATIENCE
 
 ROW = Row(1, "shop", 3, "run", "a", "127.0.0.1:1", archived=1000, base=600)

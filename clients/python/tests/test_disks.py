@@ -16,8 +16,8 @@ import psycopg
 from keepers import Kept, batch_of, eventually, new_database
 from pagelog import NamedPrimary, Put
 from pagelog.keeper.quick import QuickReferee
-from pagelog.keeper.referee import Doubt, OneDisk, Referee, Superseded
-from pagelog.keeper.rows import Look, Synchronous
+from pagelog.referee.referee import Doubt, OneDisk, Referee, Superseded
+from pagelog.referee.rows import Look, Synchronous
 from pagelog.keeper.session import Session
 from pagelog.keeper.switch import Switch, begun, number, succeed
 from pagelog.place import GenerationFate

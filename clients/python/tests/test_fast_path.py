@@ -25,7 +25,8 @@ import psycopg
 
 from keepers import Gate, Kept as KeptService, Line, Trigger, blocks, eventually
 from pagelog import Block, Put
-from pagelog.keeper import fast_calls, fast_plane, statements
+from pagelog.keeper import fast_calls, fast_plane
+from pagelog.referee import statements
 from pagelog.keeper.archiver import RunArchiver
 from pagelog.keeper.doubts import Doubts
 from pagelog.keeper.database import Database
@@ -34,8 +35,8 @@ from pagelog.keeper.loading import Loader
 from pagelog.keeper.quick import QuickReferee
 from pagelog.keeper.fast_plane import FastPlane, QuickSessionOf
 from pagelog.keeper.fast_path import End, FastPath
-from pagelog.keeper.referee import KeeperError, digest
-from pagelog.keeper.rows import Kept
+from pagelog.referee.referee import KeeperError, digest
+from pagelog.referee.rows import Kept
 from pagelog.keeper.run import Program, Run
 from pagelog.keeper.served import Served
 from pagelog.keeper.settings import Settings

@@ -18,15 +18,15 @@ from psycopg.types.json import Jsonb
 from keepers import Keeping, eventually, put
 from pagelog.cli.words import pagelogctl
 from pagelog.keeper.aside import ASIDE
-from pagelog.keeper.bases import Bases, make_base
+from pagelog.referee.bases import Bases, make_base
 from pagelog.keeper.branching import branch
-from pagelog.keeper.fate import Loss, Of
-from pagelog.keeper.referee import KeeperError, Referee, digest
+from pagelog.referee.fate import Loss, Of
+from pagelog.referee.referee import KeeperError, Referee, digest
 from pagelog.store.forwarding import Ahead, OtherHistory, bring, found_ahead
 from pagelog.store.mover import nothing
 from pagelog.store.moving import foreign
-from pagelog.store.place import store_of
-from pagelog.store.segment import BrokenObject, Segment, decode, encode
+from pagelog.objects.place import store_of
+from pagelog.objects.segment import BrokenObject, Segment, decode, encode
 from postgres import Postgres
 from test_images import pages
 from test_rescues import Old

@@ -96,14 +96,13 @@ class Imports(unittest.TestCase):
         self.assertEqual(cycles(self.graph), [])
 
     def test_no_package_imports_itself_by_others(self) -> None:
-        """But for a keeper, its store and its trail, which are one program: each reads what another has kept in PostgreSQL."""
         of = {
             name: name.split(".")[1] for name in self.graph if self.is_of_a_package(name)
         }  # not the client's, which are flat
         graph: dict[str, set[str]] = {package: set() for package in of.values()}
         for name, package in of.items():
             graph[package] |= {of[each] for each in self.graph[name] if each in of} - {package}
-        self.assertEqual(cycles(graph), [["keeper", "store", "trail"]])
+        self.assertEqual(cycles(graph), [])
 
     def is_of_a_package(self, name: str) -> bool:
         """Whether a module is of one of those below `pagelog`."""

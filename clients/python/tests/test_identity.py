@@ -17,8 +17,8 @@ import psycopg
 from keepers import Kept, eventually, new_url
 from pagelog import ConnectionLost, NamedPrimary
 from pagelog.keeper import numbers
-from pagelog.keeper.referee import Referee
-from pagelog.keeper.rows import Row
+from pagelog.referee.referee import Referee
+from pagelog.referee.rows import Row
 from pagelog.place import Keepers, Lost, Place, UnknownName
 from service import PATIENCE, stand_still
 from sqlite_named import connected, enter, error_of

@@ -7,7 +7,7 @@ import unittest
 
 from pagelog import Block, Put, Zero
 from pagelog.block import BLOCK_SIZE, HIGHEST_PAGE, PAGE_SIZE
-from pagelog.keeper.images import MARK, PAGES, Image, Replay, blocks_of, labelled
+from pagelog.images import MARK, PAGES, Image, Replay, blocks_of, labelled
 
 
 def made(blocks: list[bytes], before: dict[int, Image] | None = None) -> dict[int, Image]:

@@ -18,10 +18,10 @@ from keepers import Gate, Trigger, batch_of, eventually, new_database
 from keepers import Kept as KeptService
 from pagelog import Block
 from pagelog.cli.words import pagelogctl
-from pagelog.keeper.bases import Bases, make_base
-from pagelog.keeper.fate import Of
+from pagelog.referee.bases import Bases, make_base
+from pagelog.referee.fate import Of
 from pagelog.keeper.recorder import Recorder, Trails
-from pagelog.keeper.rows import Batch, Kept, Lines, Row
+from pagelog.referee.rows import Batch, Kept, Lines, Row
 from pagelog.keeper.switch import Switch, number, release, succeed
 from pagelog.reply import LINE_SIZE
 from pagelog.trail import OtherKeeper, Trail, TrailKeeper

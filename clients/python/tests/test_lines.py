@@ -169,7 +169,7 @@ class Words(unittest.TestCase):
         self.assertEqual(set(re.findall(r'Key\(f"([a-z]+)=', keeper)), KEYS)
         self.assertLessEqual(set(re.findall(r'keys(?:\.get\(|\[)"([a-z]+)"', python)), KEYS)
         self.assertLessEqual(set(re.findall(r'value_of\(words, count, "([a-z]+)"\)', c)), KEYS)
-        reasons = (PYTHON / "keeper" / "fate.py").read_text()
+        reasons = (PYTHON / "referee" / "fate.py").read_text()
         self.assertEqual(set(re.findall(r'^    [A-Z]+ = "([a-z]+)"$', reasons, re.M)), REASONS)
         self.assertEqual(
             set(re.findall(r'"lost", _, _, "([a-z]+)"', python)) | {"superseded"}, REASONS

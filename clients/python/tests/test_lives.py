@@ -19,8 +19,8 @@ from pagelog.archive import Archive
 from pagelog.block import Block
 from pagelog.connection import Connection
 from pagelog.credentials import Credentials
-from pagelog.keeper.referee import Referee, digest
-from pagelog.keeper.schema import FORMAT
+from pagelog.referee.referee import Referee, digest
+from pagelog.referee.schema import FORMAT
 from pagelog.run_tokens import token_of
 from service import PATIENCE, stand_still, token
 from sqlite_named import connected

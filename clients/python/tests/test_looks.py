@@ -16,7 +16,7 @@ from unittest.mock import AsyncMock, Mock, patch
 from pagelog import Address, Connection, Primary, Put
 from pagelog.errors import AuditListFull, TimedOut
 from pagelog.keeper.looker import Looker
-from pagelog.keeper.rows import Row
+from pagelog.referee.rows import Row
 from pagelog.keeper.run import Program, Run
 from pagelog.keeper.served import FEW, Served
 from pagelog.keeper.session import Session

@@ -25,8 +25,8 @@ from pagelog.keeper.machine import (
     state_of,
 )
 from pagelog.keeper.orphans import OrphanFate, FoundOrphan, fate_of
-from pagelog.keeper.referee import Referee
-from pagelog.keeper.rows import Row, StandbyRow, TableOf
+from pagelog.referee.referee import Referee
+from pagelog.referee.rows import Row, StandbyRow, TableOf
 from pagelog.keeper.run import Seen
 from pagelog.keeper.settings import Settings
 from pagelog.keeper.shared import Shared

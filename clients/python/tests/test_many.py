@@ -16,14 +16,16 @@ import psycopg
 from psycopg.waiting import Ready, Wait
 
 from keepers import Gate, Keeping, Kept, Tried, Trigger, batch_of, blocks, eventually
-from pagelog.keeper import hosts, fast_calls, statements
+from pagelog.keeper import fast_calls
+from pagelog.referee import hosts
+from pagelog.referee import statements
 from pagelog.keeper.doubts import Doubts
 from pagelog.keeper.database import Database
 from pagelog.keeper.quick import QuickReferee
 from pagelog.keeper.fast_plane import FastPlane
 from pagelog.keeper.fast_path import End, FastPath
-from pagelog.keeper.referee import Away, Doubt, Referee, digest
-from pagelog.keeper.rows import Kept as KeptRow, Row
+from pagelog.referee.referee import Away, Doubt, Referee, digest
+from pagelog.referee.rows import Kept as KeptRow, Row
 from pagelog.keeper.run import Program
 from pagelog.keeper.served import Served
 from pagelog.keeper.session import Session

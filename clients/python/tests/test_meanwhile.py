@@ -22,15 +22,15 @@ from pagelog.keeper import served as served_module
 from pagelog.keeper.archiver import RunArchiver, turn_of
 from pagelog.keeper.database import Database
 from pagelog.keeper.doubts import Doubts, Fenced
-from pagelog.keeper.fate import Of
+from pagelog.referee.fate import Of
 from pagelog.keeper.fates import Questions, tell_block, tell_fate
 from pagelog.keeper.keeping import Keeper
 from pagelog.keeper.lines import Server
 from pagelog.keeper.machine import Action, RunKind, Stage
 from pagelog.keeper.fast_path import End
 from pagelog.keeper.recorder import Recorder, RecorderTurn
-from pagelog.keeper.referee import Away, Doubt, Referee, Refused
-from pagelog.keeper.rows import Batch, KeeperRow, Kept, Lines, Look, Row, StandbyRow
+from pagelog.referee.referee import Away, Doubt, Referee, Refused
+from pagelog.referee.rows import Batch, KeeperRow, Kept, Lines, Look, Row, StandbyRow
 from pagelog.keeper.run import Seen
 from pagelog.keeper.served import Access, Health, Lack, RunLog, Served
 from pagelog.keeper.session import Session
@@ -756,7 +756,7 @@ class Connections(unittest.TestCase):
         connection.execute = hangs
         referee = Referee("postgresql://nobody@/none?host=/nowhere")
         with patch("psycopg.connect", return_value=connection), patch(
-            "pagelog.keeper.referee.shut_down", lambda of: of is connection and is_cut.set()
+            "pagelog.referee.referee.shut_down", lambda of: of is connection and is_cut.set()
         ):
             raised: list[BaseException] = []
 

@@ -21,7 +21,7 @@ import pagelog
 from pagelog import Block, Credentials, Group, InDoubt, Lost, NamedPrimary, NamedReader, Unwritten
 from pagelog.dialing import dial
 from pagelog.following import CONFIRM
-from pagelog.keeper.referee import digest
+from pagelog.referee.referee import digest
 from pagelog.keeper.run import Program
 from pagelog.keeper.served import Served
 from pagelog.keeper.table import Form, table_of_run

@@ -33,10 +33,10 @@ from pagelog.console.source import Source
 from pagelog.credentials import load
 from pagelog.cli.words import pagelogctl
 from pagelog.errors import ConnectionLost, Unreachable
-from pagelog.keeper.bases import Bases, make_base
-from pagelog.keeper.images import Replay
-from pagelog.keeper.referee import BrokenArchive, Doubt, Referee, digest
-from pagelog.keeper.rows import PagesRow
+from pagelog.referee.bases import Bases, make_base
+from pagelog.images import Replay
+from pagelog.referee.referee import BrokenArchive, Doubt, Referee, digest
+from pagelog.referee.rows import PagesRow
 from pagelog.run_tokens import token_of
 from pagelog.pages import following
 from pagelog.pages.bell import Told as Word
@@ -47,7 +47,7 @@ from pagelog.pages.stores import MOST_ASIDE, SetAside, PageStore, asides_in
 from pagelog.place import BelowBase
 from pagelog.request import Role
 from pagelog.rules import AboveTheEnd, UnknownPrincipal
-from pagelog.store.settings import StoreSettings
+from pagelog.objects.settings import StoreSettings
 from service import PATIENCE, TABLE, WIDE_TABLE, Service, token
 from test_set_back import SetBack
 

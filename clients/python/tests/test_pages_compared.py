@@ -15,7 +15,7 @@ import psycopg
 from keepers import eventually
 from pagelog import Put
 from pagelog.block import HIGHEST_PAGE
-from pagelog.keeper.bases import make_base
+from pagelog.referee.bases import make_base
 from pagelog.pages.comparing import Ranges
 from pagelog.request import Operation
 from test_pages import Apart

@@ -20,7 +20,7 @@ import psycopg
 from keepers import Keeping, eventually
 from pages_made import Made
 from pagelog import Block, NamedReader, Put, Reader, Zero
-from pagelog.keeper.referee import digest
+from pagelog.referee.referee import digest
 from pagelog.page_copies import PagesQuestion
 from pagelog.page_tail import Tail
 from pagelog.place import Keepers, PageServerPlace, UnknownName

@@ -16,8 +16,8 @@ from keepers import eventually
 from pages_made import Made
 from pagelog import Connection, Credentials, NamedReader, Operator
 from pagelog.errors import ConnectionLost, PagelogError, Unreachable
-from pagelog.keeper.referee import Referee
-from pagelog.keeper.rows import PagesRow
+from pagelog.referee.referee import Referee
+from pagelog.referee.rows import PagesRow
 from pagelog.keeper.table import token_of
 from pagelog.pages.following import Follower, PageServerSettings
 from pagelog.pages.process import PagesProcess

@@ -13,7 +13,7 @@ import psycopg
 from keepers import eventually
 from pagelog import Connection, Credentials, Reader
 from pagelog.errors import ConnectionLost, Unreachable
-from pagelog.keeper.referee import digest
+from pagelog.referee.referee import digest
 from pagelog.pages.following import Follower, PageServerSettings
 from pagelog.pages.metrics import PagesCollector
 from pagelog.pages.process import PagesProcess, StoreFailed

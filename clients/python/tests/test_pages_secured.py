@@ -28,7 +28,7 @@ from pagelog.credentials import load
 from pagelog.cli.words import pagelogctl
 from pagelog.errors import ConnectionLost, TimedOut, Unreachable
 from pagelog.keeper.certificate import Pair
-from pagelog.keeper.referee import Referee
+from pagelog.referee.referee import Referee
 from pagelog.pages.following import PageServerSettings
 from pagelog.pages.process import PagesProcess, Serving
 from pagelog.pages.serving import PageServers

@@ -10,7 +10,7 @@ from contextlib import closing
 
 import psycopg
 from keepers import Keeping, eventually
-from pagelog.keeper.bases import make_base
+from pagelog.referee.bases import make_base
 from service import PATIENCE
 from sqlite_named import connected, error_of
 from test_pages import Apart

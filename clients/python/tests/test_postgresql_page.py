@@ -19,8 +19,8 @@ from typing import Any, Callable
 import psycopg
 from keepers import Keeping, eventually
 from pagelog import NamedPrimary, Put
-from pagelog.keeper.bases import make_base
-from pagelog.keeper.referee import Referee
+from pagelog.referee.bases import make_base
+from pagelog.referee.referee import Referee
 from pagelog.keeper.run import kept_in
 from postgres import Postgres, programs
 from service import PATIENCE, TOP

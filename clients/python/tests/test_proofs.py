@@ -13,7 +13,7 @@ from keepers import Kept, eventually
 from pagelog.following import NamedAccount
 from pagelog.keeper.fates import Questions, tell_block, tell_fate
 from pagelog.keeper.lines import Line
-from pagelog.keeper.referee import Referee
+from pagelog.referee.referee import Referee
 from pagelog.keeper.session import Session
 from pagelog.run_tokens import proof_of
 from pagelog.keeper.turns import Turns

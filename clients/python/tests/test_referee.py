@@ -10,10 +10,10 @@ from unittest.mock import patch
 import psycopg
 
 from keepers import Line, Replying, batch_of, blocks, eventually, new_database, new_url
-from pagelog.keeper import statements
-from pagelog.keeper.bases import transaction
-from pagelog.keeper.referee import Away, BrokenArchive, Doubt, Referee, Refused, Superseded, digest
-from pagelog.keeper.rows import Batch, Kept, Row, Where
+from pagelog.referee import statements
+from pagelog.referee.bases import transaction
+from pagelog.referee.referee import Away, BrokenArchive, Doubt, Referee, Refused, Superseded, digest
+from pagelog.referee.rows import Batch, Kept, Row, Where
 from pagelog.keeper.switch import Switch, begun, number, succeed
 from postgres import SilentProxy, postgres
 from service import PATIENCE

@@ -9,18 +9,18 @@ from click.testing import CliRunner
 
 from keepers import new_url
 from pagelog.cli.words import pagelogctl
-from pagelog.keeper.bases import Bases, make_base
+from pagelog.referee.bases import Bases, make_base
 from pagelog.keeper.branching import branch
-from pagelog.keeper.fate import Loss, Of
+from pagelog.referee.fate import Loss, Of
 from pagelog.keeper.history import begin_again, extent_of, position_at
-from pagelog.keeper.images import Replay
-from pagelog.keeper.referee import KeeperError, Referee, digest
-from pagelog.keeper.rows import Row
+from pagelog.images import Replay
+from pagelog.referee.referee import KeeperError, Referee, digest
+from pagelog.referee.rows import Row
 from pagelog.store.histories import NoHistory
 from pagelog.store.mover import Mover
-from pagelog.store.pack import read_manifest
+from pagelog.objects.pack import read_manifest
 from pagelog.store.rescuing import Rescued, rescue
-from pagelog.store.segment import BrokenObject
+from pagelog.objects.segment import BrokenObject
 from pagelog.store.sweeping import sweep
 from service import TABLE
 from test_images import pages

@@ -41,8 +41,8 @@ from pagelog.keeper.doubts import Doubts
 from pagelog.keeper.acknowledged import memory_of, new_memory
 from pagelog.keeper.definition import Definition, Seal
 from pagelog.keeper.loading import Loader
-from pagelog.keeper.referee import Away, BrokenArchive, digest
-from pagelog.keeper.rows import Row, TableOf
+from pagelog.referee.referee import Away, BrokenArchive, digest
+from pagelog.referee.rows import Row, TableOf
 from pagelog.keeper import run as run_module
 from pagelog.keeper.run import (
     NotStarted,

@@ -17,8 +17,8 @@ from keepers import Keeping, eventually, new_url
 from pagelog import NamedPrimary
 from pagelog.cli.words import pagelogctl
 from pagelog.errors import CredentialsError, TableError
-from pagelog.keeper.referee import Referee, Sealed
-from pagelog.keeper.sealed import INSTEAD, Keys, NoKey, Stored, id_of
+from pagelog.referee.referee import Referee, Sealed
+from pagelog.referee.sealed import INSTEAD, Keys, NoKey, Stored, id_of
 from pagelog.keeper.table import read_table
 from postgres import programs
 from service import PATIENCE, WIDE_TABLE, put, token

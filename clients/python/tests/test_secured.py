@@ -31,15 +31,15 @@ from pagelog.console.running import begin
 from pagelog.cli.metrics import serve
 from pagelog.errors import CredentialsError
 from pagelog.keeper.certificate import Pair, ShownFile
-from pagelog.keeper.fate import Of
+from pagelog.referee.fate import Of
 from pagelog.keeper.fronted import may_ask
 from pagelog.keeper.unix import near
-from pagelog.keeper.hosts import is_loopback, unverified
+from pagelog.referee.hosts import is_loopback, unverified
 from pagelog.keeper.proxied import SIGNATURE, ProxyHead, taken
-from pagelog.keeper.referee import Away, Referee, options_of
+from pagelog.referee.referee import Away, Referee, options_of
 from pagelog.keeper.run import fronts_of, has_services
 from pagelog.keeper.settings import Settings
-from pagelog.keeper.ways import Way, address_for, way_of
+from pagelog.referee.ways import Way, address_for, way_of
 from replicated import DATABASE, Server, Sessions, url_of
 from secured import Certificates, Secured, Wire, answer_of, clients_by
 from service import PATIENCE, TOP, put, token

@@ -22,7 +22,7 @@ from typing import Callable, Iterator
 import psycopg
 from keepers import Keeping, eventually
 from pagelog import Lost, Put
-from pagelog.keeper.referee import Referee
+from pagelog.referee.referee import Referee
 from pagelog.place import UnknownName
 from postgres import FSYNC, PATIENCE, Postgres
 from service import IS_LONG

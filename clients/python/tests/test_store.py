@@ -25,12 +25,12 @@ from click.testing import CliRunner
 from pagelog import Block, Put
 from pagelog.cli.drop_words import _drop_named
 from pagelog.cli.words import pagelogctl
-from pagelog.keeper.bases import NOTHING, Base, Bases, make_base
+from pagelog.referee.bases import NOTHING, Base, Bases, make_base
 from pagelog.keeper.basing import BaseWish
 from pagelog.keeper.history import begin_again, extent_of, position_at
 from pagelog.keeper.holding import hold, let_go
-from pagelog.keeper.images import MARK, Replay
-from pagelog.keeper.referee import (
+from pagelog.images import MARK, Replay
+from pagelog.referee.referee import (
     Away,
     BrokenArchive,
     BrokenBase,
@@ -40,16 +40,17 @@ from pagelog.keeper.referee import (
     Referee,
     digest,
 )
-from pagelog.keeper.rows import Batch, Kept
-from pagelog.keeper.schema import _STORE
-from pagelog.store import packing, tables
+from pagelog.referee.rows import Batch, Kept
+from pagelog.referee.schema import _STORE
+from pagelog.store import packing
+from pagelog.referee import object_statements as tables
 from pagelog.store.mover import Mover
 from pagelog.store.moving import Moving, Wish, foreign
-from pagelog.store.pack import image_of, read_manifest
+from pagelog.objects.pack import image_of, read_manifest
 from pagelog.store.packing import PackMover
-from pagelog.store.place import Folder, Missing, Store, StoreAway, StoreError, store_of
-from pagelog.store.segment import BrokenObject, SegmentHead, Segment, decode, encode, named
-from pagelog.store.settings import StoreSettings
+from pagelog.objects.place import Folder, Missing, Store, StoreAway, StoreError, store_of
+from pagelog.objects.segment import BrokenObject, SegmentHead, Segment, decode, encode, named
+from pagelog.objects.settings import StoreSettings
 from pagelog.store.sweeping import sweep
 from test_images import pages
 from test_referee import Referees
@@ -613,7 +614,7 @@ class Images(WithImages):
         asked: list[tuple[Any, ...]] = []
         get = self.store.get
         with patch(
-            "pagelog.store.place.Folder.get",
+            "pagelog.objects.place.Folder.get",
             lambda _, key, *part: (asked.append((key, *part)), get(key, *part))[1],
         ):
             reader = self.reading()
@@ -1149,10 +1150,10 @@ def peak():
     return int(re.search(r"VmHWM:\\s+(\\d+)", open("/proc/self/status").read())[1]) << 10
 """
 MOVING = """
-from pagelog.keeper.referee import Referee
+from pagelog.referee.referee import Referee
 from pagelog.store.mover import Mover
 from pagelog.store.moving import Wish
-from pagelog.store.place import store_of
+from pagelog.objects.place import store_of
 wish, before = Wish.read(sys.argv[1]), peak()
 mover = Mover(Referee(wish.url, store=wish.store), store_of(wish.store), int(sys.argv[2]), "shop", sys.argv[3], wish.store)
 while mover.step():
@@ -1213,9 +1214,9 @@ print(before, peak())
         taken["mover"] = peak_of(MOVING, line, str(self.row.id), self.row.identity)
         self.assertEqual((self.in_postgres(), self.here()), ([], []))
         program = """
-from pagelog.keeper.bases import Bases
+from pagelog.referee.bases import Bases
 from pagelog.keeper.basing import BaseWish
-from pagelog.keeper.referee import Referee
+from pagelog.referee.referee import Referee
 wish, before = BaseWish.read(sys.argv[1]), peak()
 bases = Bases(Referee(wish.url, store=wish.store), wish.log)
 for image in bases.images(bases.newest(wish.archived)):

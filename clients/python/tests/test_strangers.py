@@ -24,7 +24,7 @@ from pagelog.keeper.fates import EACH_BLOCK, EACH_FATE, Questions, tell_block, t
 from pagelog.keeper.keeping import EACH_WHERE
 from pagelog.keeper.metrics import KeeperCollector
 from pagelog.keeper.places import Places
-from pagelog.keeper.referee import KeeperError, Referee
+from pagelog.referee.referee import KeeperError, Referee
 from pagelog.keeper.session import Session
 from pagelog.place import Keepers
 from service import PATIENCE

@@ -13,9 +13,9 @@ import pages_program
 import tapped
 from keepers import Keeping, eventually
 from pagelog import Put
-from pagelog.keeper.referee import Referee
+from pagelog.referee.referee import Referee
 from pagelog.keeper.table import token_of
-from pagelog.keeper.ways import Way
+from pagelog.referee.ways import Way
 from pagelog.pages.following import PageServerSettings
 from pagelog.pages.process import PagesProcess, Serving
 from pagelog.pages.serving import PageServers

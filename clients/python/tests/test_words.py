@@ -20,8 +20,8 @@ from click.testing import CliRunner
 
 from keepers import Kept, Trigger, eventually, new_database, new_url
 from pagelog.cli.words import WORDS, pagelogctl
-from pagelog.keeper.bases import make_base
-from pagelog.keeper.referee import Referee, digest
+from pagelog.referee.bases import make_base
+from pagelog.referee.referee import Referee, digest
 from service import PATIENCE, SOURCE
 
 INDIA = "Asia/Kolkata"

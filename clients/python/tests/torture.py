@@ -37,7 +37,7 @@ from pagelog import (
     Reader,
     Unwritten,
 )  # noqa: E402
-from pagelog.keeper.rows import Row  # noqa: E402
+from pagelog.referee.rows import Row  # noqa: E402
 from pagelog.keeper.run import fronts_of  # noqa: E402
 from pagelog.place import Keepers  # noqa: E402
 from replicated import Pair, url_of  # noqa: E402

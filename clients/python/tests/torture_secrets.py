@@ -16,8 +16,8 @@ from typing import Any, Iterable, Iterator
 import psycopg
 
 from keepers import Keeping
-from pagelog.keeper.referee import KeeperError, Referee
-from pagelog.keeper.sealed import Keys
+from pagelog.referee.referee import KeeperError, Referee
+from pagelog.referee.sealed import Keys
 from pagelog.keeper.table import keeper_of, tokens_of
 from pagelog.run_tokens import token_of
 

@@ -22,9 +22,9 @@ from typing import Any, Mapping, Sequence
 
 from pagelog.connection import Address
 from pagelog.errors import CredentialsError
+from pagelog.objects.settings import StoreSettings
 from pagelog.request import COPIES_OF_QUORUM, QUORUM, Role
 from pagelog.secure import WORDS, Trust, of_environment, trust_of
-from pagelog.store.settings import StoreSettings
 
 FILE_VARIABLE = "PAGELOG_CREDENTIALS"
 """The variable of the environment that names the file."""

@@ -12,7 +12,7 @@ from pagelog.cli.keeper_words import named, referee_word, text_of_table
 from pagelog.cli.options import fail
 from pagelog.keeper.branching import branch
 from pagelog.keeper.history import position_at
-from pagelog.keeper.referee import Referee
+from pagelog.referee.referee import Referee
 from pagelog.times import in_both_zones
 
 

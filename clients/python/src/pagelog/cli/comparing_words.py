@@ -9,15 +9,15 @@ from dataclasses import asdict
 import click
 
 from pagelog.block import HIGHEST_LSN
-from pagelog.connection import Connection
-from pagelog.credentials import Accounts
 from pagelog.cli.keeper_words import named, referee_of
 from pagelog.cli.options import AGAIN, bar, fail, timeout
-from pagelog.keeper.bases import Bases
-from pagelog.keeper.rows import Look, PagesRow, Row, TableOf
+from pagelog.connection import Connection
+from pagelog.credentials import Accounts
 from pagelog.keeper.table import keeper_of
 from pagelog.pages.comparing import Copy, compare, position_of_all, written
 from pagelog.reader import Reader
+from pagelog.referee.bases import Bases
+from pagelog.referee.rows import Look, PagesRow, Row, TableOf
 from pagelog.secure import Trust
 
 

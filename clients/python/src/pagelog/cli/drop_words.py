@@ -9,14 +9,14 @@ from click.core import ParameterSource
 
 from pagelog.archive import Archive
 from pagelog.archive.care import KeptLog, drop, logs_of
-from pagelog.credentials import Accounts
 from pagelog.cli.deleting import agree, counted, yes_option
 from pagelog.cli.hold_words import refuse_held
 from pagelog.cli.keeper_words import facts_of, named, referee_of
 from pagelog.cli.options import credentials_option, fail, faults, url_of, url_options
+from pagelog.credentials import Accounts
 from pagelog.keeper.history import extent_of
-from pagelog.keeper.referee import Referee
-from pagelog.keeper.rows import Look, Row
+from pagelog.referee.referee import Referee
+from pagelog.referee.rows import Look, Row
 from pagelog.times import in_both_zones
 
 _IDENTITY = "SELECT to_jsonb(l) ->> 'identity' FROM pagelog_log l WHERE id = %s"

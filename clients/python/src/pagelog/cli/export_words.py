@@ -10,7 +10,7 @@ import click
 
 from pagelog.archive import Archive
 from pagelog.cli.options import bar, fail
-from pagelog.store.settings import StoreSettings
+from pagelog.objects.settings import StoreSettings
 from pagelog.trail.export import Exported, export
 from pagelog.trail.logs import Log, log_of
 from pagelog.trail.store import Start, Trail, TrailList

@@ -4,15 +4,14 @@ from __future__ import annotations
 
 import click
 
-from pagelog.credentials import Accounts
 from pagelog.cli.deleting import agree, counted, yes_option
 from pagelog.cli.heartbeats import is_alive, ttl_of
 from pagelog.cli.keeper_words import Asked, referee_of
 from pagelog.cli.options import AGAIN, credentials_option, fail, faults
-from pagelog.keeper.aside import ASIDE
-from pagelog.keeper.referee import Referee
-from pagelog.keeper.rows import KeeperRow, Look, PagesRow
+from pagelog.credentials import Accounts
 from pagelog.pages.stores import sentence
+from pagelog.referee.referee import Referee
+from pagelog.referee.rows import ASIDE, KeeperRow, Look, PagesRow
 
 _FORGET = """
 WITH gone AS (

@@ -7,16 +7,16 @@ from typing import TYPE_CHECKING
 
 import click
 
-from pagelog.credentials import Accounts
 from pagelog.cli.deleting import agree, counted
+from pagelog.cli.heartbeats import Heartbeats, ttl_of
 from pagelog.cli.keeper_words import Asked, named, referee_of
 from pagelog.cli.options import AGAIN, bar, credentials_option, fail, faults, settings_of
-from pagelog.cli.heartbeats import Heartbeats, ttl_of
+from pagelog.credentials import Accounts
 from pagelog.keeper.aside import asides_of
 from pagelog.keeper.history import extent_of
-from pagelog.keeper.referee import Referee
-from pagelog.keeper.rows import Look, Row
-from pagelog.keeper.schema import CHANNEL
+from pagelog.referee.referee import Referee
+from pagelog.referee.rows import Look, Row
+from pagelog.referee.schema import CHANNEL
 from pagelog.repeating import Backoff
 from pagelog.times import in_both_zones
 
@@ -40,8 +40,8 @@ def forward_word(accounts: Accounts, name: str, yes: bool) -> None:
     Example:
       pagelogctl store forward shop --credentials keeper.toml
     """
+    from pagelog.objects.place import store_of
     from pagelog.store.forwarding import bring, found_ahead
-    from pagelog.store.place import store_of
 
     store = store_of(settings_of(accounts))
     with referee_of(accounts, Asked) as referee:

@@ -5,14 +5,14 @@ from __future__ import annotations
 import time
 from typing import Collection
 
-from pagelog.credentials import Accounts
 from pagelog.cli.options import fail
+from pagelog.credentials import Accounts
 from pagelog.keeper.machine import PATIENCE
-from pagelog.keeper.referee import Referee
-from pagelog.keeper.rows import Look
-from pagelog.keeper.schema import CHANNEL
-from pagelog.keeper.sealed import KEYS
 from pagelog.keeper.settings import TTL
+from pagelog.referee.referee import Referee
+from pagelog.referee.rows import Look
+from pagelog.referee.schema import CHANNEL
+from pagelog.referee.sealed import KEYS
 from pagelog.repeating import Backoff
 
 _PAGES = 3.0

@@ -6,17 +6,17 @@ from datetime import datetime
 
 import click
 
-from pagelog.credentials import Accounts, keep_of
 from pagelog.cli.deleting import agree, counted, yes_option
+from pagelog.cli.heartbeats import refuse_keepers_without
 from pagelog.cli.hold_words import refuse_held
 from pagelog.cli.keeper_words import named, referee_of, referee_word
 from pagelog.cli.options import WRONG, credentials_option, fail, faults
-from pagelog.cli.heartbeats import refuse_keepers_without
-from pagelog.keeper.bases import Bases
+from pagelog.credentials import Accounts, keep_of
 from pagelog.keeper.history import begin_again, below, extent_of, position_at, spans
-from pagelog.keeper.referee import Referee
-from pagelog.keeper.rows import Row
 from pagelog.keeper.switch import wish_for
+from pagelog.referee.bases import Bases
+from pagelog.referee.referee import Referee
+from pagelog.referee.rows import Row
 from pagelog.times import FORMS, in_both_zones, moment
 
 

@@ -6,14 +6,14 @@ from typing import TYPE_CHECKING
 
 import click
 
-from pagelog.credentials import Accounts
 from pagelog.cli.deleting import counted
 from pagelog.cli.keeper_words import Asked, named, referee_of
 from pagelog.cli.options import bar, credentials_option, fail, faults, settings_of
+from pagelog.credentials import Accounts
 from pagelog.keeper.history import extent_of
 from pagelog.keeper.holding import held_since, hold, let_go
-from pagelog.keeper.referee import Referee
-from pagelog.keeper.rows import Row
+from pagelog.referee.referee import Referee
+from pagelog.referee.rows import Row
 from pagelog.times import in_both_zones
 
 if TYPE_CHECKING:
@@ -89,8 +89,8 @@ def _release(accounts: Accounts, referee: Referee, row: Row) -> None:
 
 
 def _holding(accounts: Accounts) -> Holding:
+    from pagelog.objects.place import store_of
     from pagelog.store.legal_holds import holding
-    from pagelog.store.place import store_of
 
     return holding(store_of(settings_of(accounts)))
 

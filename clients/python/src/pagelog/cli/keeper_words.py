@@ -19,14 +19,14 @@ from typing import TYPE_CHECKING, Any, Callable, Iterator, Mapping, NoReturn, Se
 import click
 import psycopg
 
-from pagelog.credentials import Accounts
 from pagelog.cli.options import AGAIN, credentials_option, fail, faults, url_of_referee
-from pagelog.keeper.hosts import is_loopback
-from pagelog.keeper.referee import LONGEST, NAME, Away, Doubt, Referee, Refused, Sealed
-from pagelog.keeper.rows import Look, Row
-from pagelog.keeper.sealed import Keys
+from pagelog.credentials import Accounts
 from pagelog.keeper.settings import Settings
 from pagelog.keeper.table import Form, read_table, table_of_run
+from pagelog.referee.hosts import is_loopback
+from pagelog.referee.referee import LONGEST, NAME, Away, Doubt, Referee, Refused, Sealed
+from pagelog.referee.rows import Look, Row
+from pagelog.referee.sealed import Keys
 
 if TYPE_CHECKING:
     from pagelog.keeper.keeping import Keeper

@@ -11,9 +11,9 @@ import click
 from pagelog.cli.history_words import columns_of
 from pagelog.cli.keeper_words import facts_of, referee_word
 from pagelog.keeper.aside import asides_of
-from pagelog.keeper.referee import Referee
-from pagelog.keeper.rows import told
 from pagelog.pages.stores import sentence
+from pagelog.referee.referee import Referee
+from pagelog.referee.rows import told
 
 _USUAL = ("name", "state", "generation", "holder", "position", "lag", "why")
 _WIDE = (

@@ -21,7 +21,6 @@ from click.core import ParameterSource
 from pagelog.client import Client
 from pagelog.connection import Connection
 from pagelog.credentials import FILE_VARIABLE, Accounts, load
-from pagelog.times import duration
 from pagelog.errors import (
     AuditListFull,
     ConnectionLost,
@@ -33,9 +32,10 @@ from pagelog.errors import (
 )
 from pagelog.rules import BelowQuorum, NoSuchCopy
 from pagelog.secure import WORDS
+from pagelog.times import duration
 
 if TYPE_CHECKING:
-    from pagelog.store.settings import StoreSettings
+    from pagelog.objects.settings import StoreSettings
 
 Word = TypeVar("Word", bound=Callable[..., Any])
 Kind = TypeVar("Kind", bound=Client)
@@ -390,7 +390,7 @@ def url_of_referee(accounts: Accounts) -> str:
 
 def settings_of(accounts: Accounts, url: str | None = None) -> StoreSettings:
     """Those of the file, or of another place with the same options."""
-    from pagelog.store.settings import StoreSettings, check_url
+    from pagelog.objects.settings import StoreSettings, check_url
 
     if url is None:
         if accounts.store is None:

@@ -15,14 +15,14 @@ from typing import TYPE_CHECKING, Any, Mapping
 
 import click
 
-from pagelog.credentials import Accounts
 from pagelog.cli.keeper_words import named
 from pagelog.cli.options import credentials_option, fail, faults, url_of_referee
 from pagelog.cli.waiting_words import write_private
-from pagelog.keeper.hosts import is_loopback
+from pagelog.credentials import Accounts
 from pagelog.pages.following import PageServerSettings
 from pagelog.pages.process import Serving
 from pagelog.pages.stores import asides_in, not_aside_in, sentence
+from pagelog.referee.hosts import is_loopback
 
 if TYPE_CHECKING:
     from pagelog.pages.serving import PageServers
@@ -128,9 +128,9 @@ def pages_word(
       pagelogctl pages --folder stores --listen 10.0.0.4 --credentials keeper.toml
       pagelogctl pages --folder stores --open 9f86d081884c7d65 --keys saved.toml
     """
-    from pagelog.keeper.referee import Referee
-    from pagelog.keeper.sealed import Keys
     from pagelog.pages.serving import FolderInUse, PageServers
+    from pagelog.referee.referee import Referee
+    from pagelog.referee.sealed import Keys
 
     if (run is None) != (keys is None) or (lists and run is not None):
         raise click.UsageError("--list, or --open RUN with --keys FILE")

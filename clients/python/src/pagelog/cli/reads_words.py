@@ -7,19 +7,19 @@ from datetime import datetime
 
 import click
 
-from pagelog.credentials import Accounts
 from pagelog.cli.heartbeats import Heartbeats, ttl_of
 from pagelog.cli.keeper_words import Asked, named, referee_of
 from pagelog.cli.options import AGAIN, credentials_option, fail, faults
 from pagelog.cli.table_changes import row_of
-from pagelog.keeper.referee import Away, Doubt, Referee
-from pagelog.keeper.rows import PagesRow, Row
+from pagelog.credentials import Accounts
 from pagelog.pages.reads import (
     audit_reads,
     audited_since,
     let_page_servers_answer,
     still_audited,
 )
+from pagelog.referee.referee import Away, Doubt, Referee
+from pagelog.referee.rows import PagesRow, Row
 from pagelog.repeating import Backoff
 from pagelog.times import in_both_zones
 

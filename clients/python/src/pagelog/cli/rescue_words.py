@@ -10,24 +10,24 @@ import click
 
 from pagelog.archive import Archive
 from pagelog.archive.archiving import Archiver
-from pagelog.connection import Connection
-from pagelog.credentials import Accounts
 from pagelog.cli.deleting import agree, counted, yes_option
+from pagelog.cli.heartbeats import refuse_keepers_without
 from pagelog.cli.keeper_words import Asked, named, referee_of
 from pagelog.cli.options import bar, credentials_option, fail, faults, timeout
-from pagelog.cli.heartbeats import refuse_keepers_without
+from pagelog.connection import Connection
+from pagelog.credentials import Accounts
 from pagelog.errors import PagelogError
 from pagelog.keeper.aside import asides_of
 from pagelog.keeper.definition import Definition
 from pagelog.keeper.history import extent_of
-from pagelog.keeper.referee import BrokenArchive, KeeperError, Referee
 from pagelog.keeper.rescuing import saved_as
-from pagelog.keeper.rows import Look, Row
 from pagelog.keeper.run import ProcessFacts, Run
 from pagelog.keeper.served import Served
 from pagelog.keeper.table import keeper_of
 from pagelog.pages.stores import sentence
 from pagelog.reader import Reader
+from pagelog.referee.referee import BrokenArchive, KeeperError, Referee
+from pagelog.referee.rows import Look, Row
 from pagelog.rules import UnknownPrincipal
 
 

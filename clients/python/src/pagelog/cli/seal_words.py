@@ -6,13 +6,13 @@ import time
 
 import click
 
-from pagelog.credentials import Accounts
 from pagelog.cli.heartbeats import refuse_keepers_without
 from pagelog.cli.keeper_words import referee_of
 from pagelog.cli.options import AGAIN, WRONG, credentials_option, fail, faults
-from pagelog.keeper.referee import Referee
-from pagelog.keeper.sealed import KEYS, Keys
+from pagelog.credentials import Accounts
 from pagelog.keeper.settings import TTL
+from pagelog.referee.referee import Referee
+from pagelog.referee.sealed import KEYS, Keys
 from pagelog.repeating import Backoff
 
 

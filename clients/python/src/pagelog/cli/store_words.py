@@ -11,16 +11,16 @@ from typing import TYPE_CHECKING
 
 import click
 
-from pagelog.credentials import Accounts
 from pagelog.cli.deleting import agree, counted, yes_option
 from pagelog.cli.forward_words import forward_word
 from pagelog.cli.keeper_words import Asked, named, referee_of, text_of_table
 from pagelog.cli.options import bar, credentials_option, fail, faults, settings_of
+from pagelog.credentials import Accounts
 from pagelog.times import in_both_zones
 
 if TYPE_CHECKING:
+    from pagelog.objects.settings import StoreSettings
     from pagelog.store.rescuing import Rescued
-    from pagelog.store.settings import StoreSettings
 
 
 _KINDS = {"blocks": "object", "images": "pack", "bases": "manifest"}
@@ -97,8 +97,8 @@ def prune_word(accounts: Accounts, yes: bool) -> None:
     Example, with a copy of keeper.toml in which `profile` is another:
       pagelogctl store prune --credentials admin.toml
     """
-    from pagelog.store import tables
-    from pagelog.store.place import store_of
+    from pagelog.objects.place import store_of
+    from pagelog.referee import object_statements as tables
     from pagelog.store.sweeping import sweep
 
     settings = settings_of(accounts)
@@ -136,7 +136,7 @@ def rescue_stored(
     accounts: Accounts, name: str, url: str, into: str | None, table: Path, folder: str | None
 ) -> None:
     """Writes a database into a PostgreSQL that has none of the name."""
-    from pagelog.store.place import store_of
+    from pagelog.objects.place import store_of
     from pagelog.store.rescuing import rescue
 
     text = text_of_table(table, name)

@@ -4,13 +4,13 @@ from __future__ import annotations
 
 import click
 
-from pagelog.credentials import Accounts
 from pagelog.cli.heartbeats import is_alive, ttl_of
-from pagelog.cli.list_words import whom
 from pagelog.cli.keeper_words import Asked, named, referee_of
+from pagelog.cli.list_words import whom
 from pagelog.cli.options import AGAIN, credentials_option, fail, faults
-from pagelog.keeper.referee import Referee
-from pagelog.keeper.rows import Look, Row
+from pagelog.credentials import Accounts
+from pagelog.referee.referee import Referee
+from pagelog.referee.rows import Look, Row
 
 ANY = "*"
 """The wish for any other keeper."""

@@ -8,17 +8,17 @@ from typing import Any, Callable
 
 import click
 
-from pagelog.credentials import Accounts
-from pagelog.cli.options import AGAIN, fail
 from pagelog.cli.heartbeats import Heartbeats, refuse_keepers_without
+from pagelog.cli.options import AGAIN, fail
+from pagelog.credentials import Accounts
 from pagelog.errors import TableError
 from pagelog.keeper.aside import asides_of
 from pagelog.keeper.machine import PATIENCE
-from pagelog.keeper.referee import Away, Doubt, Referee
-from pagelog.keeper.rows import Look, Row
-from pagelog.keeper.schema import CHANNEL, NUMBERS
 from pagelog.keeper.settings import TTL
 from pagelog.keeper.table import Form, read_table, table_of_run
+from pagelog.referee.referee import Away, Doubt, Referee
+from pagelog.referee.rows import Look, Row
+from pagelog.referee.schema import CHANNEL, NUMBERS
 from pagelog.repeating import Backoff
 from pagelog.request import TEXT_SIZE
 from pagelog_model.table import Read, read

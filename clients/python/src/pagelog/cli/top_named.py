@@ -12,8 +12,8 @@ from rich.text import Text
 
 from pagelog.cli.keeper_words import facts_of
 from pagelog.cli.top import rate
-from pagelog.keeper.referee import Referee
-from pagelog.keeper.rows import Look, Row
+from pagelog.referee.referee import Referee
+from pagelog.referee.rows import Look, Row
 
 SILENT = 5.0
 """Seconds after which a holder whose beat stands still is told."""

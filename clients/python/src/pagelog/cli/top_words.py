@@ -10,7 +10,6 @@ from typing import TYPE_CHECKING, Any, Callable, Iterator
 
 import click
 
-from pagelog.credentials import Accounts
 from pagelog.cli.looking_words import dbs_option, limit_option, watch_of
 from pagelog.cli.options import (
     credentials_option,
@@ -24,8 +23,9 @@ from pagelog.cli.options import (
 )
 from pagelog.cli.side_by_side import Task, look_at_all
 from pagelog.cli.watch import WatchedLook, Watch
-from pagelog.request import Role
+from pagelog.credentials import Accounts
 from pagelog.repeating import sleep
+from pagelog.request import Role
 
 if TYPE_CHECKING:
     from rich.console import Console
@@ -186,7 +186,7 @@ class NamedLooks:
 
     def __init__(self, url: str, stack: ExitStack) -> None:
         from pagelog.cli.top_named import NamedWatch
-        from pagelog.keeper.referee import Referee
+        from pagelog.referee.referee import Referee
 
         self.seconds = min(2.0, timeout())
         referee = Referee(url, patience=2)

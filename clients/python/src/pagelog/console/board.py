@@ -20,7 +20,7 @@ from pagelog.console.source import Generation, SourceLook
 from pagelog.console.trails import TrailCounts
 from pagelog.keeper.aside import asides_of
 from pagelog.keeper.machine import SUCCEED_AT
-from pagelog.keeper.rows import Look, Row, told
+from pagelog.referee.rows import Look, Row, told
 
 VERSION = 1
 """Of the form of what is sent."""

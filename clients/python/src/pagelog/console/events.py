@@ -7,7 +7,7 @@ from dataclasses import dataclass
 from typing import Any, Iterator, Mapping
 
 from pagelog.console.outlook import ClientState
-from pagelog.keeper.rows import Row
+from pagelog.referee.rows import Row
 
 MOST = 5
 """Of how many databases the same is told one by one."""

@@ -6,9 +6,9 @@ from dataclasses import dataclass
 from enum import Enum
 from typing import Any, Mapping
 
-from pagelog.times import duration
 from pagelog.keeper.machine import NEAR
-from pagelog.keeper.rows import Row
+from pagelog.referee.rows import Row
+from pagelog.times import duration
 
 
 class ClientState(str, Enum):

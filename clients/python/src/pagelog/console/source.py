@@ -16,10 +16,10 @@ from psycopg.rows import dict_row
 from pagelog.archive.url import without_password
 from pagelog.console import statements
 from pagelog.errors import PagelogError
-from pagelog.keeper.hosts import shut_down
-from pagelog.keeper.referee import options_of
-from pagelog.keeper.rows import KeeperRow, Look, PagesRow, Row, StandbyRow, Synchronous
 from pagelog.libpq import count_of_hosts, turn_hosts
+from pagelog.referee.hosts import shut_down
+from pagelog.referee.referee import options_of
+from pagelog.referee.rows import KeeperRow, Look, PagesRow, Row, StandbyRow, Synchronous
 from pagelog.reply import LINE_SIZE
 from pagelog.trail.store import FORMAT, Piece
 

@@ -1,7 +1,7 @@
 """What the console asks PostgreSQL. No statement writes, and none reads a table of principals or a block."""
 
-from pagelog.keeper.schema import FORMAT
-from pagelog.keeper.statements import PAGES_COLUMNS
+from pagelog.referee.schema import FORMAT
+from pagelog.referee.statements import PAGES_COLUMNS
 
 LOOK = f"""
 SELECT

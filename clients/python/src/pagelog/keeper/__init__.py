@@ -3,13 +3,8 @@
 A keeper runs on each machine, as `pagelogctl keep`. It starts services, archives what they harden, answers clients where a
 named database is and how far it is durable, and takes over what another keeper has let go of.
 
-    schema      the tables of the referee
-    referee     every statement: who holds a database, what is archived; the longer ones are in `statements`, `refusal` says what an
-                error means, and `errors` has what can go wrong
-    rows        what the referee knows; `batches` makes values of a statement of it
-    session     the event loop's way to a referee
-    table       the table of one run of a service, whose tokens clients make too; `sealed` is how they lie in PostgreSQL, `grants` who may
-                see it
+    session     the event loop's way to the statements of pagelog.referee
+    table       the table of one run of a service, whose tokens clients make too; `grants` says who may see it
     run         one process of a service, its files, its adoption; their folder is locked by `folder`
     runner      has services run as another user, by runner_process; `unix` has sockets by paths
     loading     fills a service from the archive, as frames
@@ -22,9 +17,9 @@ named database is and how far it is durable, and takes over what another keeper 
     recorder    keeps the audit lists beside the blocks
     lines       the line protocol; waits has who waits, turns whose turn it is to write, proving who a line's principal is
     front       the one haproxy by which clients reach all of it by TLS; haproxy is its process, front_care sees to it, certificate reads
-                its files, fronted and proxied hear the lines that come through it, and ways says how that is told
+                its files, fronted and proxied hear the lines that come through it
     shared      what the databases of a keeper share
     database    one database of a keeper: does what is decided; beginning, standing, succession, switch and ending have how
-    bases       images of pages in PostgreSQL; basing makes them, storing takes old blocks to a store
+    basing      makes images of pages; storing takes old blocks to a store
     keeping     the loop around all of it
 """

@@ -10,13 +10,13 @@ from typing import TYPE_CHECKING, AsyncIterator, Callable, Literal, Sequence
 
 from pagelog.errors import AuditListFull, PagelogError, TurnsSpent
 from pagelog.keeper.doubts import Doubts, Fenced
-from pagelog.keeper.lines import Line
-from pagelog.keeper.fast_plane import FastPlane
 from pagelog.keeper.fast_path import End, FastPath
-from pagelog.keeper.referee import digest
-from pagelog.keeper.rows import Batch, Kept, Lines, Row
+from pagelog.keeper.fast_plane import FastPlane
+from pagelog.keeper.lines import Line
 from pagelog.keeper.served import Served
 from pagelog.keeper.waits import Waits
+from pagelog.referee.referee import digest
+from pagelog.referee.rows import Batch, Kept, Lines, Row
 from pagelog.repeating import Backoff
 
 if TYPE_CHECKING:

@@ -6,12 +6,9 @@ from dataclasses import dataclass
 from pathlib import Path
 from typing import Any, Iterable
 
-from pagelog.keeper.rows import Look
 from pagelog.keeper.run import ProcessFacts, Seen, database_of, is_running, kept_in, seen_of
 from pagelog.keeper.runner import RunnerError
-
-ASIDE = "set aside"
-"""Under which a keeper's report has them; no name of a database has a space."""
+from pagelog.referee.rows import ASIDE, Look
 
 
 @dataclass(frozen=True)

@@ -16,9 +16,9 @@ from pathlib import Path
 from typing import Any
 
 from pagelog.errors import PagelogError
-from pagelog.keeper.bases import Bases, make_base
-from pagelog.keeper.referee import KeeperError, Referee
-from pagelog.store.settings import StoreSettings
+from pagelog.objects.settings import StoreSettings
+from pagelog.referee.bases import Bases, make_base
+from pagelog.referee.referee import KeeperError, Referee
 
 SMALL = 4096
 """Blocks after the last base that are replayed in a thread, and for which a succession makes no newer one."""

@@ -6,13 +6,13 @@ import asyncio
 from typing import TYPE_CHECKING
 
 from pagelog.errors import PagelogError
-from pagelog.keeper.bases import Bases, transaction
-from pagelog.keeper.images import Replay
+from pagelog.images import Replay
 from pagelog.keeper.machine import RunKind, Stillness
-from pagelog.keeper.referee import PIECE, Away, Doubt, Referee, Refused
-from pagelog.keeper.rows import Row, Where
 from pagelog.keeper.run import Run, new_run
 from pagelog.keeper.served import Served
+from pagelog.referee.bases import Bases, transaction
+from pagelog.referee.referee import PIECE, Away, Doubt, Referee, Refused
+from pagelog.referee.rows import Row, Where
 
 if TYPE_CHECKING:
     from pagelog.keeper.database import Database

@@ -4,10 +4,10 @@ from __future__ import annotations
 
 import secrets
 
-from pagelog.keeper.bases import Bases
 from pagelog.keeper.history import made_at
-from pagelog.keeper.referee import Referee, digest
-from pagelog.keeper.rows import Row
+from pagelog.referee.bases import Bases
+from pagelog.referee.referee import Referee, digest
+from pagelog.referee.rows import Row
 
 _KNOWN = """
 SELECT base, chain FROM pagelog_base WHERE log = %(log)s AND base <= %(position)s

@@ -6,8 +6,8 @@ import asyncio
 from dataclasses import dataclass, field
 from typing import Callable
 
-from pagelog.keeper.fate import Of
 from pagelog.keeper.lines import Line, of_word
+from pagelog.referee.fate import Of
 
 HELD = 1.0
 """For how many seconds an answer may be held back."""

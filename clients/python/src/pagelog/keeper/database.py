@@ -10,7 +10,6 @@ from typing import Any, Mapping
 from pagelog.keeper.beginning import Beginning
 from pagelog.keeper.ending import Ending
 from pagelog.keeper.fates import Moves
-from pagelog.keeper.fate import Of
 from pagelog.keeper.haproxy import FrontError
 from pagelog.keeper.lines import Line, of_word
 from pagelog.keeper.machine import (
@@ -27,8 +26,6 @@ from pagelog.keeper.machine import (
     state_of,
     went_back,
 )
-from pagelog.keeper.referee import Away, Doubt, KeeperError, Refused
-from pagelog.keeper.rows import Row, StandbyRow
 from pagelog.keeper.run import Seen, is_there
 from pagelog.keeper.runner import RunnerError
 from pagelog.keeper.served import Access, Served, seconds
@@ -37,6 +34,9 @@ from pagelog.keeper.standing import Standing
 from pagelog.keeper.succession import Succession
 from pagelog.keeper.waits import Waits
 from pagelog.keeper.work import Work
+from pagelog.referee.fate import Of
+from pagelog.referee.referee import Away, Doubt, KeeperError, Refused
+from pagelog.referee.rows import Row, StandbyRow
 from pagelog.repeating import Backoff
 
 _BESIDE = 0.05

@@ -5,10 +5,10 @@ from __future__ import annotations
 import asyncio
 from typing import Callable
 
-from pagelog.keeper.referee import KeeperError, OneDisk
-from pagelog.keeper.refusal import line_of
-from pagelog.keeper.rows import Kept
 from pagelog.keeper.session import Session
+from pagelog.referee.referee import KeeperError, OneDisk
+from pagelog.referee.refusal import line_of
+from pagelog.referee.rows import Kept
 from pagelog.repeating import Backoff, Repeats
 
 

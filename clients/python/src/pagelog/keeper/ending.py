@@ -9,10 +9,10 @@ from pagelog.errors import PagelogError
 from pagelog.keeper.archiver import RunArchiver, turn_of
 from pagelog.keeper.lines import of_word
 from pagelog.keeper.machine import Action, RunKind
-from pagelog.keeper.rows import Row
 from pagelog.keeper.run import Run, Seen
 from pagelog.keeper.served import Served
 from pagelog.keeper.switch import rehearse_release, release
+from pagelog.referee.rows import Row
 
 if TYPE_CHECKING:
     from pagelog.keeper.database import Database

@@ -9,7 +9,7 @@ from typing import TYPE_CHECKING
 
 from psycopg import pq
 
-from pagelog.keeper.referee import KeeperError
+from pagelog.referee.referee import KeeperError
 
 if TYPE_CHECKING:
     from pagelog.trail.store import TrailList

@@ -9,12 +9,12 @@ from enum import IntEnum
 from typing import TYPE_CHECKING, Callable
 
 from pagelog.keeper import fast_calls
-from pagelog.keeper.fate import Of
-from pagelog.keeper.lines import Line
 from pagelog.keeper.fast_calls import DIGEST, Event, List, WayStart
-from pagelog.keeper.rows import Row
+from pagelog.keeper.lines import Line
 from pagelog.keeper.served import Served
 from pagelog.keeper.waits import Waits
+from pagelog.referee.fate import Of
+from pagelog.referee.rows import Row
 
 if TYPE_CHECKING:
     from pagelog.keeper.fast_plane import FastPlane

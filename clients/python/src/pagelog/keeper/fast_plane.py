@@ -9,15 +9,17 @@ import time
 from concurrent.futures import ThreadPoolExecutor
 from typing import TYPE_CHECKING, Callable
 
-from pagelog.keeper import fast_calls, statements
-from pagelog.keeper.quick import Prepared, QuickReferee
+from pagelog.keeper import fast_calls
+
 from pagelog.keeper.fast_calls import Event, SessionStart
 from pagelog.keeper.fast_path import FastPath
 from pagelog.keeper.fast_turns import FastTurns
-from pagelog.keeper.referee import KeeperError
-from pagelog.keeper.refusal import line_of
-from pagelog.keeper.rows import Row
+from pagelog.keeper.quick import Prepared, QuickReferee
 from pagelog.keeper.served import Served
+from pagelog.referee import statements
+from pagelog.referee.referee import KeeperError
+from pagelog.referee.refusal import line_of
+from pagelog.referee.rows import Row
 from pagelog.repeating import Backoff
 
 if TYPE_CHECKING:

@@ -14,7 +14,7 @@ from pagelog.keeper.lines import Key, Line
 
 if TYPE_CHECKING:
     from pagelog.keeper.fast_plane import FastPlane
-    from pagelog.keeper.fate import Of
+    from pagelog.referee.fate import Of
 
 _MOST_EPOCH = (1 << 32) - 1
 

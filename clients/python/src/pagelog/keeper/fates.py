@@ -7,13 +7,13 @@ import hashlib
 from contextlib import contextmanager
 from typing import Any, Callable, Iterator
 
-from pagelog.keeper import statements
-from pagelog.keeper.fate import Fate, Of
 from pagelog.keeper.lines import Key, Line, of_word
 from pagelog.keeper.proving import Asker
 from pagelog.keeper.quota import Quota
-from pagelog.keeper.referee import Away, BrokenArchive, Doubt, KeeperError, Referee, Refused
 from pagelog.keeper.session import Session
+from pagelog.referee import statements
+from pagelog.referee.fate import Fate, Of
+from pagelog.referee.referee import Away, BrokenArchive, Doubt, KeeperError, Referee, Refused
 
 
 _AT_ONCE, _MOST = 4, 10_000

@@ -14,7 +14,7 @@ from pagelog.keeper.haproxy import LINES
 from pagelog.keeper.lines import Server
 from pagelog.keeper.run import has_services
 from pagelog.keeper.unix import private_socket
-from pagelog.keeper.ways import Way
+from pagelog.referee.ways import Way
 
 
 class FrontCare:

@@ -2,9 +2,9 @@
 
 from __future__ import annotations
 
-from pagelog.keeper.fate import Of
 from pagelog.keeper.lines import Answers, Line, OpenLines, parted
 from pagelog.keeper.proxied import taken
+from pagelog.referee.fate import Of
 
 _BY_RUN = ("durable", "block")
 """What is asked of a database by its identity, also where another has its name by now."""

@@ -6,7 +6,7 @@ from dataclasses import dataclass
 
 from pagelog.archive.postgres import PostgresEngine
 from pagelog.archive.session import statements_of
-from pagelog.keeper.schema import script
+from pagelog.referee.schema import script
 from pagelog.trail.statements import TABLES
 
 SECRETS = "pagelog_table"

@@ -9,11 +9,11 @@ from uuid import uuid4
 
 import psycopg
 
-from pagelog.keeper.bases import Bases
 from pagelog.keeper.naming import written_name
-from pagelog.keeper.referee import KeeperError, Pruned, Referee, Refused, digest
-from pagelog.keeper.rows import Row
-from pagelog.keeper.schema import CHANNEL, FORMAT
+from pagelog.referee.bases import Bases
+from pagelog.referee.referee import KeeperError, Pruned, Referee, Refused, digest
+from pagelog.referee.rows import Row
+from pagelog.referee.schema import CHANNEL, FORMAT
 from pagelog.times import in_both_zones
 
 _SPANS = """

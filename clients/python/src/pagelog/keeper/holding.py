@@ -4,8 +4,8 @@ from __future__ import annotations
 
 from datetime import datetime
 
-from pagelog.keeper.referee import Referee
-from pagelog.keeper.rows import Row
+from pagelog.referee.referee import Referee
+from pagelog.referee.rows import Row
 
 _HELD = "SELECT held FROM pagelog_log WHERE id = %s"
 _HOLD = "UPDATE pagelog_log SET held = COALESCE(held, now()) WHERE id = %s AND identity = %s::uuid AND NOT dropped RETURNING held"

@@ -17,14 +17,13 @@ from typing import TYPE_CHECKING, Any, Mapping
 from pagelog.errors import CredentialsError, PagelogError
 from pagelog.keeper.aside import Aside
 from pagelog.keeper.certificate import Shown
-from pagelog.keeper.doubts import Doubts
 from pagelog.keeper.database import Database
-from pagelog.keeper.fate import Of
+from pagelog.keeper.doubts import Doubts
+from pagelog.keeper.fast_plane import FastPlane
 from pagelog.keeper.folder import KeeperFolder
 from pagelog.keeper.front import end_fronts
 from pagelog.keeper.front_care import FrontCare
 from pagelog.keeper.haproxy import FrontError
-from pagelog.keeper.hosts import unverified
 from pagelog.keeper.lines import Key, Line, Server, of_word
 from pagelog.keeper.machine import Stillness
 from pagelog.keeper.notify import notify
@@ -32,19 +31,20 @@ from pagelog.keeper.orphans import OrphanFate, close_left, seen_to
 from pagelog.keeper.page_servers import LivingPages
 from pagelog.keeper.places import Places
 from pagelog.keeper.quick import QuickReferee
-from pagelog.keeper.fast_plane import FastPlane
 from pagelog.keeper.quota import Quota
-from pagelog.keeper.referee import NAME, KeeperError, NameInUse, Referee, Superseded, options_of
-from pagelog.keeper.rows import KeeperRow, Look, NamedLife, Row, StandbyRow, Synchronous
 from pagelog.keeper.run import Run, Seen, has_services, orphans_of
 from pagelog.keeper.runner import RunnerError
 from pagelog.keeper.served import Served, seconds
 from pagelog.keeper.session import Session
-from pagelog.keeper.schema import NUMBERS
-from pagelog.keeper.sealed import KEYS
 from pagelog.keeper.settings import Settings
 from pagelog.keeper.shared import Shared
 from pagelog.keeper.turns import AllTurns
+from pagelog.referee.fate import Of
+from pagelog.referee.hosts import unverified
+from pagelog.referee.referee import NAME, KeeperError, NameInUse, Referee, Superseded, options_of
+from pagelog.referee.rows import KeeperRow, Look, NamedLife, Row, StandbyRow, Synchronous
+from pagelog.referee.schema import NUMBERS
+from pagelog.referee.sealed import KEYS
 from pagelog.repeating import Backoff, Repeats
 
 if TYPE_CHECKING:

@@ -19,8 +19,8 @@ from contextlib import suppress
 from itertools import islice
 from typing import Any, Callable, Mapping, Protocol
 
-from pagelog.keeper.fate import Of
 from pagelog.keeper.proving import Asker, Proof
+from pagelog.referee.fate import Of
 
 VERSION = 2
 """Of the lines. Version 1 has no greeting, and no keys."""

@@ -9,7 +9,7 @@ from __future__ import annotations
 from dataclasses import dataclass
 from enum import Enum
 
-from pagelog.keeper.rows import Row, StandbyRow
+from pagelog.referee.rows import Row, StandbyRow
 
 SUCCEED_AT = 0.5
 """The share of the audit list, or of the memory, at which a holder makes its next generation beside the present one."""

@@ -3,10 +3,10 @@
 from __future__ import annotations
 
 from pagelog.block import Block, Put
-from pagelog.keeper.bases import Bases
-from pagelog.keeper.images import MARK
-from pagelog.keeper.referee import Referee
-from pagelog.keeper.rows import Row
+from pagelog.images import MARK
+from pagelog.referee.bases import Bases
+from pagelog.referee.referee import Referee
+from pagelog.referee.rows import Row
 
 _NAME_AT = 40
 """Where page 0 of the VFS has the name, behind the mark: its length, and its bytes."""

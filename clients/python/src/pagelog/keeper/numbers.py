@@ -11,7 +11,7 @@ from contextlib import suppress
 from pathlib import Path
 from typing import Iterable
 
-from pagelog.keeper.rows import Row
+from pagelog.referee.rows import Row
 
 _FILE = "numbers"
 _GAP = 2

@@ -9,10 +9,10 @@ from enum import Enum
 from pagelog.errors import PagelogError
 from pagelog.keeper.definition import Definition
 from pagelog.keeper.machine import RunKind
-from pagelog.keeper.referee import BrokenArchive, KeeperError, Referee
-from pagelog.keeper.rows import Look, Origin, Row
 from pagelog.keeper.run import Run, Seen
 from pagelog.keeper.served import Served
+from pagelog.referee.referee import BrokenArchive, KeeperError, Referee
+from pagelog.referee.rows import Look, Origin, Row
 
 _LAST = 16
 """So many of the last blocks are compared with those of the archive: a log that went another way differs in them."""

@@ -5,10 +5,10 @@ from __future__ import annotations
 from collections import Counter
 from typing import Iterable, Mapping
 
-from pagelog.keeper.fate import Of
 from pagelog.keeper.lines import Key, of_word
 from pagelog.keeper.machine import Stillness
-from pagelog.keeper.rows import PagesRow, Row
+from pagelog.referee.fate import Of
+from pagelog.referee.rows import PagesRow, Row
 
 MOST = 8
 """Of one database, those that are told: a line has 1,024 bytes."""

@@ -22,9 +22,9 @@ from pagelog.run_tokens import proof_of
 
 if TYPE_CHECKING:
     from pagelog.keeper.database import Database
-    from pagelog.keeper.fate import Of
     from pagelog.keeper.lines import Line
-    from pagelog.keeper.rows import TableOf
+    from pagelog.referee.fate import Of
+    from pagelog.referee.rows import TableOf
 
 Asker = tuple[str, int] | None
 """Who asks: a principal of the database of this identity. None: nobody knows who."""

@@ -8,7 +8,7 @@ import re
 import psycopg
 from psycopg import pq
 
-from pagelog.keeper.referee import Referee
+from pagelog.referee.referee import Referee
 
 _VALUE = re.compile(r"%\((\w+)\)([sb])")
 

@@ -10,14 +10,14 @@ from typing import Any, Callable, TypeVar
 
 from pagelog.archive.engine import engine_of
 from pagelog.errors import AuditListFull
-from pagelog.keeper.fate import Of
-from pagelog.libpq import plain_url
-from pagelog.keeper.refusal import line_of
-from pagelog.keeper.rows import Lines
 from pagelog.keeper.served import Served
-from pagelog.run_tokens import KEEPER
+from pagelog.libpq import plain_url
+from pagelog.referee.fate import Of
+from pagelog.referee.refusal import line_of
+from pagelog.referee.rows import Lines
 from pagelog.reply import Entry, encode_entry
 from pagelog.request import AUDIT_MAX
+from pagelog.run_tokens import KEEPER
 from pagelog.trail.keeper import DAY, TrailKeeper, now
 from pagelog.trail.store import OtherKeeper, Start, Trail, TrailList, piece_behind
 

@@ -8,13 +8,13 @@ from uuid import uuid4
 
 import psycopg
 
-from pagelog.keeper.bases import NOTHING, Base, Bases
+from pagelog.images import Replay
 from pagelog.keeper.definition import Definition
-from pagelog.keeper.images import Replay
-from pagelog.keeper.referee import BrokenArchive, KeeperError, Referee, Refused, digest
-from pagelog.keeper.rows import Batch
-from pagelog.keeper.schema import CHANNEL, FORMAT
 from pagelog.keeper.served import Served
+from pagelog.referee.bases import NOTHING, Base, Bases
+from pagelog.referee.referee import BrokenArchive, KeeperError, Referee, Refused, digest
+from pagelog.referee.rows import Batch
+from pagelog.referee.schema import CHANNEL, FORMAT
 
 _MAKE = f"""
 WITH made AS (

@@ -13,27 +13,27 @@ from typing import Callable, Iterable, Iterator, Sequence
 
 from pagelog.block import Block
 from pagelog.connection import Address, Connection
+from pagelog.images import blocks_of, labelled
 from pagelog.keeper.acknowledged import Acknowledged
-from pagelog.keeper.ahead import ahead, pieces_of
-from pagelog.keeper.bases import NOTHING, Bases
 from pagelog.keeper.definition import Definition
 from pagelog.keeper.front import Front
 from pagelog.keeper.haproxy import FrontError
-from pagelog.keeper.images import blocks_of, labelled
 from pagelog.keeper.loading import EPOCH, GROUP, Loader
 from pagelog.keeper.looker import Looker
 from pagelog.keeper.machine import RunKind
-from pagelog.keeper.referee import BrokenArchive, Referee, digest
-from pagelog.keeper.rows import TableOf, Where
 from pagelog.keeper.run import NotStarted, Program, Run
 from pagelog.keeper.runner import RunnerError
 from pagelog.keeper.table import Form, keeper_of, quorum_of, table_of_run
-from pagelog.run_tokens import KEEPER
-from pagelog.keeper.ways import NOWHERE, Way
 from pagelog.operator import Operator
 from pagelog.reader import Reader, Span
+from pagelog.referee.ahead import ahead, pieces_of
+from pagelog.referee.bases import NOTHING, Bases
+from pagelog.referee.referee import BrokenArchive, Referee, digest
+from pagelog.referee.rows import TableOf, Where
+from pagelog.referee.ways import NOWHERE, Way
 from pagelog.reply import Entries, State, expect
 from pagelog.request import AUDIT_MAX, Act, Audit, Head, Pull, Request, Role, Status
+from pagelog.run_tokens import KEEPER
 
 FEW = 16
 """So many entries of an audit list a look may not have seen yet. Its own questions alone are two."""

@@ -7,7 +7,7 @@ import os
 from concurrent.futures import ThreadPoolExecutor
 from typing import Any, Callable, TypeVar
 
-from pagelog.keeper.referee import Referee
+from pagelog.referee.referee import Referee
 
 Result = TypeVar("Result")
 _LONGEST = 60.0

@@ -13,8 +13,8 @@ from pagelog.keeper.front import PORTS, Tls
 from pagelog.keeper.machine import ROLL_AT, SUCCEED_AT
 from pagelog.keeper.run import Program
 from pagelog.keeper.runner import Runner
-from pagelog.keeper.sealed import Keys
-from pagelog.store.settings import StoreSettings
+from pagelog.objects.settings import StoreSettings
+from pagelog.referee.sealed import Keys
 
 MEMORY = os.sysconf("SC_PAGE_SIZE") * os.sysconf("SC_PHYS_PAGES") // 4
 """Bytes that a service may hold where nothing else is said: a quarter of the machine's."""

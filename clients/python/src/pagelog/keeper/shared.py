@@ -9,17 +9,17 @@ from typing import TYPE_CHECKING, Any, Callable, Coroutine
 
 from pagelog.keeper.aside import Asides
 from pagelog.keeper.doubts import Doubts
+from pagelog.keeper.fast_plane import FastPlane
 from pagelog.keeper.fates import EACH_BLOCK, Questions, tell_block, tell_fate
-from pagelog.keeper.fate import Of
 from pagelog.keeper.front import Front
 from pagelog.keeper.lines import Line, of_word
 from pagelog.keeper.numbers import Numbers
 from pagelog.keeper.proving import Proving
-from pagelog.keeper.fast_plane import FastPlane
-from pagelog.keeper.referee import PIECE, Referee
 from pagelog.keeper.served import Served
 from pagelog.keeper.session import Session
 from pagelog.keeper.settings import Settings
+from pagelog.referee.fate import Of
+from pagelog.referee.referee import PIECE, Referee
 from pagelog.repeating import Repeats
 
 if TYPE_CHECKING:

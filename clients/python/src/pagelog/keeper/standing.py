@@ -7,11 +7,11 @@ from typing import TYPE_CHECKING
 
 from pagelog.errors import PagelogError
 from pagelog.keeper.machine import RunKind, Stage
-from pagelog.keeper.referee import Away, Doubt
-from pagelog.keeper.rows import Row
 from pagelog.keeper.run import new_run
 from pagelog.keeper.served import Served, seconds
 from pagelog.keeper.shared import LONGEST_REST
+from pagelog.referee.referee import Away, Doubt
+from pagelog.referee.rows import Row
 from pagelog.repeating import Backoff
 
 if TYPE_CHECKING:

@@ -11,9 +11,9 @@ from pathlib import Path
 from typing import Any, Callable, Mapping
 
 from pagelog.keeper.settings import Settings
+from pagelog.objects.settings import StoreSettings
 from pagelog.repeating import Backoff
 from pagelog.store.moving import LONGEST, Wish
-from pagelog.store.settings import StoreSettings
 
 _LINE = 16 << 20
 """Bytes of one line of the mover at most: a report of all databases."""
@@ -21,10 +21,10 @@ _LINE = 16 << 20
 
 def check_libraries(store: StoreSettings) -> None:
     """Raises `StoreError` where what the store needs is not installed. It is loaded now, and not amid a takeover."""
-    import pagelog.store.segment  # noqa: F401
+    import pagelog.objects.segment  # noqa: F401
 
     if store.url.startswith("s3:"):
-        import pagelog.store.s3  # noqa: F401
+        import pagelog.objects.s3  # noqa: F401
 
 
 class Storing:

@@ -17,12 +17,12 @@ from pagelog.keeper.archiver import RunArchiver, turn_of
 from pagelog.keeper.basing import SMALL, BaseWish, made_of
 from pagelog.keeper.loading import Loader
 from pagelog.keeper.machine import Stage
-from pagelog.keeper.referee import Away, BrokenArchive, Doubt, Referee, Refused, digest
-from pagelog.keeper.rows import Row
 from pagelog.keeper.run import new_run
 from pagelog.keeper.served import Served, seconds
 from pagelog.keeper.shared import LONGEST_REST
 from pagelog.keeper.switch import Switch, begun, may_begin, number, rehearse, succeed
+from pagelog.referee.referee import Away, BrokenArchive, Doubt, Referee, Refused, digest
+from pagelog.referee.rows import Row
 from pagelog.repeating import Backoff
 
 if TYPE_CHECKING:

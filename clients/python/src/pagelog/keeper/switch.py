@@ -4,11 +4,11 @@ from __future__ import annotations
 
 from dataclasses import dataclass, field
 
-from pagelog.keeper import statements
-from pagelog.keeper.batches import values_of_blocks, values_of_lines, values_of_one
-from pagelog.keeper.referee import Referee
-from pagelog.keeper.rows import Batch, Lines, Row, row_of
-from pagelog.keeper.schema import CHANNEL, FORMAT
+from pagelog.referee import statements
+from pagelog.referee.batches import values_of_blocks, values_of_lines, values_of_one
+from pagelog.referee.referee import Referee
+from pagelog.referee.rows import Batch, Lines, Row, row_of
+from pagelog.referee.schema import CHANNEL, FORMAT
 
 
 @dataclass(frozen=True)

@@ -36,7 +36,7 @@ from pagelog.keeper.lines import Key, Line
 
 if TYPE_CHECKING:
     from pagelog.keeper.fast_turns import FastTurns
-    from pagelog.keeper.fate import Of
+    from pagelog.referee.fate import Of
 
 MANY = 16
 """Turns in a row that nobody else has asked for, after which the next one is kept."""

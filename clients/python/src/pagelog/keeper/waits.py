@@ -3,8 +3,8 @@
 from __future__ import annotations
 
 from pagelog.keeper.confirmations import Confirmations
-from pagelog.keeper.fate import Of
 from pagelog.keeper.lines import Line, of_word
+from pagelog.referee.fate import Of
 
 
 _MOST = 4096

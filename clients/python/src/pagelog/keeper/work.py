@@ -8,12 +8,12 @@ from typing import TYPE_CHECKING, Callable
 
 from pagelog.errors import AuditListFull, PagelogError, TurnsSpent
 from pagelog.keeper.archiver import RunArchiver
-from pagelog.keeper.fate import Of
 from pagelog.keeper.machine import Stillness
-from pagelog.keeper.rows import Row
 from pagelog.keeper.served import Served, seconds
 from pagelog.keeper.shared import Shared
 from pagelog.keeper.waits import Waits
+from pagelog.referee.fate import Of
+from pagelog.referee.rows import Row
 
 if TYPE_CHECKING:
     from pagelog.keeper.recorder import Recorder

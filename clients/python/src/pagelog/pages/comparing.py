@@ -10,9 +10,9 @@ from typing import Iterator, Sequence
 from pagelog.block import HIGHEST_PAGE, PAGE_SIZE, Block
 from pagelog.comparing import Progress, no_progress
 from pagelog.errors import PagelogError
-from pagelog.keeper.bases import Bases
-from pagelog.keeper.images import PAGES
+from pagelog.images import PAGES
 from pagelog.reader import Reader
+from pagelog.referee.bases import Bases
 from pagelog.rules import AboveTheEnd, Denial, Section
 
 _BELOW_THE_OLDEST = (Section.C, 10)

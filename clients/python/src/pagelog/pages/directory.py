@@ -6,8 +6,8 @@ from dataclasses import dataclass, field
 from typing import Any, Mapping
 
 from pagelog.keeper.history import spans
-from pagelog.keeper.referee import Referee
-from pagelog.keeper.ways import address_for, way_of
+from pagelog.referee.referee import Referee
+from pagelog.referee.ways import address_for, way_of
 
 _LOOK = """
 WITH me AS (

@@ -12,8 +12,6 @@ from pathlib import Path
 from typing import Any, Callable, Iterator
 
 from pagelog.errors import PagelogError
-from pagelog.keeper.bases import NOTHING, Base, Bases
-from pagelog.keeper.referee import BrokenArchive, KeeperError, Referee, digest
 from pagelog.keeper.run import new_run
 from pagelog.pages.bell import Bell, Told
 from pagelog.pages.directory import (
@@ -46,6 +44,8 @@ from pagelog.pages.stores import (
     sentence,
 )
 from pagelog.pages.table import table_of_pages
+from pagelog.referee.bases import NOTHING, Base, Bases
+from pagelog.referee.referee import BrokenArchive, KeeperError, Referee, digest
 from pagelog.repeating import Backoff, Repeats
 from pagelog.secure import Trust
 

@@ -11,8 +11,8 @@ from pathlib import Path
 from typing import Iterable, Sequence
 
 from pagelog.errors import PagelogError
-from pagelog.keeper.ways import NOWHERE, Way
 from pagelog.pages.table import lines_of
+from pagelog.referee.ways import NOWHERE, Way
 
 _LENGTH = struct.Struct(">I")
 IMAGES_AT_ONCE = 256

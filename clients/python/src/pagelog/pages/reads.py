@@ -4,8 +4,8 @@ from __future__ import annotations
 
 from datetime import datetime
 
-from pagelog.keeper.referee import Referee
-from pagelog.keeper.rows import Row
+from pagelog.referee.referee import Referee
+from pagelog.referee.rows import Row
 
 _SINCE = "SELECT audited FROM pagelog_log WHERE id = %s"
 _AUDIT = "UPDATE pagelog_log SET audited = COALESCE(audited, now()) WHERE id = %s AND identity = %s::uuid AND NOT dropped RETURNING audited"

@@ -10,11 +10,11 @@ from pathlib import Path
 from typing import Callable, Collection
 
 from pagelog.errors import PagelogError
-from pagelog.keeper.referee import KeeperError, Referee
-from pagelog.keeper.schema import FORMAT
 from pagelog.pages.directory import names
 from pagelog.pages.following import Follower, PageServerSettings
 from pagelog.pages.process import ServedBounds
+from pagelog.referee.referee import KeeperError, Referee
+from pagelog.referee.schema import FORMAT
 from pagelog.repeating import Repeats
 
 _NAMES = 5.0

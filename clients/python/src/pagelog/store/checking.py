@@ -6,8 +6,8 @@ import secrets
 from dataclasses import dataclass
 from typing import Callable, Iterator
 
-from pagelog.store.place import Missing, Store, StoreError, store_of
-from pagelog.store.settings import StoreSettings
+from pagelog.objects.place import Missing, Store, StoreError, store_of
+from pagelog.objects.settings import StoreSettings
 
 
 @dataclass(frozen=True)
@@ -25,7 +25,7 @@ def checked(settings: StoreSettings) -> Iterator[Found]:
         store = store_of(settings)
         yield from _needed(store)
         if settings.url.startswith("s3:"):
-            from pagelog.store.s3 import Bucket
+            from pagelog.objects.s3 import Bucket
 
             assert isinstance(store, Bucket)
             yield from (

@@ -13,9 +13,7 @@ import uuid
 from dataclasses import dataclass, field
 from typing import Any, Sequence
 
-from pagelog.store import tables
-from pagelog.store.asking import Asking
-from pagelog.store.pack import (
+from pagelog.objects.pack import (
     ALONE,
     EACH,
     IN_PACK,
@@ -24,9 +22,11 @@ from pagelog.store.pack import (
     Packing,
     images_at,
 )
-from pagelog.store.place import Store
-from pagelog.store.segment import BrokenObject
-from pagelog.store.through import InPack, fetched, parts_of, runs_of
+from pagelog.objects.place import Store
+from pagelog.objects.segment import BrokenObject
+from pagelog.referee import object_statements as tables
+from pagelog.referee.through import InPack, fetched, parts_of, runs_of
+from pagelog.store.asking import Asking
 
 EVERY = 3600.0
 """Seconds after which it is looked at again, whatever the bases are."""

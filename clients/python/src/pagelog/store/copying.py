@@ -6,13 +6,13 @@ import zlib
 from dataclasses import dataclass
 from typing import Callable, Iterator
 
-from pagelog.keeper.referee import BrokenArchive, Referee, digest
-from pagelog.store import tables
-from pagelog.store.pack import images_in, named_base, read_manifest
-from pagelog.store.place import Missing, Store, store_of
-from pagelog.store.segment import BrokenObject, decode
-from pagelog.store.settings import StoreSettings
-from pagelog.store.through import ObjectRow, fetched, is_of
+from pagelog.objects.pack import images_in, named_base, read_manifest
+from pagelog.objects.place import Missing, Store, store_of
+from pagelog.objects.segment import BrokenObject, decode
+from pagelog.objects.settings import StoreSettings
+from pagelog.referee import object_statements as tables
+from pagelog.referee.referee import BrokenArchive, Referee, digest
+from pagelog.referee.through import ObjectRow, fetched, is_of
 
 _AT_ONCE = 500
 

@@ -19,18 +19,17 @@ from typing import Any, Callable, Iterator, Mapping
 
 import psycopg
 
-from pagelog.keeper.aside import ASIDE
-from pagelog.keeper.bases import transaction
-from pagelog.keeper.referee import KeeperError, Referee, digest
-from pagelog.keeper.rows import Row
-from pagelog.keeper.schema import CHANNEL
+from pagelog.objects.pack import Manifest, read_manifest
+from pagelog.objects.place import Store
+from pagelog.objects.segment import BrokenObject, Segment, decode, folder_of, named
+from pagelog.referee.bases import transaction
+from pagelog.referee.referee import KeeperError, Referee, digest
+from pagelog.referee.rows import ASIDE, Row
+from pagelog.referee.schema import CHANNEL
+from pagelog.referee.through import fetched, moment_of
 from pagelog.store.histories import History, Part, beyond
 from pagelog.store.mover import nothing
-from pagelog.store.pack import Manifest, read_manifest
-from pagelog.store.place import Store
 from pagelog.store.rescuing import GAP, bases_of, digest_within, write_base
-from pagelog.store.segment import BrokenObject, Segment, decode, folder_of, named
-from pagelog.store.through import fetched, moment_of
 
 _AT_ONCE = 4
 """Objects that are read at once."""

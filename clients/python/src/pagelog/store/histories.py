@@ -9,8 +9,8 @@ from dataclasses import dataclass
 from typing import Callable, Iterable
 
 from pagelog.errors import PagelogError
-from pagelog.store.pack import NamedBase, named_base
-from pagelog.store.segment import Named, named
+from pagelog.objects.pack import NamedBase, named_base
+from pagelog.objects.segment import Named, named
 
 
 class NoHistory(PagelogError):

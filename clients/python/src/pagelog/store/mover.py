@@ -13,11 +13,8 @@ import zlib
 from dataclasses import dataclass, field
 from typing import Any, Callable, Iterator
 
-from pagelog.keeper.referee import BrokenArchive, Doubt, Referee, digest
-from pagelog.store import tables
-from pagelog.store.packing import PackMover, is_there
-from pagelog.store.place import Store, StoreError
-from pagelog.store.segment import (
+from pagelog.objects.place import Store, StoreError
+from pagelog.objects.segment import (
     LEVEL,
     SegmentHead,
     SealedSegment,
@@ -26,8 +23,11 @@ from pagelog.store.segment import (
     folder_of,
     named,
 )
-from pagelog.store.settings import StoreSettings
-from pagelog.store.through import moment_of
+from pagelog.objects.settings import StoreSettings
+from pagelog.referee import object_statements as tables
+from pagelog.referee.referee import BrokenArchive, Doubt, Referee, digest
+from pagelog.referee.through import moment_of
+from pagelog.store.packing import PackMover, is_there
 
 BLOCKS = 131_072
 """Blocks of one object at most."""

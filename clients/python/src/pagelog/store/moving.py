@@ -16,13 +16,13 @@ from dataclasses import asdict, dataclass, field
 from typing import Any, Callable, TextIO
 
 from pagelog.errors import PagelogError
-from pagelog.keeper.referee import Away, BrokenArchive, Doubt, Referee
+from pagelog.objects.place import Store, StoreAway, store_of
+from pagelog.objects.segment import BrokenObject, named
+from pagelog.objects.settings import StoreSettings
+from pagelog.referee import object_statements as tables
+from pagelog.referee.referee import Away, BrokenArchive, Doubt, Referee
 from pagelog.repeating import Backoff
-from pagelog.store import tables
 from pagelog.store.mover import Mover
-from pagelog.store.place import Store, StoreAway, store_of
-from pagelog.store.segment import BrokenObject, named
-from pagelog.store.settings import StoreSettings
 
 LONGEST = 60.0
 """Seconds after which what has failed is tried again in any case."""

@@ -12,13 +12,13 @@ import uuid
 import zlib
 from typing import Any, Callable, Iterator
 
-from pagelog.keeper.images import Image
-from pagelog.keeper.referee import BrokenArchive
-from pagelog.store import tables
+from pagelog.images import Image
+from pagelog.objects.pack import IN_PACK, BaseFacts, Pack, Packed, Packing, manifest_of
+from pagelog.objects.place import Missing, Store, StoreError
+from pagelog.referee import object_statements as tables
+from pagelog.referee.referee import BrokenArchive
 from pagelog.store.asking import Asking
 from pagelog.store.compacting import Compactor
-from pagelog.store.pack import IN_PACK, BaseFacts, Pack, Packed, Packing, manifest_of
-from pagelog.store.place import Missing, Store, StoreError
 
 _AT_ONCE = 4
 """Images that are read at once: 2 MiB."""

@@ -12,13 +12,9 @@ from typing import Any, Iterable
 
 import psycopg
 
-from pagelog.keeper.bases import transaction
-from pagelog.keeper.referee import KeeperError, Referee, digest
-from pagelog.keeper.schema import CHANNEL, FORMAT
-from pagelog.store.histories import History, NoHistory, Part, folders_of, histories
-from pagelog.store.pack import Manifest, named_base, read_manifest
-from pagelog.store.place import Missing, Store
-from pagelog.store.segment import (
+from pagelog.objects.pack import Manifest, named_base, read_manifest
+from pagelog.objects.place import Missing, Store
+from pagelog.objects.segment import (
     HEAD_SIZE,
     BrokenObject,
     SegmentFacts,
@@ -26,7 +22,11 @@ from pagelog.store.segment import (
     decode,
     head_of,
 )
-from pagelog.store.through import fetched, moment_of
+from pagelog.referee.bases import transaction
+from pagelog.referee.referee import KeeperError, Referee, digest
+from pagelog.referee.schema import CHANNEL, FORMAT
+from pagelog.referee.through import fetched, moment_of
+from pagelog.store.histories import History, NoHistory, Part, folders_of, histories
 
 GAP = 1000
 """The next generation is so far above each that the store knows: those that were never sealed have numbers, too."""

@@ -3,9 +3,9 @@ after that. What no row names at all is left alone: it may be what PostgreSQL ha
 
 from __future__ import annotations
 
-from pagelog.keeper.referee import Referee
-from pagelog.store import tables
-from pagelog.store.place import Store
+from pagelog.objects.place import Store
+from pagelog.referee import object_statements as tables
+from pagelog.referee.referee import Referee
 
 _AT_ONCE = 500
 

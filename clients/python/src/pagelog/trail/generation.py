@@ -7,9 +7,9 @@ from itertools import repeat
 from typing import Iterator
 
 from pagelog.block import PAGE_SIZE
-from pagelog.keeper.bases import NOTHING, Base, Bases
-from pagelog.keeper.images import PAGES, Image, blocks_of, labelled
-from pagelog.keeper.referee import BrokenArchive, Referee, digest
+from pagelog.images import PAGES, Image, blocks_of, labelled
+from pagelog.referee.bases import NOTHING, Base, Bases
+from pagelog.referee.referee import BrokenArchive, Referee, digest
 from pagelog.trail.pages import redo
 from pagelog.trail.store import TrailList
 from pagelog_model.bodies import BlockBody, read_block

@@ -10,7 +10,7 @@ from pagelog.trail.seal import sealed_blocks
 from pagelog.trail.store import Trail, TrailList
 
 if TYPE_CHECKING:
-    from pagelog.store.settings import StoreSettings
+    from pagelog.objects.settings import StoreSettings
 
 
 class Log(Protocol):
@@ -58,8 +58,8 @@ def log_of(
     if not archive.is_kept:
         yield ArchivedLog(trail, archive)
         return
-    from pagelog.keeper.bases import snapshot
-    from pagelog.keeper.referee import Referee
+    from pagelog.referee.bases import snapshot
+    from pagelog.referee.referee import Referee
     from pagelog.trail.generation import GenerationLog
 
     referee = Referee(trail.url, store=store)

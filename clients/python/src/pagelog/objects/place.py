@@ -10,11 +10,11 @@ from pathlib import Path
 from typing import Iterator, Protocol
 from urllib.parse import unquote, urlsplit
 
-from pagelog.store.errors import Missing as Missing
-from pagelog.store.errors import StoreAway as StoreAway
-from pagelog.store.errors import StoreError as StoreError
-from pagelog.store.errors import Taken as Taken
-from pagelog.store.settings import StoreSettings
+from pagelog.objects.errors import Missing as Missing
+from pagelog.objects.errors import StoreAway as StoreAway
+from pagelog.objects.errors import StoreError as StoreError
+from pagelog.objects.errors import Taken as Taken
+from pagelog.objects.settings import StoreSettings
 
 
 class Store(Protocol):
@@ -40,7 +40,7 @@ class Store(Protocol):
 def store_of(settings: StoreSettings) -> Store:
     """The store at the URL."""
     if settings.url.startswith("s3:"):
-        from pagelog.store.s3 import Bucket  # its library takes a second of a processor
+        from pagelog.objects.s3 import Bucket  # its library takes a second of a processor
 
         return Bucket(settings)
     return Folder(Path(unquote(urlsplit(settings.url).path)))

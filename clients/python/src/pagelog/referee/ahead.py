@@ -6,7 +6,7 @@ from concurrent.futures import Future, ThreadPoolExecutor
 from contextlib import contextmanager
 from typing import Callable, Iterator, TypeVar
 
-from pagelog.keeper.referee import Referee
+from pagelog.referee.referee import Referee
 
 T = TypeVar("T")
 PIECE = 256

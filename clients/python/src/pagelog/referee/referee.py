@@ -19,23 +19,24 @@ import psycopg
 from psycopg.conninfo import make_conninfo
 
 from pagelog.errors import CredentialsError
-from pagelog.keeper import statements
-from pagelog.keeper.batches import array_of, statement_of, values_of
-from pagelog.keeper.errors import KeeperError as KeeperError
-from pagelog.keeper.errors import Away as Away
-from pagelog.keeper.errors import Refused as Refused
-from pagelog.keeper.errors import Sealed as Sealed
-from pagelog.keeper.errors import Doubt as Doubt
-from pagelog.keeper.errors import OneDisk as OneDisk
-from pagelog.keeper.errors import Superseded as Superseded
-from pagelog.keeper.errors import NameInUse as NameInUse
-from pagelog.keeper.errors import BrokenArchive as BrokenArchive
-from pagelog.keeper.errors import BrokenBase as BrokenBase
-from pagelog.keeper.errors import Pruned as Pruned
-from pagelog.keeper.hosts import shut_down
-from pagelog.keeper.fate import Fate, FateRow, Of, fate_of_rows
-from pagelog.keeper.refusal import is_refusal, line_of
-from pagelog.keeper.rows import (
+from pagelog.libpq import UnreadableUrl, count_of_hosts, options_of_url, turn_hosts
+from pagelog.referee import statements
+from pagelog.referee.batches import array_of, statement_of, values_of
+from pagelog.referee.errors import KeeperError as KeeperError
+from pagelog.referee.errors import Away as Away
+from pagelog.referee.errors import Refused as Refused
+from pagelog.referee.errors import Sealed as Sealed
+from pagelog.referee.errors import Doubt as Doubt
+from pagelog.referee.errors import OneDisk as OneDisk
+from pagelog.referee.errors import Superseded as Superseded
+from pagelog.referee.errors import NameInUse as NameInUse
+from pagelog.referee.errors import BrokenArchive as BrokenArchive
+from pagelog.referee.errors import BrokenBase as BrokenBase
+from pagelog.referee.errors import Pruned as Pruned
+from pagelog.referee.fate import Fate, FateRow, Of, fate_of_rows
+from pagelog.referee.hosts import shut_down
+from pagelog.referee.refusal import is_refusal, line_of
+from pagelog.referee.rows import (
     Batch,
     Kept,
     Look,
@@ -47,13 +48,12 @@ from pagelog.keeper.rows import (
     look_of,
     row_of,
 )
-from pagelog.keeper.schema import CHANNEL, FORMAT, FOUND, NUMBERED, VERSION, script
-from pagelog.keeper.sealed import Keys, NoKey, Stored
-from pagelog.libpq import UnreadableUrl, count_of_hosts, options_of_url, turn_hosts
+from pagelog.referee.schema import CHANNEL, FORMAT, FOUND, NUMBERED, VERSION, script
+from pagelog.referee.sealed import Keys, NoKey, Stored
 
 if TYPE_CHECKING:
-    from pagelog.store.settings import StoreSettings
-    from pagelog.store.through import Through
+    from pagelog.objects.settings import StoreSettings
+    from pagelog.referee.through import Through
 
 PIECE = 2048
 """How many blocks are read from the archive at once."""
@@ -650,7 +650,7 @@ class Referee:
     def through(self) -> Through:
         """What this reads of the store."""
         if self._through is None:
-            from pagelog.store.through import Through  # which needs zstd
+            from pagelog.referee.through import Through  # which needs zstd
 
             self._through = Through(self, self._store)
         return self._through

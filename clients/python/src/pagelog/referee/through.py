@@ -10,16 +10,16 @@ from dataclasses import dataclass
 from datetime import datetime, timedelta, timezone
 from typing import TYPE_CHECKING, Any, Callable, Iterable, Iterator, Sequence, TypeVar
 
-from pagelog.keeper.images import Image
-from pagelog.keeper.errors import Away, BrokenArchive, KeeperError
-from pagelog.store import tables
-from pagelog.store.pack import Packed, image_of, is_packed
-from pagelog.store.place import Missing, Store, StoreAway, StoreError, store_of
-from pagelog.store.segment import BrokenObject, Segment, decode
-from pagelog.store.settings import StoreSettings
+from pagelog.images import Image
+from pagelog.objects.pack import Packed, image_of, is_packed
+from pagelog.objects.place import Missing, Store, StoreAway, StoreError, store_of
+from pagelog.objects.segment import BrokenObject, Segment, decode
+from pagelog.objects.settings import StoreSettings
+from pagelog.referee import object_statements as tables
+from pagelog.referee.errors import Away, BrokenArchive, KeeperError
 
 if TYPE_CHECKING:
-    from pagelog.keeper.referee import Referee
+    from pagelog.referee.referee import Referee
 
 T = TypeVar("T")
 KEY_DIGEST = 8

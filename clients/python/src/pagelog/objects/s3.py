@@ -9,8 +9,8 @@ from contextlib import contextmanager, suppress
 from typing import Any, Iterator
 from urllib.parse import urlsplit
 
-from pagelog.store.errors import Missing, StoreAway, StoreError, Taken
-from pagelog.store.settings import StoreSettings
+from pagelog.objects.errors import Missing, StoreAway, StoreError, Taken
+from pagelog.objects.settings import StoreSettings
 
 try:
     import boto3

@@ -20,7 +20,7 @@ from typing import Sequence
 try:
     import zstandard
 except ImportError as error:
-    from pagelog.store.place import StoreError
+    from pagelog.objects.place import StoreError
 
     raise StoreError("a store needs zstandard: apt-get install python3-zstandard") from error
 

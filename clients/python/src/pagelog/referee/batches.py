@@ -6,8 +6,8 @@ import zlib
 from itertools import accumulate
 from typing import Any, Iterable, Mapping, Sequence
 
-from pagelog.keeper import statements
-from pagelog.keeper.rows import Batch, Lines
+from pagelog.referee import statements
+from pagelog.referee.rows import Batch, Lines
 
 
 def array_of(numbers: Iterable[int]) -> str:

@@ -5,10 +5,13 @@ from __future__ import annotations
 from dataclasses import dataclass, field
 from typing import TYPE_CHECKING, Any, Mapping, NamedTuple, Sequence
 
-from pagelog.keeper.ways import address_for, way_of
+from pagelog.referee.ways import address_for, way_of
 
 if TYPE_CHECKING:
     from pagelog.trail.store import TrailList
+
+ASIDE = "set aside"
+"""Under which a keeper's report has the services that it quarantined; no name of a database has a space."""
 
 
 @dataclass(frozen=True)

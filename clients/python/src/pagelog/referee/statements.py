@@ -1,6 +1,6 @@
 """The longer statements of the referee. Each is committed by itself, under the conditions that it has."""
 
-from pagelog.keeper.schema import CHANNEL, FORMAT
+from pagelog.referee.schema import CHANNEL, FORMAT
 
 PAGES_COLUMNS = (
     "run, log, machine, address, position, oldest, table_number, beat, aside, secure, "

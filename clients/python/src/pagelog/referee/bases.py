@@ -17,10 +17,10 @@ from typing import Any, Callable, Iterable, Iterator, Sequence
 import psycopg
 from psycopg.pq import TransactionStatus
 
-from pagelog.keeper.ahead import pieces_of
-from pagelog.keeper.batches import array_of
-from pagelog.keeper.images import MARK, Image, Replay
-from pagelog.keeper.referee import (
+from pagelog.images import MARK, Image, Replay
+from pagelog.referee.ahead import pieces_of
+from pagelog.referee.batches import array_of
+from pagelog.referee.referee import (
     BrokenArchive,
     BrokenBase,
     Doubt,

@@ -20,8 +20,8 @@ from typing import Iterable, Iterator, Sequence
 import zstandard
 
 from pagelog.block import PAGE_SIZE
-from pagelog.keeper.images import PAGES, Image
-from pagelog.store.segment import LEVEL, BrokenObject
+from pagelog.images import PAGES, Image
+from pagelog.objects.segment import LEVEL, BrokenObject
 
 PACK_MAGIC, BASE_MAGIC = b"pagelog2", b"pagelog3"
 IN_PACK = 32
