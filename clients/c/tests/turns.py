@@ -154,6 +154,7 @@ def test_who_has_committed_in_the_next_generation_is_the_one_who_had_the_turn():
             connection, other = amid_a_transaction(keeper), named(keeper, 5, busy=60)
             event(keeper)
             connection.execute("commit")
+            connection.execute("pragma busy_timeout = 5000")
             connection.execute("begin immediate")
             fill(connection, 1, first=1)
             connection.execute("commit")
