@@ -25,9 +25,9 @@ struct pagelog_turn {
     bool is_used;    /* it was asked for, and not given back since */
     bool has_newest; /* its holder has all that was written before */
     bool is_mine; /* such a one was held when its line or its generation ended: whoever had it comes first */
-    uint64_t mine_in; /* in this generation alone; 0: in the next one that it is asked for in */
-    bool is_same; /* the turn before was this one's too: nobody has written since */
-    bool is_kept; /* it may be used again */
+    uint64_t mine_in;   /* in this generation alone; 0: in the next one that it is asked for in */
+    bool is_same;       /* the turn before was this one's too: nobody has written since */
+    bool is_kept;       /* it may be used again */
     bool is_wanted;     /* another waits for it */
     bool is_unheard;    /* that was said, and is not answered yet */
     bool has_heartbeat; /* it is answered at any time, by pagelog_turn_heartbeat */

@@ -505,7 +505,7 @@ def test_a_reader_by_key_asks_for_what_its_tree_refers_to():
 
 def test_a_reader_of_one_key_asks_for_few_pages():
     """Of a database of some 1,500, in which it reads first: twice as many with each page on the way to it."""
-    with Service() as service, Gate(service.address) as gate:
+    with Service() as service:
         writer = connect(service.address)
         writer.execute("create table t(a integer primary key, b)")
         for first in range(0, 3000, 500):
@@ -515,12 +515,12 @@ def test_a_reader_of_one_key_asks_for_few_pages():
             writer.execute("commit")
         true("large", one(writer, "pragma page_count") > 1400)
         for key in (7, 1500, 2990):
-            gate.asked.clear()
-            connection = reader(gate.address, keep=0)
-            same("a row", 4000, one(connection, "select length(b) from t where a = ?", key))
-            gets = sum(frame[33] == wire.GET for frame in gate.asked)
-            true(f"{gets} gets", gets <= 1 + 2 + 4 + 8)
-            connection.close()
+            with Gate(service.address) as gate:  # each its own: what one asks for ahead may still be on its way
+                connection = reader(gate.address, keep=0)
+                same("a row", 4000, one(connection, "select length(b) from t where a = ?", key))
+                gets = sum(frame[33] == wire.GET for frame in list(gate.asked))
+                true(f"{gets} gets", gets <= 1 + 2 + 4 + 8)
+                connection.close()
         writer.close()
 
 
