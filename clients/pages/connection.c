@@ -8,7 +8,7 @@
 #include <sys/socket.h>
 #include <unistd.h>
 
-enum { MOST_AHEAD = REPLIES_AT_ONCE / PAGE_BYTES };
+enum { MOST_AHEAD = REPLIES_AT_ONCE / PAGE_BYTES, ROUNDS = 4 };
 
 enum step { GOES_ON, RESTS, IS_OVER };
 
@@ -192,7 +192,9 @@ bool connection_turn(struct connection *connection, struct room *room) {
     if (shaken != GOES_ON) return shaken == RESTS;
     bool is_drained = false;
     enum step step = send_left(connection), read = GOES_ON;
-    while (step == GOES_ON && read == GOES_ON && !connection->is_over) {
+    connection->is_cut = false;
+    for (int round = 0; step == GOES_ON && read == GOES_ON && !connection->is_over; round++) {
+        if ((connection->is_cut = round == ROUNDS)) break;
         uint8_t *end = room->out;
         enum step answered = connection->in ? answer_frames(connection, room, &end) : RESTS;
         connection->is_over = answered == IS_OVER;

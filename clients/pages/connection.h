@@ -22,6 +22,7 @@ struct connection {
     size_t in_length;
     uint8_t *out;
     size_t out_at, out_length;
+    bool is_cut;      /* it has had its share of a turn, and more may be answered */
     bool is_cold;     /* its last replies took reads of the disk */
     bool is_over;     /* it ends once its replies are sent */
     uint64_t wanted;  /* the position that its next request waits for; 0: it waits for none */

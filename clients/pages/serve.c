@@ -65,7 +65,7 @@ static void ring(struct worker *worker) {
 /* Which events a connection is polled for: none of its requests while one waits, nor while it does not take
  * its replies. */
 static void watch(struct worker *worker, struct connection *connection, int how) {
-    bool sends = connection->out || connection->shakes_out;
+    bool sends = connection->out || connection->shakes_out || connection->is_cut;
     uint32_t events = sends ? EPOLLOUT : connection->wanted ? 0 : EPOLLIN;
     if (how == EPOLL_CTL_MOD && events == connection->watched) return;
     connection->watched = events;

@@ -3,6 +3,7 @@
 
 #include <stdio.h>
 #include <stdlib.h>
+#include <time.h>
 
 /* Sets of changes behind the newest image; a page has some 64 between two of them, or more where images wait.
  */
@@ -19,6 +20,7 @@ struct store_view {
     rocksdb_readoptions_t *options, *total;
     rocksdb_iterator_t *rows, *blocks;
     uint64_t seen;                 /* `writes` of the store that `rows` was made after */
+    time_t made;                   /* when that was */
     rocksdb_perfcontext_t *counts; /* of the thread that reads */
     struct sets sets;
 };
@@ -61,19 +63,30 @@ void store_view_free(struct store_view *view) {
     free(view);
 }
 
+static time_t now_s(void) {
+    struct timespec now;
+    clock_gettime(CLOCK_MONOTONIC_COARSE, &now);
+    return now.tv_sec;
+}
+
+/* Files are given up without a write, too: rows of the second before pin none. */
+static bool is_newest(const struct store_view *view) {
+    return view->seen == atomic_load_explicit(&view->store->writes, memory_order_acquire) &&
+           view->made == now_s();
+}
+
 bool store_view_rest(struct store_view *view) {
-    uint64_t writes = atomic_load_explicit(&view->store->writes, memory_order_acquire);
     let_go(&view->blocks);
-    if (view->seen != writes) let_go(&view->rows);
+    if (view->rows && !is_newest(view)) let_go(&view->rows);
     return view->rows != NULL;
 }
 
 /* An iterator sees what was written before it was made. */
 static rocksdb_iterator_t *fresh_rows(struct store_view *view) {
-    uint64_t writes = atomic_load_explicit(&view->store->writes, memory_order_acquire);
-    if (view->rows && view->seen == writes) return view->rows;
+    if (view->rows && is_newest(view)) return view->rows;
     let_go(&view->rows);
-    view->seen = writes;
+    view->seen = atomic_load_explicit(&view->store->writes, memory_order_acquire);
+    view->made = now_s();
     return view->rows = rocksdb_create_iterator(view->store->db, view->options);
 }
 

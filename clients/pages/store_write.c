@@ -178,7 +178,9 @@ static enum store_end make_images(struct store *store) {
         rocksdb_writebatch_put(store->batch, (char *)key, PAGE_KEY, (char *)page, PAGE_BYTES);
     }
     store->due_count = 0;
-    return rocksdb_writebatch_count(store->batch) ? write_batch(store) : STORE_DONE;
+    enum store_end end = rocksdb_writebatch_count(store->batch) ? write_batch(store) : STORE_DONE;
+    store_view_rest(store->own);
+    return end;
 }
 
 enum store_end store_write(struct store *store, const uint8_t *chain) {
