@@ -133,7 +133,7 @@ void hear_line(struct line *line) {
 void tell_above(struct way *way) {
     for (struct line *line = way->lines, *next; line != NULL; line = next) {
         next = line->next;
-        if (line->asked && line->position != 0 && !tell(way, line, "above")) {
+        if (line->asked && line->position > way->reached && !tell(way, line, "above")) {
             give_back(line);
         }
     }

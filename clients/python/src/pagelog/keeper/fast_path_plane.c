@@ -320,7 +320,9 @@ static void hear(struct plane *plane, void *source) {
         break;
     case SESSION:
         go_on_keeping(source);
-        keep_due(plane); /* before anybody is told: PostgreSQL has something to do meanwhile */
+        if (!((const struct session *)source)->is_unclean) { /* else it may be down: what the others have to say is heard first */
+            keep_due(plane); /* before anybody is told: PostgreSQL has something to do meanwhile */
+        }
         break;
     case WRITER:
         hear_writer(source);

@@ -291,7 +291,7 @@ static void go_on_behind(struct way *way) {
     way->ahead = archived;
     way->ahead.blocks = way->ahead.len = 0;
     way->phase = way->is_ahead ? PULLING : READY;
-    if (!way->is_ahead && way->batch.blocks > 0) {
+    if (!way->is_ahead && way->batch.blocks > 0 && !way->is_over) { /* who is to stop has sent its last statement */
         set_due(way);
     }
     way->is_ahead = false;
