@@ -137,7 +137,10 @@ static uint32_t choose_pages(struct pagelog_file *file, uint32_t page, uint64_t 
     if (!is_ahead) file->next_run = at + 1;
     uint32_t others = (fills ? fill : run) - (is_ahead ? 0 : 1);
     file->asked = others;
-    return add_run(file, others, fills ? LOOKED_FOR * fill : others, fills, pages);
+    uint32_t all = is_by_place ? (uint32_t)file->expected.count : pages_of(file->least);
+    uint32_t looked = fills ? LOOKED_FOR * fill
+                            : others; /* none twice: those that are chosen here are not on their way yet */
+    return add_run(file, others, looked < all ? looked : all, fills, pages);
 }
 
 /* Notes that a page was waited for, which took so long, with `asked` that were asked for then, and `came`

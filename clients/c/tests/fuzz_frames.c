@@ -95,6 +95,24 @@ bool store_page(struct store_view *view, uint32_t page, uint64_t position, uint8
     memset(out, (int)(page + position), PAGE_BYTES);
     return true;
 }
+static uint64_t reads;
+uint64_t store_reads(struct store_view *view) {
+    (void)view;
+    return ++reads;
+}
+bool store_has_page(struct store *store, uint32_t page, uint64_t position) {
+    (void)store, (void)position;
+    return page % 2;
+}
+uint64_t ahead_read(struct ahead *ahead, struct store_view *view, const struct place *places,
+                    unsigned count) {
+    (void)ahead, (void)view;
+    must("what is read ahead is bounded", count <= MOST_AHEAD);
+    for (unsigned n = 0; n < count; n++)
+        must("a page is of a position that it has",
+             places[n].position >= OLDEST && places[n].position <= CONFIRMED);
+    return count;
+}
 bool store_block(struct store_view *view, uint64_t *position, uint64_t last, unsigned low, unsigned high,
                  const uint8_t **block, size_t *length) {
     static uint8_t bytes[20];

@@ -124,6 +124,10 @@ void end_way(struct way *way, enum way_end end) {
     way->has_ended = true;
     way->end = end;
 }
+int64_t turns_epoch(const struct turns *turns, uint64_t generation) {
+    (void)turns, (void)generation;
+    return -1;
+}
 int64_t until(const struct way *way) {
     (void)way;
     return INT64_MAX;
