@@ -106,8 +106,8 @@ PLANTS = {
     "pages, position before the write": Plant(f"{_C}/store_write.c", "    enum store_end end = write_batch(store);\n    if (end != STORE_DONE) return end;\n    store->has_begun",
                                               "    if (chain) atomic_store(&store->confirmed, store->added);\n    enum store_end end = write_batch(store);\n"
                                               "    if (end != STORE_DONE) return end;\n    store->has_begun", "pages", "once_it_can_be_read"),
-    "pages, a view without its stamp": Plant(f"{_C}/store_view.c", "    if (view->rows && view->seen == writes) return view->rows;\n",
-                                             "    if (view->rows && view->seen <= writes) return view->rows;\n", "pages", "once_it_can_be_read"),
+    "pages, a view without its stamp": Plant(f"{_C}/store_view.c", "    return view->seen == atomic_load_explicit(",
+                                             "    return view->seen <= atomic_load_explicit(", "pages", "once_it_can_be_read"),
     "pages, none is gone": Plant("page_servers", "self._all[row.id] - len(living)", "0", "pages", "shown_until"),
     "pages, forgets the living": Plant("../cli/forget_words", "    if not pages.is_gone and not pages.has_ended:\n", "    if False:\n", "pages", "shown_until"),
     "pages, silent for ever": Plant("../pages/directory", ",\n    seen = now() RETURNING", " RETURNING", "pages", "shown_until"),

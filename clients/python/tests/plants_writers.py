@@ -57,7 +57,7 @@ PLANTS = {
     "turn, not foreseen for long": Plant("c/pagelog_vfs_turn.c", "outcome == PAGELOG_DONE ? database->contended - 1 : 0;", "0;", "c/turns", "reads_for_some_turns"),
     "turn, given back before a whole log": Plant("turns", "is_awaited = not is_whole and time.monotonic()", "is_awaited = time.monotonic()", "turns", "whole_log"),
     "turn, amid a transaction before a whole log": Plant("turns", "is_used = self._holder is not None or is_awaited", "is_used = is_awaited", "turns", "whole_log"),
-    "turn, a whole log that nobody knows of": Plant("succession", "        successor.is_whole = True\n", "", "meanwhile", "whole_log"),
+    "turn, a whole log that nobody knows of": Plant("succession", "        successor.begin_whole()\n", "", "meanwhile", "whole_log"),
     "behind a statement, nothing": Plant("fast_path.c", "    return may_pull && has_room && ", "    return false && may_pull && has_room && ", "fast_path", "pulled_meanwhile"),
     "behind a statement, not seen to": Plant("fast_path_plane.c", "        see_to_active(plane); /* those that may pull ahead now */\n", "", "fast_path", "no_room_for"),
     "behind a statement, above too soon": Plant("fast_path_service.c", "        way->is_ahead = false; /* it waits for the statement that is on its way; of nothing nobody is told before that ends */\n",

@@ -512,16 +512,16 @@ class Pages(Paged):
         pages = self.start("--workers", "1", "--readers", "3", "--direct")
         drawn = random.Random(10).sample(range(100, 2000), 640)
         with closing(socket.create_connection(self.split(pages.address), PATIENCE)) as line:
-            before = self.switches(pages, "reader")
+            before = self.switches(pages, "reader", 3)
             for first in range(0, len(drawn), 64):
                 self.ask_together(line, images, drawn[first : first + 64])
-            self.assertGreater(self.switches(pages, "reader"), before + 60)
+            self.assertGreater(self.switches(pages, "reader", 3), before + 60)
             for _ in range(3):  # until all of it is in memory, and that is known
                 self.ask_together(line, images, range(64))
-            before = self.switches(pages, "reader")
+            before = self.switches(pages, "reader", 3)
             for _ in range(10):
                 self.ask_together(line, images, range(64))
-            self.assertEqual(self.switches(pages, "reader"), before, "pages are in memory")
+            self.assertEqual(self.switches(pages, "reader", 3), before, "pages are in memory")
 
     def test_threads_that_rest_hold_no_files(self) -> None:
         images = {number: random.Random(number).randbytes(8192) for number in range(1000)}
@@ -555,13 +555,18 @@ class Pages(Paged):
                 self.assertEqual(replies.read(8192), images[number])
 
     @staticmethod
-    def switches(pages: PagesProcess, name: str) -> int:
-        """How often threads of this name have rested, once all of them do."""
+    def switches(pages: PagesProcess, name: str, count: int) -> int:
+        """How often so many threads of this name have rested, once all of them do."""
         folder = Path(f"/proc/{pages.pid}/task")
-        tasks = [each for each in folder.iterdir() if (each / "comm").read_text() == f"{name}\n"]
-        state = lambda task: (task / "stat").read_text().rpartition(")")[2].split()[0]  # noqa: E731
-        eventually(lambda: {*map(state, tasks)} == {"S"}, "that all rest")
-        texts = [(each / "status").read_text() for each in tasks]
+
+        def tasks() -> list[Path]:
+            return [each for each in folder.iterdir() if (each / "comm").read_text() == f"{name}\n"]
+
+        def states() -> list[str]:
+            return [(task / "stat").read_text().rpartition(")")[2].split()[0] for task in tasks()]
+
+        eventually(lambda: states() == ["S"] * count, "that all rest")
+        texts = [(each / "status").read_text() for each in tasks()]
         return sum(
             int(text.partition("\nvoluntary_ctxt_switches:")[2].split()[0]) for text in texts
         )

@@ -39,7 +39,7 @@ def hold_word(accounts: Accounts, name: str, release: bool, legal: bool) -> None
     Keepers of before this word do not know it: upgrade them first.
 
     \b
-    Example; admin.toml is a copy of keeper.toml in which `profile` is another:
+    Example: (admin.toml is a copy of keeper.toml in which `profile` is another)
       pagelogctl hold shop --credentials keeper.toml
       pagelogctl hold shop --legal --credentials admin.toml
       pagelogctl hold shop --release --credentials admin.toml

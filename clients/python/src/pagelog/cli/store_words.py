@@ -94,7 +94,7 @@ def prune_word(accounts: Accounts, yes: bool) -> None:
     does not know at all, and what is of a database that is held, is left alone.
 
     \b
-    Example, with a copy of keeper.toml in which `profile` is another:
+    Example: (with a copy of keeper.toml in which `profile` is another)
       pagelogctl store prune --credentials admin.toml
     """
     from pagelog.objects.place import store_of

@@ -235,6 +235,10 @@ class Served:
         if self.acknowledged is not None:
             self.acknowledged.note(position)  # before it is acknowledged
 
+    def begin_whole(self) -> None:
+        """Its log has all that was in the log of the generation before."""
+        self.is_whole = True
+
     def lie(self, shift: int, images: int) -> None:
         """So positions are in it."""
         self.log.shift, self.log.images = shift, images

@@ -285,7 +285,7 @@ class Succession:
         )
         self._successor = None
         self._rests.reset()
-        successor.is_whole = True
+        successor.begin_whole()
         try:
             await self._database.goes_on(successor, row)
         finally:
