@@ -1012,6 +1012,23 @@ class Ahead(Hot):
             self.assertEqual(self.ends[0], End.DOUBT if cuts else End.STOPPED)
             self.assert_whole()
 
+    async def test_who_is_to_stop_keeps_nothing_more(self) -> None:
+        client, other, gate = await self.two()
+        try:
+            await self.pulled(other, position := self.write())
+            await asyncio.sleep(0.05)  # its reply comes too
+            way = self.way
+            self.database.work.stop()
+        finally:
+            await asyncio.to_thread(gate.open)
+        self.assertEqual(await client.answer(), self.durable(position - 1))
+        await self.until(lambda: way._is_over, "its end")
+        self.assertEqual(way.last, (position - 1, digest(b"", self.written[: position - 1])))
+        self.served.reach(*way.last)
+        self.begin()
+        self.assertEqual(await other.answer(), self.durable(position))
+        self.assert_whole()
+
     async def test_a_service_that_ends_meanwhile_is_left_once_the_statement_has_ended(self) -> None:
         client, other, gate = await self.two()
         try:
