@@ -59,6 +59,7 @@ PLANTS = {
     "turn, amid a transaction before a whole log": Plant("turns", "is_used = self._holder is not None or is_awaited", "is_used = is_awaited", "turns", "whole_log"),
     "turn, a whole log that nobody knows of": Plant("succession", "        successor.begin_whole()\n", "", "meanwhile", "whole_log"),
     "behind a statement, nothing": Plant("fast_path.c", "    return may_pull && has_room && ", "    return false && may_pull && has_room && ", "fast_path", "pulled_meanwhile"),
+    "behind a statement, just archived": Plant("fast_path_lines.c", "line->asked && line->position > way->reached &&", "line->asked && line->position != 0 &&", "fast_path", "just_archived"),
     "behind a statement, to the end": Plant("fast_path_referee.c", "way->batch.blocks > 0 && !way->is_over) {", "way->batch.blocks > 0) {", "fast_path", "keeps_nothing_more"),
     "behind a statement, not seen to": Plant("fast_path_plane.c", "        see_to_active(plane); /* those that may pull ahead now */\n", "", "fast_path", "no_room_for"),
     "behind a statement, above too soon": Plant("fast_path_service.c", "        way->is_ahead = false; /* it waits for the statement that is on its way; of nothing nobody is told before that ends */\n",

@@ -10,6 +10,7 @@ import resource
 import select
 import signal
 import socket
+import subprocess
 import tempfile
 import threading
 import time
@@ -47,7 +48,7 @@ from pagelog.request import PULL_MAX, Operation, Status
 from pagelog.trail import Trail
 from pagelog.trail.keeper import DAY, now
 from pagelog.trail.question import entries_of
-from service import PATIENCE, PROGRAM, WIDE_TABLE, stand_still
+from service import PATIENCE, PROGRAM, SOURCE, WIDE_TABLE, stand_still
 from test_referee import Referees
 
 READY = b"Z\0\0\0\5I"
@@ -1044,6 +1045,22 @@ class Ahead(Hot):
         self.assert_whole()
 
 
+class OneTurn(unittest.TestCase):
+    def test_what_is_just_archived_is_not_said_to_be_above(self) -> None:
+        """Though the service's answer, that there is nothing behind, is heard before anybody is told."""
+        keeper = SOURCE / "pagelog" / "keeper"
+        others = [each for each in keeper.glob("fast_path*.c") if each.stem != "fast_path_referee"]
+        postgres = subprocess.run(["pg_config", "--includedir"], capture_output=True, text=True)
+        with tempfile.TemporaryDirectory() as folder:
+            built = Path(folder, "one_turn")
+            flags = ["-std=c11", "-D_GNU_SOURCE", "-g", "-I", str(keeper), "-I", postgres.stdout.strip()]
+            libraries = ["-lpq", "-lb2", "-lz", "-lcrypto", "-pthread"]
+            source = Path(__file__).with_name("one_turn.c")
+            subprocess.run(["gcc", *flags, "-o", built, source, *others, *libraries], check=True)
+            told = subprocess.run([built], check=True, capture_output=True, text=True).stdout
+        self.assertEqual(told, "durable shop 7 1 of=1/r\n")
+
+
 class Fences(Hot):
     async def ended(self, change: str, *, is_over: bool, is_told: bool = False) -> Client:
         """Something has changed in the archive: nothing of a batch is kept, and nothing is told of it, but that the run is over."""
@@ -1887,6 +1904,7 @@ def _cases() -> Iterator[type[unittest.TestCase]]:
         Lines,
         Statements,
         Ahead,
+        OneTurn,
         Fences,
         Cut,
         Stalled,
