@@ -80,6 +80,7 @@ PLANTS = {
     "packs on their way": Plant("history", "p.number = i.pack AND p.state = 2)", "p.number = i.pack)", "branches", "on_their_way_are_copied"),
     "the library of S3, for that alone": Plant("../store/moving", "import json\n", "import json\nimport pagelog.objects.s3\n", "buckets", "for_s3_alone"),
     "page servers, blocks in the store": Plant("../referee/referee", "if rows[0][0] <= last - first and self.has_stored(log, first):", "if False:", "pages", "begins_with_the_first_block"),
+    "a range that was emptied": Plant("../store/rescuing", "    cursor.execute(_EMPTIED, {", "    str({", "rescues", "emptied_between"),
     "page servers, images in the store": Plant("../referee/bases", "        if any(row[5] is not None for row in rows):\n", "        if False:\n", "pages", "images_of_a_base"),
     "a name no further back than its base": Plant("naming", "max(base.position + 1, position - _WITHIN)", "max(1, position - _WITHIN)", "branches", "blocks_are_gone"),
     "a name in its base": Plant("naming", "    return _text(image.data[_NAME_AT:])\n", "    return None\n", "branches", "blocks_are_gone"),

@@ -541,6 +541,18 @@ class Pages(Paged):
                 pages.flush()
             eventually(lambda: not before & files(), "that what was merged is deleted")
 
+    def test_threads_that_rest_hold_no_files_where_nothing_is_written(self) -> None:
+        """The files of a base become one some time after it has begun."""
+        images = {number: random.Random(number).randbytes(8192) for number in range(6000)}
+        pages = self.start("--workers", "1", "--readers", "2")
+        drawn = random.Random(1).sample(sorted(images), len(images))
+        pages.begin(1, b"c" * 16, ((number, images[number]) for number in drawn))
+        with closing(socket.create_connection(self.split(pages.address), PATIENCE)) as line:
+            for first in range(0, 640, 64):
+                self.ask_together(line, images, drawn[first : first + 64])
+            files = (self.folder / "store").glob
+            eventually(lambda: len([*files("*.sst")]) == 1, "that what was merged is deleted")
+
     def ask_together(
         self, line: socket.socket, images: dict[int, bytes], numbers: Sequence[int]
     ) -> None:

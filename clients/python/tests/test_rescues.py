@@ -8,6 +8,8 @@ from typing import Any
 from click.testing import CliRunner
 
 from keepers import new_url
+from pagelog import Block, Put
+from pagelog.block import PAGE_SIZE
 from pagelog.cli.words import pagelogctl
 from pagelog.referee.bases import Bases, make_base
 from pagelog.keeper.branching import branch
@@ -151,6 +153,18 @@ class Rescues(Old):
             self.assertEqual(self.pages_at(referee, row, base), pages(self.made[:base]))
         self.assertEqual(make_base(referee, row.id, row.archived, row.chain).position, 745)
         self.assertEqual(self.pages_at(referee, row, 745), pages(self.made))
+
+    def test_pages_that_were_emptied_between_two_bases_are_empty(self) -> None:
+        """No manifest names a range without a page; the older base has an image of it."""
+        self.keep([Block.of(self.kept.archived + 1, [Put(9000, 0, b"x")]).data], "r1")
+        first = self.base()
+        emptied = Block.of(self.kept.archived + 1, [Put(9000, 0, bytes(PAGE_SIZE))])
+        self.keep([emptied.data], "r1")
+        second = self.base()
+        self.move()
+        _, referee, row = self.rescued()
+        for base in (first, second):
+            self.assertEqual(self.pages_at(referee, row, base), pages(self.made[:base]))
 
     def test_one_whose_oldest_blocks_were_pruned_begins_with_a_base(self) -> None:
         for is_behind_all in (False, True):

@@ -52,6 +52,13 @@ _IMAGE = """
 INSERT INTO pagelog_image (log, range, base, pages, crc, data, pack, at, length, digest) VALUES (%s, %s, %s, %s, %s, '', %s, %s, %s, %s)
 ON CONFLICT DO NOTHING
 """
+_EMPTIED = """
+INSERT INTO pagelog_image (log, range, base, pages, crc, data)
+SELECT %(log)s, range, %(base)s, '\\x0000000000000000', 0, '' FROM (
+  SELECT range FROM pagelog_image WHERE log = %(log)s AND base < %(base)s EXCEPT SELECT unnest(%(ranges)s::integer[])) v
+ON CONFLICT DO NOTHING
+"""
+"""A manifest names no range that has no page any more: without a row the image of an older base would be taken for its own."""
 
 
 @dataclass(frozen=True)
@@ -268,4 +275,6 @@ def write_base(
             for each, number in base.images
         ],
     )
+    ranges = [each.range for each, _ in base.images]
+    cursor.execute(_EMPTIED, {"log": log, "base": facts.position, "ranges": ranges})
     return given + len(fresh)
