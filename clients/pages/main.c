@@ -20,6 +20,7 @@
 #include <signal.h>
 #include <stdlib.h>
 #include <string.h>
+#include <sys/resource.h>
 #include <sys/socket.h>
 #include <unistd.h>
 
@@ -89,6 +90,13 @@ static bool has_all(const struct settings *settings) {
     bool has_place = strcmp(settings->listen, "-") != 0 || settings->secure;
     return has_place && !settings->secure == !shown->file && !shown->clients == !shown->identity &&
            (shown->file || !shown->clients);
+}
+
+/* Connections are at most half of the descriptors that there may be: they leave the others to the store. */
+static void bound_connections(struct settings *settings) {
+    struct rlimit most;
+    if (getrlimit(RLIMIT_NOFILE, &most) == 0 && settings->server.connections > most.rlim_cur / 2)
+        settings->server.connections = (unsigned)(most.rlim_cur / 2);
 }
 
 static bool read_arguments(int count, char **words, struct settings *settings) {
@@ -190,6 +198,7 @@ int main(int count, char **words) {
               stderr);
         return 2;
     }
+    bound_connections(&settings);
     signal(SIGPIPE, SIG_IGN);
     if (settings.secure && !(settings.server.shown = shown_new(&settings.shown, why_not, sizeof why_not)))
         return fail("TLS", why_not);

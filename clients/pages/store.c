@@ -2,6 +2,7 @@
 #include "store_inside.h"
 
 #include <stdlib.h>
+#include <sys/resource.h>
 #include <unistd.h>
 
 enum {
@@ -11,6 +12,7 @@ enum {
     TABLE_BLOCK = 8 << 10,
     XXH3 = 4,
     TABLE_FORMAT = 5,
+    MOST_FILES = 1000,
     HOT_PART = 8 /* of the cache: whole pages */
 };
 
@@ -29,12 +31,19 @@ static rocksdb_block_based_table_options_t *table_options(struct store *store) {
     return table;
 }
 
+/* Open at a time: a quarter of the descriptors that there may be. */
+static int most_files(void) {
+    struct rlimit most;
+    if (getrlimit(RLIMIT_NOFILE, &most) != 0 || most.rlim_cur / 4 > MOST_FILES) return MOST_FILES;
+    return (int)(most.rlim_cur / 4);
+}
+
 static rocksdb_options_t *options_of(struct store *store, const struct store_settings *settings) {
     rocksdb_options_t *options = rocksdb_options_create();
     rocksdb_options_set_create_if_missing(options, 1);
     rocksdb_options_set_write_buffer_size(options, settings->memtable);
     rocksdb_options_set_max_background_jobs(options, 2);
-    rocksdb_options_set_max_open_files(options, 1000);
+    rocksdb_options_set_max_open_files(options, most_files());
     rocksdb_options_set_bytes_per_sync(options, 1 << 20);
     rocksdb_options_set_compression(options, rocksdb_lz4_compression);
     rocksdb_options_set_level_compaction_dynamic_level_bytes(options, 1);

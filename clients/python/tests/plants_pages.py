@@ -106,6 +106,7 @@ PLANTS = {
     "pages, position before the write": Plant(f"{_C}/store_write.c", "    enum store_end end = write_batch(store);\n    if (end != STORE_DONE) return end;\n    store->has_begun",
                                               "    if (chain) atomic_store(&store->confirmed, store->added);\n    enum store_end end = write_batch(store);\n"
                                               "    if (end != STORE_DONE) return end;\n    store->has_begun", "pages", "once_it_can_be_read"),
+    "pages, descriptors of all": Plant(f"{_C}/main.c", "    bound_connections(&settings);\n    signal", "    (void)bound_connections;\n    signal", "pages", "leave_its_files"),
     "pages, a view for ever": Plant(f"{_C}/store_view.c", "           view->made == now_s();\n", "           view->made <= now_s();\n", "pages", "nothing_is_written"),
     "pages, a view without its stamp": Plant(f"{_C}/store_view.c", "    return view->seen == atomic_load_explicit(",
                                              "    return view->seen <= atomic_load_explicit(", "pages", "once_it_can_be_read"),

@@ -5,6 +5,7 @@ from __future__ import annotations
 import json
 import os
 import random
+import resource
 import shutil
 import signal
 import socket
@@ -15,7 +16,7 @@ import tempfile
 import threading
 import time
 import unittest
-from contextlib import closing, suppress
+from contextlib import ExitStack, closing, suppress
 from itertools import accumulate, product
 from pathlib import Path
 from typing import Any, Iterator, Sequence
@@ -456,6 +457,26 @@ class Pages(Paged):
         with closing(socket.create_connection(self.split(pages.address))):
             pages.close_doors()
             eventually(lambda: pages.ask().connections == 0, "the end of all connections")
+
+    def test_silent_connections_leave_its_files_their_descriptors(self) -> None:
+        soft, hard = resource.getrlimit(resource.RLIMIT_NOFILE)
+        resource.setrlimit(resource.RLIMIT_NOFILE, (256, hard))
+        try:
+            pages = self.start()
+        finally:
+            resource.setrlimit(resource.RLIMIT_NOFILE, (soft, hard))
+        log = Log(50, 8)
+        self.feed(pages, log, 40)
+        with ExitStack() as stack:
+            for _ in range(300):
+                line = socket.create_connection(self.split(pages.address), PATIENCE)
+                stack.enter_context(closing(line))
+            self.assertEqual(line.recv(1), b"")  # the last one is too much
+            self.assertEqual(pages.ask().connections, 128)
+            pages.flush()
+            self.feed(pages, log, 50)
+            pages.flush()
+            self.assertEqual(pages.ask().written, 50)
 
     def test_once_a_table_is_set_or_doors_are_closed_nothing_else_is_under_way(self) -> None:
         base = Block.of(1, [Put(0, n, b"x") for n in range(2000)])
