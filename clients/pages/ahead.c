@@ -50,14 +50,14 @@ static void read_one(struct ahead *ahead, struct batch *batch, struct store_view
 /* Waits for more. Where the view holds something, a second at most. Locked, but while it lets go of that. */
 static void rest(struct ahead *ahead, struct store_view *view) {
     struct timespec until;
-    clock_gettime(CLOCK_REALTIME, &until);
+    clock_gettime(CLOCK_MONOTONIC, &until);
     until.tv_sec++;
     pthread_mutex_unlock(&ahead->lock);
     bool holds = store_view_rest(view);
     pthread_mutex_lock(&ahead->lock);
     if (ahead->first || ahead->ends) return;
     if (holds)
-        pthread_cond_timedwait(&ahead->has_more, &ahead->lock, &until);
+        pthread_cond_clockwait(&ahead->has_more, &ahead->lock, CLOCK_MONOTONIC, &until);
     else
         pthread_cond_wait(&ahead->has_more, &ahead->lock);
 }
