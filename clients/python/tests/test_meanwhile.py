@@ -570,6 +570,7 @@ class Successions(Meanwhile):
         self.held(is_whole=False)
         succession, made = self.successor()
         made.is_whole = False
+        made.begin_whole = lambda: Served.begin_whole(made)
         keeper = Mock(Keeper, _named=lambda name: {"shop": self.database}.get(name))
         archiver = Mock(turn=asyncio.Lock(), caught_up=AsyncMock(), is_over=False, lining=None)
         moved = Mock(return_value=(Mock(end=5, images=0, blocks=()), 0.0, ROW))
