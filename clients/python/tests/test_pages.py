@@ -472,7 +472,7 @@ class Pages(Paged):
                 line = socket.create_connection(self.split(pages.address), PATIENCE)
                 stack.enter_context(closing(line))
             self.assertEqual(line.recv(1), b"")  # the last one is too much
-            self.assertEqual(pages.ask().connections, 128)
+            eventually(lambda: pages.ask().connections == 128, "that all others are gone")
             pages.flush()
             self.feed(pages, log, 50)
             pages.flush()
@@ -542,7 +542,8 @@ class Pages(Paged):
             before = self.switches(pages, "reader", 3)
             for _ in range(10):
                 self.ask_together(line, images, range(64))
-            self.assertEqual(self.switches(pages, "reader", 3), before, "pages are in memory")
+            # Those of memory wake nobody; one that rests wakes twice by itself to let go of what it holds.
+            self.assertLess(self.switches(pages, "reader", 3), before + 10)
 
     def test_threads_that_rest_hold_no_files(self) -> None:
         images = {number: random.Random(number).randbytes(8192) for number in range(1000)}
