@@ -515,7 +515,9 @@ def test_a_reader_of_one_key_asks_for_few_pages():
             writer.execute("commit")
         true("large", one(writer, "pragma page_count") > 1400)
         for key in (7, 1500, 2990):
-            with Gate(service.address) as gate:  # each its own: what one asks for ahead may still be on its way
+            with Gate(
+                service.address
+            ) as gate:  # each its own: what one asks for ahead may still be on its way
                 connection = reader(gate.address, keep=0)
                 same("a row", 4000, one(connection, "select length(b) from t where a = ?", key))
                 gets = sum(frame[33] == wire.GET for frame in list(gate.asked))

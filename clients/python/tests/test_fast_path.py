@@ -1053,7 +1053,15 @@ class OneTurn(unittest.TestCase):
         postgres = subprocess.run(["pg_config", "--includedir"], capture_output=True, text=True)
         with tempfile.TemporaryDirectory() as folder:
             built = Path(folder, "one_turn")
-            flags = ["-std=c11", "-D_GNU_SOURCE", "-g", "-I", str(keeper), "-I", postgres.stdout.strip()]
+            flags = [
+                "-std=c11",
+                "-D_GNU_SOURCE",
+                "-g",
+                "-I",
+                str(keeper),
+                "-I",
+                postgres.stdout.strip(),
+            ]
             libraries = ["-lpq", "-lb2", "-lz", "-lcrypto", "-pthread"]
             source = Path(__file__).with_name("one_turn.c")
             subprocess.run(["gcc", *flags, "-o", built, source, *others, *libraries], check=True)
