@@ -565,7 +565,9 @@ class Lines(Writers):
         turns.hear(fast_calls.Event(1, fast_calls.WRITERS_ENDED))
         line.take_back.assert_called_once_with(b"")
         self.assertEqual(turns._lent, {})
-        self.assertEqual(os.read(end, 1), b"")  # nobody has the other end: its number may be another's by now
+        self.assertEqual(
+            os.read(end, 1), b""
+        )  # nobody has the other end: its number may be another's by now
 
     async def test_as_the_thread_ends_all_lines_are_the_keepers(self) -> None:
         a, b = await self.writer(), await self.writer()
