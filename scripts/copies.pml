@@ -113,7 +113,7 @@ active proctype World() {
 
 // pagelog_paged.c: is_held
                     // ..
-                    // return last && strcmp(named->held_run, named->place.run) == 0 && last->position == mark->position && last->session == mark->session && last->transaction == mark->transaction;
+                    // return last && strcmp(named->held_run, named->place.run) == 0 && is_at(last->position, mark->position) && last->session == mark->session && last->transaction == mark->transaction;
 // pagelog_paged.c: pagelog_hold_transaction
                     // ..
                     // if (is_held(file, &before))
@@ -144,7 +144,7 @@ inline enter() {
 // pagelog_copy.c: connect_anew
                     // ..
                     // copy->was_open = copy->connects == copy->line.connects;
-                    // if (!copy->was_open) copy->proved = 0;
+                    // if (!copy->was_open) copy->proved.number = 0;
                     // ..
 inline connect() {
     is_open = 1; over = life;

@@ -160,14 +160,13 @@ end:
 /* ---- Positions ---- */
 
 // pagelog_move.c: carried
-                    // int64_t now = (int64_t)lsn + by;
-                    // return lsn == 0 || now < 0 ? 0 : (uint64_t)now;
+                    // return is_none(lsn) ? lsn : pagelog_lsn_in(to, pagelog_position_in(from, lsn));
 // pagelog_move.c: carry
-                    // file->mark.lsn = carried(file->mark.lsn, by);
+                    // file->mark.lsn = carried(file->mark.lsn, from, to);
                     // ..
 // pagelog_move.c: enter
                     // ..
-                    // carry(file, named->place.shift - place->shift);
+                    // carry(file, named->place.shift, place->shift);
                     // ..
                     // named->place = *place;
                     // ..
@@ -198,11 +197,11 @@ inline enter(p) {
 #define IS_EMPTY (first == next)
 
 // pagelog_tail.c: pagelog_tail_add
-                    // if (position != tail->next)
+                    // if (!is_at(position, tail->next))
                     // tail->next = position;
                     // forget(tail);
                     // ..
-                    // tail->next++;
+                    // tail->next = next_of(tail->next);
                     // return true;
 inline tail_add(p, b) {
     if
@@ -242,18 +241,18 @@ inline tell_durable(b) {
                     // file->named.given_up++;
 // pagelog_move.c: lose_to
                     // ..
-                    // bool was_told = position <= named->own;
+                    // bool was_told = !is_before(named->own, position);
                     // pagelog_tail_cut(&named->tail, position);
-                    // if (named->durable >= position) named->durable = position - 1;
+                    // named->durable = lower_of(named->durable, last_before(position));
                     // named->settled = named->place;
                     // named->is_between = false;
-                    // if (named->told >= position) named->told = position - 1;
+                    // named->told = lower_of(named->told, last_before(position));
                     // pagelog_become_follower(file);
                     // give_up_transaction(file);
                     // pagelog_begin_session(file);
                     // if (!was_told)
                     // ..
-                    // named->own = position - 1;
+                    // named->own = last_before(position);
                     // ..
                     // pagelog_have(file, OVER);
                     // ..
@@ -286,15 +285,15 @@ inline lose_from(p, told_as) {
 
 // pagelog_move.c: learn_end
                     // ..
-                    // uint64_t last = is_empty ? named->own : named->tail.next - 1;
-                    // if (is_settled_here(named) || last == 0) return PAGELOG_DONE;
+                    // struct pagelog_position last = is_empty ? named->own : last_before(named->tail.next);
+                    // if (is_settled_here(named) || is_none(last)) return PAGELOG_DONE;
                     // enum pagelog_outcome outcome = pagelog_fate_of(named->keepers, NULL, &named->settled, last, &fate);
                     // ..
-                    // bool is_lost = fate.end < named->durable || (is_empty && fate.is_over && fate.end < last);
+                    // bool is_lost = is_before(fate.end, named->durable) || (is_empty && fate.is_over && is_before(fate.end, last));
                     // if (is_lost) fate.loss = PAGELOG_SUPERSEDED;
                     // ..
-                    // uint64_t told = fate.end < named->told ? fate.end : named->told;
-                    // if (told > named->durable) named->durable = told;
+                    // struct pagelog_position told = lower_of(fate.end, named->told);
+                    // named->durable = higher_of(named->durable, told);
                     // pagelog_tail_drop(&named->tail, told);
                     // ..
 /* This archive never goes back, so nothing that was durable is lost. A planted fault is to be found by what its user meets. */
@@ -319,14 +318,14 @@ inline learn_end() {
 /* The first position of the tail that the log lacks or has another block at. */
 // pagelog_move.c: compare_with_base
                     // ..
-                    // return own.lsn > 0 && pagelog_is_same_mark(&own, &found) ? PAGELOG_DONE : PAGELOG_IN_DOUBT;
+                    // return !is_none(own.lsn) && pagelog_is_same_mark(&own, &found) ? PAGELOG_DONE : PAGELOG_IN_DOUBT;
 // pagelog_move.c: compare_tail
                     // ..
                     // *differs = first;
-                    // if (first > base || named->place.shift == 0) outcome = compare(file, first, hard, differs);
-                    // if (outcome != PAGELOG_DONE || *differs > base) return outcome;
+                    // if (is_before(base, first) || named->place.shift == 0) outcome = compare(file, first, hard, differs);
+                    // if (outcome != PAGELOG_DONE || is_before(base, *differs)) return outcome;
                     // outcome = compare_with_base(file);
-                    // return outcome == PAGELOG_DONE ? compare(file, base + 1, hard, differs) : outcome;
+                    // return outcome == PAGELOG_DONE ? compare(file, next_of(base), hard, differs) : outcome;
 inline compare(p) {
     differs = p;
     do
@@ -394,8 +393,9 @@ inline look_after_own() {
 
 // pagelog_move.c: find_transaction
                     // ..
-                    // bool is_below = position_of(file, file->mark.lsn) < named->place.base && named->place.shift != 0;
-                    // if (file->mark.lsn == 0 || file->mark.lsn > hard || is_below)
+                    // struct pagelog_position position = position_of(file, file->mark.lsn);
+                    // bool is_below = is_before(position, named->place.base) && named->place.shift != 0;
+                    // if (is_none(file->mark.lsn) || is_before(hard, file->mark.lsn) || is_below)
                     // give_up_transaction(file);
                     // return PAGELOG_DONE;
                     // enum pagelog_outcome outcome = mark_at(file, file->mark.lsn, &found);
@@ -413,7 +413,7 @@ inline find_transaction() {
 // pagelog_move.c: send_again
                     // ..
                     // pagelog_take_over(file->log, options->operator_principal, options->operator_token, status->epoch);
-                    // if (outcome == PAGELOG_DONE && pagelog_end(file->log) != status->hard) outcome = PAGELOG_LOST;
+                    // if (outcome == PAGELOG_DONE && !is_at(end_of(file), hard_of(status))) outcome = PAGELOG_LOST;
                     // if (outcome == PAGELOG_DONE) outcome = send_rest(file);
                     // if (outcome != PAGELOG_DONE) return outcome;
                     // if (!is_writer(file)) pagelog_stand(file, WRITING);
@@ -436,8 +436,8 @@ inline take_over() {
                     // ..
                     // enum pagelog_outcome outcome = compare_tail(file, hard, &differs);
                     // if (outcome == PAGELOG_IN_DOUBT) return lose_from(file, differs, outcome);
-                    // if (outcome != PAGELOG_DONE || differs == named->tail.next) return outcome;
-                    // return differs <= hard ? lose_from(file, differs, PAGELOG_FENCED) : send_again(file, status);
+                    // if (outcome != PAGELOG_DONE || is_at(differs, named->tail.next)) return outcome;
+                    // return is_before(differs, next) ? lose_from(file, differs, PAGELOG_FENCED) : send_again(file, status);
 inline settle_tail() {
     if
     :: IS_EMPTY
@@ -463,7 +463,7 @@ inline settle_tail() {
                     // if (outcome != PAGELOG_DONE) return outcome;
                     // named->settled = named->place;
                     // ..
-                    // outcome = find_transaction(file, pagelog_end(file->log));
+                    // outcome = find_transaction(file, end_of(file));
                     // if (outcome == PAGELOG_DONE) named->is_between = false;
                     // return outcome;
 inline arrive() {
@@ -537,7 +537,7 @@ inline try_to_move() {
 }
 
 // pagelog_move.c: may_be_there
-                    // return named->is_sent_again && !pagelog_tail_is_empty(&named->tail) && named->tail.next - 1 > named->told;
+                    // return named->is_sent_again && !pagelog_tail_is_empty(&named->tail) && is_before(next_of(named->told), named->tail.next);
 // pagelog_move.c: give_up_move
                     // ..
                     // return pagelog_file_fail(file, may_be_there(&file->named) ? PAGELOG_IN_DOUBT : leaving->cause, why);
@@ -594,7 +594,7 @@ inline move(why) {
                     // return true;
 // pagelog_durable.c: pagelog_hold_pulled
                     // ..
-                    // bool is_held = !pagelog_tail_is_empty(tail) && position_of(file, lsn) < tail->next;
+                    // bool is_held = !pagelog_tail_is_empty(tail) && is_before(position_of(file, lsn), tail->next);
                     // bool is_good = is_held || hold(
                     // ..
 inline follow() {
@@ -618,12 +618,12 @@ inline follow() {
 /* It looks at the end once more when it has begun the epoch. */
 // pagelog_named.c: become_writer
                     // ..
-                    // if (outcome == PAGELOG_DONE) outcome = compare_newest(file, PAGELOG_SECONDARY, status.hard);
+                    // if (outcome == PAGELOG_DONE) outcome = compare_newest(file, PAGELOG_SECONDARY, hard_of(&status));
                     // bool is_let_in = outcome == PAGELOG_DONE;
                     // if (outcome == PAGELOG_DONE)
                     // outcome = pagelog_take_over(file->log, options->operator_principal, options->operator_token, 0);
                     // ..
-                    // if (outcome == PAGELOG_DONE) outcome = compare_newest(file, PAGELOG_PRIMARY, pagelog_end(file->log));
+                    // if (outcome == PAGELOG_DONE) outcome = compare_newest(file, PAGELOG_PRIMARY, end_of(file));
                     // if (outcome != PAGELOG_DONE) return outcome;
                     // ..
 #define MAY_BECOME_WRITER (alive[gen] && !closed[gen] && hard[gen] == READ)
@@ -634,7 +634,7 @@ inline follow() {
                     // enum pagelog_outcome outcome = pagelog_hand_over(
                     // ..
                     // if (outcome == PAGELOG_DONE) outcome = pagelog_take_pulled(file, &pulled);
-                    // if (outcome != PAGELOG_DONE || file->mark.lsn != pagelog_end(file->log)) return false;
+                    // if (outcome != PAGELOG_DONE || !is_at(file->mark.lsn, end_of(file))) return false;
                     // pagelog_stand(file, WRITING);
                     // ..
 #ifdef TAKES_OVER_UNREAD
@@ -691,7 +691,7 @@ inline append() {
 }
 
 // pagelog_durable.c: let_go
-                    // pagelog_tail_cut(&file->named.tail, file->named.told + 1);
+                    // pagelog_tail_cut(&file->named.tail, next_of(file->named.told));
                     // pagelog_begin_session(file);
                     // return outcome;
 // pagelog_durable.c: pagelog_end_append
@@ -699,7 +699,7 @@ inline append() {
                     // if (outcome != PAGELOG_DONE && pagelog_may_move(file, outcome)) outcome = pagelog_move(file, outcome);
                     // if (outcome != PAGELOG_DONE) return let_go(file, outcome);
                     // named->settled = named->place;
-                    // if (!pagelog_tail_is_empty(&named->tail)) named->told = named->own = named->tail.next - 1;
+                    // if (!pagelog_tail_is_empty(&named->tail)) named->told = named->own = last_before(named->tail.next);
                     // return PAGELOG_DONE;
 // pagelog_move.c: pagelog_move
                     // bool is_kept = cause == PAGELOG_IN_DOUBT || cause == PAGELOG_AUDIT_FULL || cause == PAGELOG_NO_MEMORY;
@@ -747,19 +747,20 @@ inline hold_nothing() {
 /* It waits for the archive: asks the keepers of its generation, and then takes the answer, wherever it is by then. */
 // pagelog_durable.c: pagelog_file_is_durable
                     // ..
-                    // if (awaited->position <= named->durable) return true;
+                    // if (awaited->position <= named->durable.number) return true;
                     // awaited->place = named->place;
                     // ..
 // pagelog_durable.c: note_durable
                     // ..
                     // if (!is_settled_here(named)) return;
-                    // if (position > named->durable) named->durable = position;
-                    // pagelog_tail_drop(&named->tail, position < named->told ? position : named->told);
+                    // named->durable = higher_of(named->durable, position);
+                    // pagelog_tail_drop(&named->tail, lower_of(position, named->told));
 // pagelog_durable.c: pagelog_note_fate
                     // bool is_here = strcmp(place->run, file->named.place.run) == 0;
                     // ..
                     // if (is_here) note_durable(file, fate->end);
-                    // return is_here && fate->is_over && fate->end < position ? pagelog_move_on(file) : PAGELOG_DONE;
+                    // bool is_cut = is_here && fate->is_over && is_before(fate->end, position);
+                    // return is_cut ? pagelog_move_on(file) : PAGELOG_DONE;
 #ifdef TAKES_ANY_ANSWER
 #define IS_SETTLED true
 #define IS_HERE true
@@ -783,10 +784,10 @@ inline note_durable(p) {
 
 // pagelog_durable.c: take_of_writer
                     // ..
-                    // if (named->told < awaited->position && named->durable < awaited->position)
+                    // if (is_before(named->told, position) && is_before(named->durable, position))
                     // return pagelog_file_fail(file, PAGELOG_CONFLICT
                     // ..
-                    // if (outcome == PAGELOG_DONE) return pagelog_note_fate(file, &awaited->place, fate, awaited->position);
+                    // if (outcome == PAGELOG_DONE) return pagelog_note_fate(file, &awaited->place, fate, position);
                     // ..
 inline wait_until_durable() {
     do
@@ -923,7 +924,7 @@ end:
                     // return file->options.durable_only && !file->options.at ? hurry(file) : PAGELOG_DONE;
 // pagelog_named.c: pagelog_limit_of
                     // ..
-                    // return file->options.durable_only ? lsn_of(file, file->named.durable) : UINT64_MAX;
+                    // return file->options.durable_only ? lsn_of(file, file->named.durable) : no_limit;
 #ifdef SEES_WHAT_IS_NOT_DURABLE
 #define LIMIT LAST
 #else

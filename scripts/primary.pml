@@ -668,12 +668,12 @@ inline take_over_any() {
 
 // pagelog_repair.c: pagelog_take_whole
                     // ..
-                    // enum pagelog_outcome outcome = pagelog_take_mark(file, pagelog_end(file->log));
-                    // if (outcome == PAGELOG_DONE && file->doubted > 0) outcome = look_for_doubted(file);
-                    // while (outcome == PAGELOG_DONE && file->torn > 0 && file->mark.lsn >= file->torn &&
+                    // enum pagelog_outcome outcome = pagelog_take_mark(file, end_of(file));
+                    // if (outcome == PAGELOG_DONE && !is_none(file->doubted)) outcome = look_for_doubted(file);
+                    // while (outcome == PAGELOG_DONE && !is_none(file->torn) && !is_before(file->mark.lsn, file->torn) &&
                     // file->mark.session == file->session)
                     // ..
-                    // outcome = pagelog_take_mark(file, file->mark.lsn - 1);
+                    // outcome = pagelog_take_mark(file, last_before(file->mark.lsn));
                     // ..
 #ifdef FORGETS_WHAT_IS_TORN
 #define IS_NOT_WHOLE (!HAS_MARK(content[mark]))
@@ -686,9 +686,9 @@ inline take_over_any() {
 /* A page at an LSN of the log stays what it is. A writer that is fenced by this read goes on as a follower. */
 // pagelog_file.c: recover
                     // enum pagelog_outcome outcome = pagelog_take_whole(file);
-                    // if (outcome == PAGELOG_DONE && is_writer(file) && pagelog_end(file->log) > file->mark.lsn)
+                    // if (outcome == PAGELOG_DONE && is_writer(file) && is_before(file->mark.lsn, end_of(file)))
                     // outcome = pagelog_repair(file);
-                    // if (outcome == PAGELOG_DONE) file->torn = file->doubted = 0;
+                    // if (outcome == PAGELOG_DONE) file->torn = file->doubted = (struct pagelog_lsn){0};
                     // ..
 inline recover() {
     decide(_pid, mine);
@@ -767,7 +767,7 @@ inline renew() {
 // pagelog_file.c: check_epoch
                     // ..
                     // enum pagelog_outcome outcome = pagelog_status(file->log, PAGELOG_PRIMARY, &status);
-                    // if (outcome != PAGELOG_DONE || status.hard == file->mark.lsn) return outcome;
+                    // if (outcome != PAGELOG_DONE || is_at(hard_of(&status), file->mark.lsn)) return outcome;
                     // outcome = recover(file);
                     // bool is_ended = !pagelog_is_stuck(file->log);
                     // if (!is_ended && is_writer(file)) pagelog_stand(file, BROKEN);
@@ -791,8 +791,7 @@ inline check_epoch() {
                     // ..
                     // if (ends_before) return PAGELOG_CONFLICT;
                     // if (outcome != PAGELOG_DONE) return outcome;
-                    // bool is_ours = pagelog_read_mark(file, page, &found) && found.lsn == mark->lsn &&
-                    // found.session == mark->session && found.transaction == mark->transaction;
+                    // bool is_ours = pagelog_read_mark(file, page, &found) && pagelog_is_same_mark(&found, mark);
                     // return is_ours ? PAGELOG_DONE : PAGELOG_CONFLICT;
 #ifdef FINDS_ANY_MARK
 #define IS_OURS (lsn <= hard)
@@ -853,8 +852,8 @@ inline settle_by_blocks() {
                     // outcome = find_mark(file, role_of(file), mark);
                     // if (outcome == PAGELOG_DONE) outcome = settle_by_blocks(file, mark, &refused);
                     // if (outcome == PAGELOG_IN_DOUBT) return outcome;
-                    // if (outcome == PAGELOG_DONE || outcome == PAGELOG_CONFLICT) file->doubted = 0;
-                    // bool has_gone_on = outcome == PAGELOG_DONE && !is_fenced && pagelog_end(file->log) != mark->lsn;
+                    // if (outcome == PAGELOG_DONE || outcome == PAGELOG_CONFLICT) file->doubted.number = 0;
+                    // bool has_gone_on = outcome == PAGELOG_DONE && !is_fenced && !is_at(end_of(file), mark->lsn);
                     // if (has_gone_on && is_writer(file)) pagelog_stand(file, BROKEN);
                     // if (outcome == PAGELOG_DONE) return PAGELOG_DONE;
                     // if (outcome != PAGELOG_CONFLICT) return pagelog_restore(file->log, PAGELOG_IN_DOUBT, &refused);
@@ -897,7 +896,7 @@ inline settle_doubt() {
 
 // pagelog_commit.c: note_failure
                     // ..
-                    // bool is_untouched = pagelog_end(file->log) == end && !pagelog_is_stuck(file->log);
+                    // bool is_untouched = is_at(end_of(file), end) && !pagelog_is_stuck(file->log);
                     // if (is_named(file)) pagelog_become_follower(file);
                     // else if (outcome == PAGELOG_FENCED && !pagelog_is_restarted(file->log))
                     // pagelog_become_follower(file);
@@ -976,9 +975,10 @@ inline end_commit() {
 /* Undoes the block that has no end mark after it. If a begin has failed it begins again; if an open has, it stops. */
 // pagelog_repair.c: pagelog_repair
                     // ..
-                    // uint64_t end = pagelog_end(file->log), position = position_of(file, end);
+                    // struct pagelog_lsn end = end_of(file);
+                    // struct pagelog_position position = position_of(file, end);
                     // ..
-                    // pagelog_blocks_restart(file->blocks, end + 1);
+                    // restart_at(file->blocks, next_of(end));
                     // ..
                     // if (outcome == PAGELOG_DONE) outcome = pagelog_append_ended(file);
                     // if (outcome != PAGELOG_DONE) return outcome;

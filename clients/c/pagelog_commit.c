@@ -111,7 +111,7 @@ static void keep(struct pagelog_file *file, const struct mark *mark, bool is_unw
     file->told_session = mark->session;
     file->is_named = file->is_named || *file->name;
     file->least = file->size;
-    file->next = mark->lsn + 1;
+    file->next = next_of(mark->lsn);
     file->commits++;
 }
 
@@ -121,9 +121,9 @@ static struct mark next_mark(const struct pagelog_file *file) {
 
 /* Whether nothing differs from what was committed, where the first `blocks_before` blocks are of commits on
  * their way. Blocks that were appended already count too. */
-static bool is_nothing(const struct pagelog_file *file, uint64_t end_before, size_t blocks_before) {
+static bool is_nothing(const struct pagelog_file *file, struct pagelog_lsn end_before, size_t blocks_before) {
     return pagelog_blocks_is_fresh(file->blocks) && pagelog_blocks_count(file->blocks) == blocks_before &&
-           pagelog_end(file->log) == end_before && file->size == file->mark.size;
+           is_at(end_of(file), end_before) && file->size == file->mark.size;
 }
 
 /* The outcome of a group before the last one: the end mark was not sent, so that there is no doubt about the
@@ -154,8 +154,8 @@ static enum pagelog_outcome send_last_blocks(struct pagelog_file *file, enum fat
 static enum pagelog_outcome send_changes(struct commit *commit, struct mark *mark, enum fate *fate) {
     struct pagelog_file *file = commit->file;
     size_t next = 0;
-    uint64_t end = pagelog_end(file->log);
-    if (file->on_their_way == 0) pagelog_blocks_restart(file->blocks, end + 1);
+    struct pagelog_lsn end = end_of(file);
+    if (file->on_their_way == 0) restart_at(file->blocks, next_of(end));
     size_t blocks = pagelog_blocks_count(file->blocks);
     enum pagelog_outcome outcome = add_old_pages(commit, &next);
     if (outcome == PAGELOG_DONE) outcome = add_fresh_pages(commit, next);
@@ -163,7 +163,7 @@ static enum pagelog_outcome send_changes(struct commit *commit, struct mark *mar
     *fate = NOTHING_DIFFERS;
     if (is_nothing(file, end, blocks)) return PAGELOG_DONE;
     outcome = pagelog_add_mark(file, mark);
-    uint64_t position = position_of(file, mark->lsn); /* the append may move the file */
+    struct pagelog_position position = position_of(file, mark->lsn); /* the append may move the file */
     if (outcome == PAGELOG_DONE) outcome = send_last_blocks(file, fate);
     mark->lsn = lsn_of(file, position);
     return outcome;
@@ -176,13 +176,12 @@ static enum pagelog_outcome find_mark(struct pagelog_file *file, enum pagelog_ro
     uint8_t page[PAGELOG_PAGE_BYTES];
     const uint32_t number = MARK_PAGE;
     struct mark found;
-    enum pagelog_outcome outcome = pagelog_get(file->log, role, mark->lsn, &number, 1, page);
+    enum pagelog_outcome outcome = get_at(file, role, mark->lsn, &number, 1, page);
     bool ends_before = outcome == PAGELOG_DENIED && pagelog_refused(file->log)->section == 3 &&
                        pagelog_refused(file->log)->row == 1 && !pagelog_is_restarted(file->log);
     if (ends_before) return PAGELOG_CONFLICT;
     if (outcome != PAGELOG_DONE) return outcome;
-    bool is_ours = pagelog_read_mark(file, page, &found) && found.lsn == mark->lsn &&
-                   found.session == mark->session && found.transaction == mark->transaction;
+    bool is_ours = pagelog_read_mark(file, page, &found) && pagelog_is_same_mark(&found, mark);
     return is_ours ? PAGELOG_DONE : PAGELOG_CONFLICT;
 }
 
@@ -215,9 +214,9 @@ static enum pagelog_outcome settle_doubt(struct pagelog_file *file, const struct
     outcome = find_mark(file, role_of(file), mark);
     if (outcome == PAGELOG_DONE) outcome = settle_by_blocks(file, mark, &refused);
     if (outcome == PAGELOG_IN_DOUBT) return outcome;
-    if (outcome == PAGELOG_DONE || outcome == PAGELOG_CONFLICT) file->doubted = 0;
+    if (outcome == PAGELOG_DONE || outcome == PAGELOG_CONFLICT) file->doubted.number = 0;
     /* Where a failover's reply was lost, another writer may have gone on from there before this epoch. */
-    bool has_gone_on = outcome == PAGELOG_DONE && !is_fenced && pagelog_end(file->log) != mark->lsn;
+    bool has_gone_on = outcome == PAGELOG_DONE && !is_fenced && !is_at(end_of(file), mark->lsn);
     if (has_gone_on && is_writer(file)) pagelog_stand(file, BROKEN);
     if (outcome == PAGELOG_DONE) return PAGELOG_DONE;
     if (outcome != PAGELOG_CONFLICT) return pagelog_restore(file->log, PAGELOG_IN_DOUBT, &refused);
@@ -226,9 +225,9 @@ static enum pagelog_outcome settle_doubt(struct pagelog_file *file, const struct
 }
 
 /* What an outcome leaves behind for the next transaction. */
-static void note_failure(struct pagelog_file *file, enum pagelog_outcome outcome, uint64_t end) {
+static void note_failure(struct pagelog_file *file, enum pagelog_outcome outcome, struct pagelog_lsn end) {
     if (pagelog_in_flight(file->log) > 0) pagelog_disconnect(file->log); /* blocks without an end */
-    bool is_untouched = pagelog_end(file->log) == end && !pagelog_is_stuck(file->log);
+    bool is_untouched = is_at(end_of(file), end) && !pagelog_is_stuck(file->log);
     if (is_named(file))
         pagelog_become_follower(file);
     else if (outcome == PAGELOG_FENCED && !pagelog_is_restarted(file->log))
@@ -280,7 +279,7 @@ static enum pagelog_outcome commit_changes(struct commit *commit) {
     struct pagelog_file *file = commit->file;
     struct mark mark = next_mark(file);
     enum fate fate = IN_THE_LOG;
-    uint64_t end = pagelog_end(file->log);
+    struct pagelog_lsn end = end_of(file);
     enum pagelog_outcome outcome = send_changes(commit, &mark, &fate);
     if (outcome == PAGELOG_IN_DOUBT) outcome = settle_doubt(file, &mark);
     if (outcome != PAGELOG_DONE && file->on_their_way > 0) return lose(file, outcome);

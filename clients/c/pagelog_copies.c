@@ -84,7 +84,7 @@ void pagelog_copies_set(struct pagelog_copies *copies, const struct pagelog_page
 
 void pagelog_copies_doubt(struct pagelog_copies *copies) {
     for (size_t i = 0; i < copies->count; i++)
-        copies->copies[i].proved = 0;
+        copies->copies[i].proved.number = 0;
 }
 
 /* ---- A question ---- */
@@ -112,7 +112,8 @@ static void choose(struct question *question, uint64_t now) {
     for (size_t i = 0; i < copies->count; i++) {
         struct pagelog_copy *copy = &copies->copies[i];
         size_t at = question->candidates;
-        if (copy->free > now || copy->server.oldest > pagelog_held_last(question->held)->position) continue;
+        if (copy->free > now || is_before(pagelog_held_last(question->held)->position, copy->server.oldest))
+            continue;
         for (; at > 0 && usual_of(question->order[at - 1], now) > usual_of(copy, now); at--)
             question->order[at] = question->order[at - 1];
         question->order[at] = copy;
@@ -138,8 +139,8 @@ static void leave_out(struct pagelog_copy *copy) {
 static bool ask(struct question *question, struct pagelog_copy *copy) {
     const struct pagelog_held_mark *base = pagelog_held_until(question->held, copy->server.position);
     if (usual_of(copy, pagelog_now()) == 0) copy->usual_ns = 0;
-    bool is_sent = pagelog_copy_ask(copy, &question->copies->reader, base ? base->position : 0,
-                                    question->pages, question->count);
+    struct pagelog_position at = base ? base->position : (struct pagelog_position){0};
+    bool is_sent = pagelog_copy_ask(copy, &question->copies->reader, at, question->pages, question->count);
     if (!is_sent) leave_out(copy);
     question->heard = pagelog_now();
     return is_sent;
@@ -157,14 +158,14 @@ static bool ask_next(struct question *question) {
 enum verdict { RIGHT, AGAIN, BEHIND, WRONG };
 
 static bool is_same_mark(const uint8_t *page, const struct pagelog_held_mark *mark) {
-    return pagelog_read_number(page + MARK_POSITION, 8) == mark->position &&
+    return pagelog_read_number(page + MARK_POSITION, 8) == mark->position.number &&
            pagelog_read_number(page + MARK_SESSION, 8) == mark->session &&
            pagelog_read_number(page + MARK_TRANSACTION, 8) == mark->transaction;
 }
 
 /* What a reply to a get is worth: of one that lags, or has forgotten, nothing is wrong. */
-static enum verdict verdict_of(const struct pagelog_reply *reply, uint64_t base) {
-    if (reply->kind == PAGELOG_REPLY_PAGE && reply->at == base) return RIGHT;
+static enum verdict verdict_of(const struct pagelog_reply *reply, struct pagelog_position base) {
+    if (reply->kind == PAGELOG_REPLY_PAGE && reply->at == base.number) return RIGHT;
     bool is_out_of_range = reply->kind == PAGELOG_REPLY_DENIED && reply->section == 3;
     return is_out_of_range ? BEHIND : WRONG;
 }
@@ -195,10 +196,10 @@ static enum verdict judge(struct question *question, struct pagelog_copy *copy) 
     struct pagelog_reply status;
     size_t at = 0;
     if (!pagelog_copy_next(copy, &at, &status) || status.kind != PAGELOG_REPLY_STATUS) return WRONG;
-    copy->server.position = status.hard;
+    copy->server.position.number = status.hard;
     const struct pagelog_held_mark *base = pagelog_held_until(question->held, copy->base);
-    if (copy->base > 0) return take_pages(question, copy, at, base);
-    return pagelog_held_until(question->held, status.hard) ? AGAIN : BEHIND;
+    if (!is_none(copy->base)) return take_pages(question, copy, at, base);
+    return pagelog_held_until(question->held, copy->server.position) ? AGAIN : BEHIND;
 }
 
 /* Takes an answer. Returns whether it has the pages. */

@@ -56,13 +56,13 @@ static void add_request(struct pagelog_copy *copy, const struct pagelog_request 
 static bool connect_anew(struct pagelog_copy *copy) {
     pagelog_line_ask(&copy->line);
     copy->was_open = copy->connects == copy->line.connects;
-    if (!copy->was_open) copy->proved = 0;
+    if (!copy->was_open) copy->proved.number = 0;
     copy->connects = copy->line.connects;
     return copy->line.is_asked;
 }
 
-bool pagelog_copy_ask(struct pagelog_copy *copy, const struct pagelog_options *reader, uint64_t base,
-                      const uint32_t *pages, size_t count) {
+bool pagelog_copy_ask(struct pagelog_copy *copy, const struct pagelog_options *reader,
+                      struct pagelog_position base, const uint32_t *pages, size_t count) {
     struct pagelog_request request = {.principal = reader->principal,
                                       .role = PAGELOG_SECONDARY,
                                       .database = reader->database,
@@ -72,14 +72,14 @@ bool pagelog_copy_ask(struct pagelog_copy *copy, const struct pagelog_options *r
     if (!reserve(&copy->frames, &copy->room, (count + 2) * MOST_REQUEST) || !connect_anew(copy)) return false;
     copy->length = copy->replies = copy->come = 0;
     copy->base = base;
-    copy->has_proof = base > copy->proved;
+    copy->has_proof = is_before(copy->proved, base);
     copy->is_heard = false;
     add_request(copy, &request);
     request.operation = PAGELOG_GET;
-    request.lsn = base;
+    request.lsn = base.number; /* a page server has no shift */
     request.exact = 1;
     if (copy->has_proof) add_request(copy, &request);
-    for (size_t i = 0; i < count && base > 0; i++) {
+    for (size_t i = 0; i < count && !is_none(base); i++) {
         request.page = pages[i];
         add_request(copy, &request);
     }

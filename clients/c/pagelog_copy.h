@@ -14,11 +14,11 @@ struct pagelog_copy {
     struct pagelog_line line;
     /* Up to this position its history is known to be the reader's, as long as the connection lasts: it may go
      * on from less after a crash. */
-    uint64_t proved;
-    unsigned connects; /* the connection over which that was so */
-    uint64_t base;     /* of the question: the position of the pages; 0: it is for the status alone */
-    bool has_proof;    /* page 0 at the base is asked for, too */
-    uint8_t *frames;   /* the question */
+    struct pagelog_position proved;
+    unsigned connects;            /* the connection over which that was so */
+    struct pagelog_position base; /* of the question: that of the pages; 0: it is for the status alone */
+    bool has_proof;               /* page 0 at the base is asked for, too */
+    uint8_t *frames;              /* the question */
     size_t length, room, replies; /* of it; and how many replies it has */
     uint8_t *input;               /* what has come of them */
     size_t come, input_room;
@@ -39,8 +39,8 @@ void pagelog_copy_end(struct pagelog_copy *copy);
 
 /* Begins a question: for the status, and where `base` is not 0 for pages as they were there, page 0 first
  * where its history is not known so far. False where memory runs out, or nothing can be connected to. */
-bool pagelog_copy_ask(struct pagelog_copy *copy, const struct pagelog_options *reader, uint64_t base,
-                      const uint32_t *pages, size_t count);
+bool pagelog_copy_ask(struct pagelog_copy *copy, const struct pagelog_options *reader,
+                      struct pagelog_position base, const uint32_t *pages, size_t count);
 
 /* Whether replies are awaited. */
 static inline bool pagelog_copy_is_asked(const struct pagelog_copy *copy) {

@@ -11,24 +11,25 @@ enum { HEAD_BYTES = 12 };
 
 /* All up to a position of this generation is durable. Where its log is not known to have the tail that says
  * nothing of the tail's blocks. */
-static void note_durable(struct pagelog_file *file, uint64_t position) {
+static void note_durable(struct pagelog_file *file, struct pagelog_position position) {
     struct named *named = &file->named;
     if (!is_settled_here(named)) return;
-    if (position > named->durable) named->durable = position;
-    pagelog_tail_drop(&named->tail, position < named->told ? position : named->told);
+    named->durable = higher_of(named->durable, position);
+    pagelog_tail_drop(&named->tail, lower_of(position, named->told));
 }
 
 enum pagelog_outcome pagelog_note_fate(struct pagelog_file *file, const struct pagelog_place *place,
-                                       const struct pagelog_fate *fate, uint64_t position) {
+                                       const struct pagelog_fate *fate, struct pagelog_position position) {
     bool is_here = strcmp(place->run, file->named.place.run) == 0;
     if (is_here && fate->loss) return pagelog_lose_run(file, place, fate->loss);
     if (is_here) note_durable(file, fate->end);
-    return is_here && fate->is_over && fate->end < position ? pagelog_move_on(file) : PAGELOG_DONE;
+    bool is_cut = is_here && fate->is_over && is_before(fate->end, position);
+    return is_cut ? pagelog_move_on(file) : PAGELOG_DONE;
 }
 
 bool pagelog_file_is_durable(const struct pagelog_file *file, struct pagelog_awaited *awaited) {
     const struct named *named = &file->named;
-    if (awaited->position <= named->durable) return true;
+    if (awaited->position <= named->durable.number) return true;
     awaited->place = named->place;
     return false;
 }
@@ -38,12 +39,13 @@ bool pagelog_file_is_durable(const struct pagelog_file *file, struct pagelog_awa
 static enum pagelog_outcome take_of_writer(struct pagelog_file *file, const struct pagelog_awaited *awaited,
                                            enum pagelog_outcome outcome, const struct pagelog_fate *fate) {
     struct named *named = &file->named;
+    struct pagelog_position position = {awaited->position};
     struct pagelog_place place;
     file->reason = NULL;
-    if (named->told < awaited->position && named->durable < awaited->position)
+    if (is_before(named->told, position) && is_before(named->durable, position))
         return pagelog_file_fail(file, PAGELOG_CONFLICT, "it was lost before it was durable");
     if (named->is_between) return pagelog_arrive(file); /* till then nothing here is known to be its own */
-    if (outcome == PAGELOG_DONE) return pagelog_note_fate(file, &awaited->place, fate, awaited->position);
+    if (outcome == PAGELOG_DONE) return pagelog_note_fate(file, &awaited->place, fate, position);
     outcome = pagelog_where(named->keepers, named->place.generation, &place);
     if (outcome == PAGELOG_DENIED && pagelog_keepers_reason(named->keepers)) return pagelog_take_denial(file);
     if (outcome == PAGELOG_DONE && place.generation > named->place.generation) return pagelog_move_on(file);
@@ -64,9 +66,10 @@ bool pagelog_file_may_wait(struct pagelog_file *file, struct pagelog_file_patien
 /* One question, while which others may use the file, where they are let in. */
 static enum pagelog_outcome ask(const struct pagelog_asking *asking, const struct pagelog_awaited *awaited,
                                 struct pagelog_fate *fate) {
+    struct pagelog_position position = {awaited->position};
     if (asking->let_in) asking->let_in(asking->argument);
     enum pagelog_outcome outcome =
-        pagelog_fate_of(asking->keepers, awaited->place.lines, &awaited->place, awaited->position, fate);
+        pagelog_fate_of(asking->keepers, awaited->place.lines, &awaited->place, position, fate);
     if (asking->go_on) asking->go_on(asking->argument);
     return outcome;
 }
@@ -108,7 +111,7 @@ static size_t bytes_of(const struct pagelog_blocks *blocks) {
 
 /* What was to be appended is in the tail no more. */
 static enum pagelog_outcome let_go(struct pagelog_file *file, enum pagelog_outcome outcome) {
-    pagelog_tail_cut(&file->named.tail, file->named.told + 1);
+    pagelog_tail_cut(&file->named.tail, next_of(file->named.told));
     pagelog_begin_session(file);
     return outcome;
 }
@@ -117,16 +120,16 @@ static enum pagelog_outcome let_go(struct pagelog_file *file, enum pagelog_outco
  * has another block there is not to get the next one. */
 static enum pagelog_outcome hold_before(struct pagelog_file *file) {
     const struct named *named = &file->named;
-    uint64_t known = named->durable > named->place.archived ? named->durable : named->place.archived;
+    struct pagelog_position known = higher_of(named->durable, named->place.archived);
     size_t length;
     if (pagelog_blocks_count(file->blocks) == 0) return PAGELOG_DONE;
-    uint64_t lsn = pagelog_read_number(pagelog_blocks_at(file->blocks, 0, &length), 8);
-    uint64_t position = position_of(file, lsn);
-    if (known < named->place.base) known = named->place.base;
-    if (position == named->tail.next || position <= known + 1) return PAGELOG_DONE;
+    struct pagelog_lsn lsn = lsn_in(pagelog_blocks_at(file->blocks, 0, &length));
+    struct pagelog_position position = position_of(file, lsn);
+    known = higher_of(known, named->place.base);
+    if (is_at(position, named->tail.next) || !is_before(next_of(known), position)) return PAGELOG_DONE;
     struct pagelog_reply pulled;
-    enum pagelog_outcome outcome = pagelog_pull(file->log, lsn - 1, 1, &pulled);
-    if (outcome == PAGELOG_DONE) pagelog_hold_pulled(file, lsn - 1, &pulled);
+    enum pagelog_outcome outcome = pull_from(file, last_before(lsn), 1, &pulled);
+    if (outcome == PAGELOG_DONE) pagelog_hold_pulled(file, last_before(lsn), &pulled);
     return outcome;
 }
 
@@ -135,13 +138,13 @@ enum pagelog_outcome pagelog_hold_blocks(struct pagelog_file *file) {
     enum pagelog_outcome outcome = PAGELOG_DONE;
     size_t length, more = bytes_of(file->blocks), part = more > A_PART ? more : A_PART;
     if (pagelog_tail_bytes(&named->tail) + more > MOST_TAIL)
-        outcome = pagelog_file_await(file, pagelog_tail_after(&named->tail, part),
+        outcome = pagelog_file_await(file, pagelog_tail_after(&named->tail, part).number,
                                      &(struct pagelog_asking){.keepers = named->keepers});
     if (outcome == PAGELOG_DONE && !is_writer(file)) outcome = pagelog_write_on(file);
     if (outcome == PAGELOG_DONE) outcome = hold_before(file);
     for (size_t i = 0; i < pagelog_blocks_count(file->blocks) && outcome == PAGELOG_DONE; i++) {
         const uint8_t *block = pagelog_blocks_at(file->blocks, i, &length);
-        uint64_t position = position_of(file, pagelog_read_number(block, 8));
+        struct pagelog_position position = position_of(file, lsn_in(block));
         if (!pagelog_tail_add(&named->tail, position, block, length))
             outcome = pagelog_file_fail(file, PAGELOG_NO_MEMORY, "this process has no memory left");
     }
@@ -150,7 +153,8 @@ enum pagelog_outcome pagelog_hold_blocks(struct pagelog_file *file) {
 
 /* Takes a block that is in the log; false where memory runs out, or where the tail is as long as it may be.
  */
-static bool hold(struct pagelog_file *file, uint64_t position, const uint8_t *block, size_t length) {
+static bool hold(struct pagelog_file *file, struct pagelog_position position, const uint8_t *block,
+                 size_t length) {
     struct named *named = &file->named;
     if (pagelog_tail_bytes(&named->tail) + length > MOST_TAIL) return false;
     if (!pagelog_tail_add(&named->tail, position, block, length)) return false;
@@ -160,15 +164,16 @@ static bool hold(struct pagelog_file *file, uint64_t position, const uint8_t *bl
 
 /* What no pull has served is a block without records. What was not held before, and is not held now, is sent
  * again by nobody, or by its writer. */
-void pagelog_hold_pulled(struct pagelog_file *file, uint64_t from, const struct pagelog_reply *pulled) {
+void pagelog_hold_pulled(struct pagelog_file *file, struct pagelog_lsn from,
+                         const struct pagelog_reply *pulled) {
     struct pagelog_tail *tail = &file->named.tail;
     size_t at = 0, length = 0;
     const uint8_t *block = pagelog_next_block(pulled, &at, &length);
     if (!is_named(file) || file->options.reads_only) return;
-    for (uint64_t lsn = from; lsn < pulled->next; lsn++) {
+    for (struct pagelog_lsn lsn = from; is_before(lsn, next_in(pulled)); lsn = next_of(lsn)) {
         static const uint8_t none[HEAD_BYTES];
-        bool is_served = block && pagelog_read_number(block, 8) == lsn;
-        bool is_held = !pagelog_tail_is_empty(tail) && position_of(file, lsn) < tail->next;
+        bool is_served = block && is_at(lsn_in(block), lsn);
+        bool is_held = !pagelog_tail_is_empty(tail) && is_before(position_of(file, lsn), tail->next);
         bool is_good = is_held || hold(file, position_of(file, lsn), is_served ? block : none,
                                        is_served ? length : HEAD_BYTES);
         if (!is_good) pagelog_tail_drop(tail, tail->next);
@@ -181,7 +186,7 @@ enum pagelog_outcome pagelog_end_append(struct pagelog_file *file, enum pagelog_
     if (outcome != PAGELOG_DONE && pagelog_may_move(file, outcome)) outcome = pagelog_move(file, outcome);
     if (outcome != PAGELOG_DONE) return let_go(file, outcome);
     named->settled = named->place;
-    if (!pagelog_tail_is_empty(&named->tail)) named->told = named->own = named->tail.next - 1;
+    if (!pagelog_tail_is_empty(&named->tail)) named->told = named->own = last_before(named->tail.next);
     return PAGELOG_DONE;
 }
 
@@ -198,8 +203,8 @@ static enum pagelog_outcome hurry(struct pagelog_file *file) {
     struct pagelog_fate fate;
     if (pagelog_now() < named->hurried || !is_settled_here(named)) return PAGELOG_DONE;
     if (pagelog_status(file->log, PAGELOG_SECONDARY, &status) != PAGELOG_DONE) return PAGELOG_DONE;
-    uint64_t end = position_of(file, status.hard);
-    if (end <= named->durable) return PAGELOG_DONE;
+    struct pagelog_position end = position_of(file, hard_of(&status));
+    if (!is_before(named->durable, end)) return PAGELOG_DONE;
     enum pagelog_outcome outcome = pagelog_fate_at_once(named->keepers, &place, end, AT_ONCE_MS, &fate);
     if (outcome == PAGELOG_DONE) {
         named->hurry_ms = 0;
@@ -214,17 +219,19 @@ static enum pagelog_outcome hurry(struct pagelog_file *file) {
 /* The same of one that reads what is durable alone. */
 static enum pagelog_outcome take_of_reader(struct pagelog_file *file, const struct pagelog_awaited *awaited,
                                            enum pagelog_outcome outcome, const struct pagelog_fate *fate) {
-    outcome = outcome == PAGELOG_DONE ? pagelog_note_fate(file, &awaited->place, fate, awaited->position)
+    struct pagelog_position position = {awaited->position};
+    outcome = outcome == PAGELOG_DONE ? pagelog_note_fate(file, &awaited->place, fate, position)
                                       : pagelog_glance(file);
-    bool is_awaited = outcome == PAGELOG_DONE && file->named.durable < awaited->position;
+    bool is_awaited = outcome == PAGELOG_DONE && is_before(file->named.durable, position);
     return is_awaited ? PAGELOG_LOST : outcome;
 }
 
 enum pagelog_outcome pagelog_file_reach(struct pagelog_file *file, uint64_t position) {
     struct named *named = &file->named;
     file->reason = NULL;
-    if (position <= named->durable) return PAGELOG_DONE;
-    if (named->place.is_page_server) return pagelog_reach_at_page_server(file, position);
+    if (position <= named->durable.number) return PAGELOG_DONE;
+    if (named->place.is_page_server)
+        return pagelog_reach_at_page_server(file, (struct pagelog_position){position});
     struct pagelog_asking asking = {.keepers = named->keepers};
     enum pagelog_outcome outcome = await(file, position, &asking, take_of_reader);
     if (outcome == PAGELOG_LOST && !file->reason)
@@ -239,9 +246,9 @@ static bool has_lost_run(struct pagelog_file *file, const struct pagelog_place *
     struct named *named = &file->named;
     struct pagelog_fate fate;
     bool is_told =
-        named->own > 0 && pagelog_tail_is_empty(&named->tail) &&
+        !is_none(named->own) && pagelog_tail_is_empty(&named->tail) &&
         pagelog_fate_of(named->keepers, now->lines, &named->place, named->own, &fate) == PAGELOG_DONE;
-    return is_told && (fate.loss || (fate.is_over && fate.end < named->own));
+    return is_told && (fate.loss || (fate.is_over && is_before(fate.end, named->own)));
 }
 
 /* Another run has the number of this one: PostgreSQL may have lost this one. Who has committed here is told
@@ -249,11 +256,13 @@ static bool has_lost_run(struct pagelog_file *file, const struct pagelog_place *
 static enum pagelog_outcome leave_if_lost(struct pagelog_file *file) {
     struct named *named = &file->named;
     struct pagelog_fate fate = {0};
-    bool has_own = named->own > 0 || !pagelog_tail_is_empty(&named->tail);
-    bool is_told = !has_own && pagelog_fate_of(named->keepers, NULL, &named->place, 0, &fate) == PAGELOG_DONE;
+    const struct pagelog_position any = {0};
+    bool has_own = !is_none(named->own) || !pagelog_tail_is_empty(&named->tail);
+    bool is_told =
+        !has_own && pagelog_fate_of(named->keepers, NULL, &named->place, any, &fate) == PAGELOG_DONE;
     if (!is_told || fate.loss != PAGELOG_SUPERSEDED) return PAGELOG_DONE;
     named->is_superseded = true;
-    named->durable = 0;
+    named->durable = any;
     return pagelog_move_on(file);
 }
 

@@ -28,7 +28,7 @@ struct pagelog_file *pagelog_file_new(const struct pagelog_file_options *options
     file->log = pagelog_new(&file->options.service);
     file->cache = pagelog_cache_new(options->cache_pages ? options->cache_pages : DEFAULT_CACHE);
     file->blocks = pagelog_blocks_new();
-    file->next = 1;
+    file->next.number = 1;
     if (file->log) pagelog_set_taker(file->log, pagelog_take_page, file);
     if (is_made && file->log && file->cache && file->blocks) return file;
     pagelog_file_free(file);
@@ -66,9 +66,9 @@ void pagelog_file_abandon(struct pagelog_file *file) {
 /* Reads the newest end mark as a writer, and undoes what is after it. */
 static enum pagelog_outcome recover(struct pagelog_file *file) {
     enum pagelog_outcome outcome = pagelog_take_whole(file);
-    if (outcome == PAGELOG_DONE && is_writer(file) && pagelog_end(file->log) > file->mark.lsn)
+    if (outcome == PAGELOG_DONE && is_writer(file) && is_before(file->mark.lsn, end_of(file)))
         outcome = pagelog_repair(file);
-    if (outcome == PAGELOG_DONE) file->torn = file->doubted = 0;
+    if (outcome == PAGELOG_DONE) file->torn = file->doubted = (struct pagelog_lsn){0};
     return outcome;
 }
 
@@ -81,9 +81,9 @@ static enum pagelog_outcome look_at_mark(struct pagelog_file *file) {
     if (!*file->name) return PAGELOG_DONE;
     enum pagelog_outcome outcome = pagelog_status(file->log, PAGELOG_SECONDARY, &status);
     if (outcome == PAGELOG_DONE)
-        outcome = pagelog_get(file->log, PAGELOG_SECONDARY, status.hard, &number, 1, page);
-    if (outcome == PAGELOG_DONE && pagelog_is_foreign(file, page, status.hard))
-        return pagelog_refuse_foreign(file, PAGELOG_SECONDARY, page, status.hard);
+        outcome = get_at(file, PAGELOG_SECONDARY, hard_of(&status), &number, 1, page);
+    if (outcome == PAGELOG_DONE && pagelog_is_foreign(file, page, hard_of(&status)))
+        return pagelog_refuse_foreign(file, PAGELOG_SECONDARY, page, hard_of(&status));
     if (outcome == PAGELOG_DONE && pagelog_is_misnamed(file, page)) return pagelog_refuse_name(file, page);
     return outcome == PAGELOG_DENIED ? PAGELOG_DONE : outcome;
 }
@@ -110,7 +110,8 @@ static enum pagelog_outcome open_reader(struct pagelog_file *file) {
     if (outcome != PAGELOG_DONE) return outcome;
     file->checked = asked;
     file->is_checked = true;
-    return pagelog_take_mark(file, file->options.at ? file->options.at : status.hard);
+    struct pagelog_lsn at = {file->options.at};
+    return pagelog_take_mark(file, is_none(at) ? hard_of(&status) : at);
 }
 
 /* Another writer has begun an epoch right after this one, or in its place: it opens all the same, as one that
@@ -147,7 +148,7 @@ enum pagelog_outcome pagelog_file_open(struct pagelog_file *file) {
 void pagelog_become_follower(struct pagelog_file *file) {
     pagelog_stand(file, FOLLOWING);
     file->is_checked = false;
-    file->next = file->mark.lsn + 1;
+    file->next = next_of(file->mark.lsn);
     file->pending.length = 0;
 }
 
@@ -186,7 +187,7 @@ static enum pagelog_outcome renew(struct pagelog_file *file) {
 static enum pagelog_outcome check_epoch(struct pagelog_file *file) {
     struct pagelog_reply status;
     enum pagelog_outcome outcome = pagelog_status(file->log, PAGELOG_PRIMARY, &status);
-    if (outcome != PAGELOG_DONE || status.hard == file->mark.lsn) return outcome;
+    if (outcome != PAGELOG_DONE || is_at(hard_of(&status), file->mark.lsn)) return outcome;
     outcome = recover(file);
     bool is_ended = !pagelog_is_stuck(file->log); /* the repair */
     if (!is_ended && is_writer(file)) pagelog_stand(file, BROKEN);
@@ -194,7 +195,7 @@ static enum pagelog_outcome check_epoch(struct pagelog_file *file) {
 }
 
 bool pagelog_has_gone_on(const struct pagelog_file *file) {
-    return file->on_their_way == 0 && pagelog_end(file->log) != file->mark.lsn;
+    return file->on_their_way == 0 && !is_at(end_of(file), file->mark.lsn);
 }
 
 static bool is_due(const struct pagelog_file *file, uint64_t now) {
@@ -252,9 +253,9 @@ static enum pagelog_outcome out_of_memory(struct pagelog_file *file) {
     return pagelog_file_fail(file, PAGELOG_NO_MEMORY, "this process has no memory left");
 }
 
-enum pagelog_outcome pagelog_fetch(struct pagelog_file *file, uint64_t lsn, struct wanted wanted,
+enum pagelog_outcome pagelog_fetch(struct pagelog_file *file, struct pagelog_lsn lsn, struct wanted wanted,
                                    uint8_t *out) {
-    uint64_t position = position_of(file, lsn); /* the settling may move the file */
+    struct pagelog_position position = position_of(file, lsn); /* the settling may move the file */
     if (file->on_their_way > 0) {
         enum pagelog_outcome settled = pagelog_file_settle(file);
         if (settled != PAGELOG_DONE) return settled;
@@ -263,15 +264,16 @@ enum pagelog_outcome pagelog_fetch(struct pagelog_file *file, uint64_t lsn, stru
                           : pagelog_fetch_here(file, lsn, wanted, out);
 }
 
-static enum pagelog_outcome get(struct pagelog_file *file, uint64_t lsn, struct wanted wanted, uint8_t *out) {
+static enum pagelog_outcome get(struct pagelog_file *file, struct pagelog_lsn lsn, struct wanted wanted,
+                                uint8_t *out) {
     enum pagelog_role role = role_of(file);
     size_t all = wanted.count + wanted.ahead;
-    return wanted.count == 1 ? pagelog_get_ahead(file->log, role, lsn, wanted.pages, all, out)
-                             : pagelog_get(file->log, role, lsn, wanted.pages, wanted.count, out);
+    return wanted.count == 1 ? pagelog_get_ahead(file->log, role, lsn.number, wanted.pages, all, out)
+                             : get_at(file, role, lsn, wanted.pages, wanted.count, out);
 }
 
-enum pagelog_outcome pagelog_fetch_here(struct pagelog_file *file, uint64_t lsn, struct wanted wanted,
-                                        uint8_t *out) {
+enum pagelog_outcome pagelog_fetch_here(struct pagelog_file *file, struct pagelog_lsn lsn,
+                                        struct wanted wanted, uint8_t *out) {
     enum pagelog_outcome outcome = get(file, lsn, wanted, out);
     if (outcome == PAGELOG_FENCED && is_writer(file) && !pagelog_is_restarted(file->log)) {
         pagelog_become_follower(file);

@@ -7,6 +7,7 @@
 #include "pagelog_copies.h"
 #include "pagelog_file.h"
 #include "pagelog_place.h"
+#include "pagelog_position.h"
 #include "pagelog_tail.h"
 
 #include <string.h>
@@ -59,9 +60,10 @@ enum { REASON_BYTES = 2 * PAGELOG_NAME_BYTES + 64 };
 enum { IMAGE_EACH = 256 };
 
 /* What page 0 says: numbers of 8 bytes, the high one first, after a magic one. The bytes have a position
- * where this has an LSN of the generation; without keepers the two are the same. */
+ * where this has an LSN of the run that the file is in. */
 struct mark {
-    uint64_t lsn, size, session, transaction;
+    struct pagelog_lsn lsn;
+    uint64_t size, session, transaction;
 };
 
 /* Blocks that were pulled and have no end mark after them yet, one after the other, each after its length. */
@@ -70,8 +72,7 @@ struct pending {
     size_t length, room;
 };
 
-/* Of a named database: where it is, and what it may lack there. Positions are of all generations, LSNs of
- * this one. */
+/* Of a named database: where it is, and what it may lack there. */
 enum { WHY_BYTES = 320 };
 
 /* A wait goes on for a reply of the service; or for a time, while who waits may end it; or it was ended
@@ -92,13 +93,13 @@ struct named {
     bool has_place;
     uint8_t token[PAGELOG_TOKEN_BYTES],
         operator_token[PAGELOG_TOKEN_BYTES]; /* of the table; each run has others */
-    struct pagelog_tail tail;     /* of who may write: the blocks that are not known to be durable */
-    struct pagelog_place settled; /* the generation whose log had all of these */
-    uint64_t told;                /* position: the blocks up to it were in its log, and may be sent again */
-    uint64_t own;                 /* position: of the last commit of this file that was acknowledged */
-    uint64_t durable;             /* position: all up to it is durable */
-    uint64_t glanced;             /* when the keepers were asked last whether the generation goes on */
-    uint64_t waited;              /* the same, amid a wait for the service */
+    struct pagelog_tail tail;        /* of who may write: the blocks that are not known to be durable */
+    struct pagelog_place settled;    /* the generation whose log had all of these */
+    struct pagelog_position told;    /* the blocks up to it were in its log, and may be sent again */
+    struct pagelog_position own;     /* of the last commit of this file that was acknowledged */
+    struct pagelog_position durable; /* all up to it is durable */
+    uint64_t glanced;                /* when the keepers were asked last whether the generation goes on */
+    uint64_t waited;                 /* the same, amid a wait for the service */
     uint64_t
         hurried; /* until when what a reader sees in the log is not asked for again, and the pause after */
     unsigned hurry_ms;
@@ -110,7 +111,7 @@ struct named {
     bool is_closing;     /* that was the keeper, which closes the generation */
     const char *dropped; /* why the database is no more, and nothing goes on; NULL: it is there */
     const char *lost;    /* why commits were lost, until a begin; NULL: another writer has gone on */
-    uint64_t shown;      /* position: of the newest transaction that was read at a page server */
+    struct pagelog_position shown; /* of the newest transaction that was read at a page server */
     struct pagelog_copies *copies; /* of a reader: the page servers that it asks for pages; NULL: none yet */
     uint8_t *copied;               /* room for the pages of one question to these; NULL: none yet */
     struct pagelog_held held;      /* and the transactions that it has read in this run: */
@@ -162,15 +163,14 @@ struct pagelog_file {
     uint64_t losses;       /* how often some of them were lost */
     uint64_t session;      /* of the writer in this run, by a random seed: no other has it */
     uint8_t seed[SEED_BYTES];
-    uint64_t told_session; /* whose origin page 0 has; 0: it is not known */
-    uint64_t torn; /* from this LSN on its transactions are not whole, until they are undone; 0: all are */
-    uint64_t
-        doubted; /* the LSN of the end mark of a commit whose blocks are still to be looked for; 0: of none */
+    uint64_t told_session;      /* whose origin page 0 has; 0: it is not known */
+    struct pagelog_lsn torn;    /* from it on transactions are not whole until they are undone; 0: all are */
+    struct pagelog_lsn doubted; /* of the mark of a commit whose blocks are still to be looked for; 0: none */
     bool is_stale, is_foreign, is_misnamed;
     char name[PAGELOG_NAME_BYTES + 1]; /* of the options; empty: any */
     bool is_named;        /* page 0 has that after the mark: its length in a byte, and its bytes */
     uint64_t size, least; /* of the transaction: the size, and the least that it was since the last commit */
-    uint64_t next;        /* of a follower: where the next pull begins */
+    struct pagelog_lsn next; /* of a follower: where the next pull begins */
     struct pending pending;
     bool is_far;      /* so much was pulled without an end mark that it was not kept aside */
     uint64_t begun;   /* when the last begin was asked for */
@@ -261,14 +261,50 @@ static inline uint32_t pages_of(uint64_t size) {
     return (uint32_t)((size + PAGELOG_PAGE_BYTES - 1) / PAGELOG_PAGE_BYTES);
 }
 
-static inline uint64_t position_of(const struct pagelog_file *file, uint64_t lsn) {
-    return lsn + (uint64_t)file->named.place.shift;
+/* The position of an LSN of the run that the file is in, and back: 0 where it is before this run. */
+static inline struct pagelog_position position_of(const struct pagelog_file *file, struct pagelog_lsn lsn) {
+    return pagelog_position_in(file->named.place.shift, lsn);
 }
 
-/* The LSN of a position; 0 where it is before the first one of this generation. */
-static inline uint64_t lsn_of(const struct pagelog_file *file, uint64_t position) {
-    int64_t lsn = (int64_t)position - file->named.place.shift;
-    return lsn > 0 ? (uint64_t)lsn : 0;
+static inline struct pagelog_lsn lsn_of(const struct pagelog_file *file, struct pagelog_position position) {
+    return pagelog_lsn_in(file->named.place.shift, position);
+}
+
+/* ---- The log, by the LSNs of the run that the file is in ---- */
+
+/* Where it ends, as far as is known; and as a status has said. */
+static inline struct pagelog_lsn end_of(const struct pagelog_file *file) {
+    return (struct pagelog_lsn){pagelog_end(file->log)};
+}
+
+static inline struct pagelog_lsn hard_of(const struct pagelog_reply *status) {
+    return (struct pagelog_lsn){status->hard};
+}
+
+/* Of a block. */
+static inline struct pagelog_lsn lsn_in(const uint8_t *block) {
+    return (struct pagelog_lsn){pagelog_read_number(block, 8)};
+}
+
+/* As pagelog_get, pagelog_pull and pagelog_blocks_restart. */
+static inline enum pagelog_outcome get_at(struct pagelog_file *file, enum pagelog_role role,
+                                          struct pagelog_lsn lsn, const uint32_t *pages, size_t count,
+                                          uint8_t *out) {
+    return pagelog_get(file->log, role, lsn.number, pages, count, out);
+}
+
+static inline enum pagelog_outcome pull_from(struct pagelog_file *file, struct pagelog_lsn from, unsigned max,
+                                             struct pagelog_reply *pulled) {
+    return pagelog_pull(file->log, from.number, max, pulled);
+}
+
+/* Where the next pull goes on. */
+static inline struct pagelog_lsn next_in(const struct pagelog_reply *pulled) {
+    return (struct pagelog_lsn){pulled->next};
+}
+
+static inline void restart_at(struct pagelog_blocks *blocks, struct pagelog_lsn first) {
+    pagelog_blocks_restart(blocks, first.number);
 }
 
 /* Reads page 0, 8,192 bytes: false where it is neither an end mark nor all zeros. */
@@ -288,12 +324,12 @@ struct wanted {
 
 /* Pages at an LSN, as the role that the file has. A writer that is fenced by it goes on as a secondary. Those
  * ahead come into the cache later. */
-enum pagelog_outcome pagelog_fetch(struct pagelog_file *file, uint64_t lsn, struct wanted wanted,
+enum pagelog_outcome pagelog_fetch(struct pagelog_file *file, struct pagelog_lsn lsn, struct wanted wanted,
                                    uint8_t *out);
 
 /* The same, in the generation that the file is in, and with nothing on its way. */
-enum pagelog_outcome pagelog_fetch_here(struct pagelog_file *file, uint64_t lsn, struct wanted wanted,
-                                        uint8_t *out);
+enum pagelog_outcome pagelog_fetch_here(struct pagelog_file *file, struct pagelog_lsn lsn,
+                                        struct wanted wanted, uint8_t *out);
 
 /* Fetches a page of the transaction that is read into the cache, and asks for others that will probably be
  * read next. */
@@ -309,15 +345,15 @@ bool pagelog_is_misnamed(const struct pagelog_file *file, const uint8_t *page);
 enum pagelog_outcome pagelog_refuse_name(struct pagelog_file *file, const uint8_t *page);
 
 /* Whether page 0 at an LSN has what no file has there. */
-bool pagelog_is_foreign(const struct pagelog_file *file, const uint8_t *page, uint64_t lsn);
+bool pagelog_is_foreign(const struct pagelog_file *file, const uint8_t *page, struct pagelog_lsn lsn);
 
 /* Notes that, and at which LSN the file was there last, if that is to be known, and returns MALFORMED. */
 enum pagelog_outcome pagelog_refuse_foreign(struct pagelog_file *file, enum pagelog_role role,
-                                            const uint8_t *page, uint64_t lsn);
+                                            const uint8_t *page, struct pagelog_lsn lsn);
 
 /* Takes the newest transaction at an LSN of the log for the one that is read; what is in the cache stays only
  * where it is the same. */
-enum pagelog_outcome pagelog_take_mark(struct pagelog_file *file, uint64_t lsn);
+enum pagelog_outcome pagelog_take_mark(struct pagelog_file *file, struct pagelog_lsn lsn);
 
 /* Appends the blocks that were ended, and forgets them. */
 enum pagelog_outcome pagelog_append_ended(struct pagelog_file *file);
@@ -333,7 +369,8 @@ enum pagelog_outcome pagelog_add_mark(struct pagelog_file *file, struct mark *ma
 /* Whether the blocks that were to be appended last are in the log up to this LSN, where that has their end
  * mark: DONE, or CONFLICT, where another session that has joined the epoch has its own in place of some. By
  * the pages, which every role may get. */
-enum pagelog_outcome pagelog_find_blocks(struct pagelog_file *file, enum pagelog_role role, uint64_t lsn);
+enum pagelog_outcome pagelog_find_blocks(struct pagelog_file *file, enum pagelog_role role,
+                                         struct pagelog_lsn lsn);
 
 /* Takes the newest whole transaction for the one that is read. */
 enum pagelog_outcome pagelog_take_whole(struct pagelog_file *file);

@@ -59,7 +59,7 @@ static enum pagelog_outcome take_block(struct pagelog_file *file, const uint8_t 
     }
     if (!file->is_far && !keep_aside(&file->pending, block, length))
         return pagelog_file_fail(file, PAGELOG_NO_MEMORY, "this process has no memory left");
-    file->next = pagelog_read_number(block, 8) + 1;
+    file->next = next_of(lsn_in(block));
     if (!pagelog_has_mark(file, block, &mark)) return PAGELOG_DONE;
     enum pagelog_outcome outcome = pagelog_check_pending(file, &mark);
     if (outcome != PAGELOG_DONE) return outcome;
@@ -74,26 +74,26 @@ static enum pagelog_outcome take_block(struct pagelog_file *file, const uint8_t 
 
 /* Where the log has gone far ahead, takes its newest transaction at once, and what is in memory no more.
  * `*until` is the end of the log, up to which the rest is to be pulled; 0 where nothing is. */
-static enum pagelog_outcome leap(struct pagelog_file *file, uint64_t *until) {
+static enum pagelog_outcome leap(struct pagelog_file *file, struct pagelog_lsn *until) {
     struct pagelog_reply status;
     enum pagelog_outcome outcome = pagelog_status(file->log, PAGELOG_SECONDARY, &status);
-    uint64_t limit = pagelog_limit_of(file), end = status.hard < limit ? status.hard : limit;
-    bool is_far = outcome == PAGELOG_DONE && end >= file->next + FAR_BEHIND;
-    *until = is_far ? 0 : end;
+    struct pagelog_lsn end = lower_of(hard_of(&status), pagelog_limit_of(file));
+    bool is_far = outcome == PAGELOG_DONE && !is_before(end, plus(file->next, FAR_BEHIND));
+    *until = is_far ? (struct pagelog_lsn){0} : end;
     return is_far ? pagelog_take_mark(file, end) : outcome;
 }
 
 enum pagelog_outcome pagelog_take_pulled(struct pagelog_file *file, const struct pagelog_reply *pulled) {
-    uint64_t limit = pagelog_limit_of(file);
+    struct pagelog_lsn limit = pagelog_limit_of(file);
     size_t at = 0, length;
     const uint8_t *block;
     pagelog_hold_pulled(file, file->next, pulled);
     while ((block = pagelog_next_block(pulled, &at, &length))) {
-        if (pagelog_read_number(block, 8) > limit) return PAGELOG_DONE;
+        if (is_before(limit, lsn_in(block))) return PAGELOG_DONE;
         enum pagelog_outcome outcome = take_block(file, block, length);
         if (outcome != PAGELOG_DONE) return outcome;
     }
-    file->next = pulled->next;
+    file->next = next_in(pulled);
     return PAGELOG_DONE;
 }
 
@@ -101,16 +101,17 @@ enum pagelog_outcome pagelog_take_pulled(struct pagelog_file *file, const struct
  * what was committed before the begin is there. After a leap nothing is pulled, however far the log is said
  * to go on from that transaction. */
 enum pagelog_outcome pagelog_follow(struct pagelog_file *file) {
-    uint64_t until = UINT64_MAX, limit = pagelog_limit_of(file);
-    if (file->next > limit) return PAGELOG_DONE;
+    struct pagelog_lsn until = {UINT64_MAX};
+    if (is_before(pagelog_limit_of(file), file->next)) return PAGELOG_DONE;
     for (bool may_leap = true;;) {
         struct pagelog_reply pulled;
-        enum pagelog_outcome outcome = pagelog_pull(file->log, file->next, PAGELOG_PULL_BLOCKS, &pulled);
+        enum pagelog_outcome outcome = pull_from(file, file->next, PAGELOG_PULL_BLOCKS, &pulled);
         if (outcome == PAGELOG_DONE) outcome = pagelog_take_pulled(file, &pulled);
-        if (outcome != PAGELOG_DONE || file->next != pulled.next) return outcome; /* or it is at the limit */
-        if (pulled.hard != 0 || pulled.count == 0 || file->next > until) return PAGELOG_DONE;
+        bool is_all_taken = outcome == PAGELOG_DONE && is_at(file->next, next_in(&pulled));
+        if (!is_all_taken) return outcome; /* or it is at the limit */
+        if (pulled.hard != 0 || pulled.count == 0 || is_before(until, file->next)) return PAGELOG_DONE;
         if (may_leap) outcome = leap(file, &until);
-        if (until == 0) return outcome;
+        if (is_none(until)) return outcome;
         may_leap = false;
         if (outcome != PAGELOG_DONE) return outcome;
     }

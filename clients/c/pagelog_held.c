@@ -60,9 +60,10 @@ const struct pagelog_held_mark *pagelog_held_last(const struct pagelog_held *hel
     return held->count > 0 ? &held->marks[held->count - 1] : NULL;
 }
 
-const struct pagelog_held_mark *pagelog_held_until(const struct pagelog_held *held, uint64_t position) {
+const struct pagelog_held_mark *pagelog_held_until(const struct pagelog_held *held,
+                                                   struct pagelog_position position) {
     for (size_t i = held->count; i > 0; i--)
-        if (held->marks[i - 1].position <= position) return &held->marks[i - 1];
+        if (!is_before(position, held->marks[i - 1].position)) return &held->marks[i - 1];
     return NULL;
 }
 

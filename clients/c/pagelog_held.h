@@ -4,11 +4,13 @@
 #define PAGELOG_HELD_H
 
 #include "pagelog.h"
+#include "pagelog_position.h"
 
 /* The end mark of a transaction. Its session is of one writer in one run alone, so that two logs which have
  * the same mark at a position have the same blocks up to it. */
 struct pagelog_held_mark {
-    uint64_t position, session, transaction;
+    struct pagelog_position position;
+    uint64_t session, transaction;
     size_t at; /* where the blocks after it begin */
 };
 
@@ -34,7 +36,8 @@ void pagelog_held_add(struct pagelog_held *held, const struct pagelog_held_mark 
 const struct pagelog_held_mark *pagelog_held_last(const struct pagelog_held *held);
 
 /* The newest one at a position or before it; NULL where all that are held are after it. */
-const struct pagelog_held_mark *pagelog_held_until(const struct pagelog_held *held, uint64_t position);
+const struct pagelog_held_mark *pagelog_held_until(const struct pagelog_held *held,
+                                                   struct pagelog_position position);
 
 /* Makes pages, 8,192 bytes each, that are as a transaction left them into what the last one left. */
 void pagelog_held_lay(const struct pagelog_held *held, const struct pagelog_held_mark *from,

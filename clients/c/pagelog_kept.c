@@ -7,7 +7,7 @@
 struct pagelog_kept {
     struct pagelog_cache *cache;
     struct mark mark;                      /* of the transaction that they are of */
-    uint64_t position;                     /* where that ended, in whatever generation */
+    struct pagelog_position position;      /* where that ended, in whatever generation */
     char database[PAGELOG_IDENTITY_BYTES]; /* of a named one; else empty */
 };
 
@@ -15,7 +15,7 @@ struct pagelog_kept {
 static bool is_of_mark(const struct pagelog_file *file) {
     const struct named *named = &file->named;
     bool is_lost = file->standing == BROKEN || named->dropped || pagelog_is_restarted(file->log);
-    return file->reading == OPEN && !is_lost && file->on_their_way == 0 && file->mark.lsn > 0 &&
+    return file->reading == OPEN && !is_lost && file->on_their_way == 0 && !is_none(file->mark.lsn) &&
            !named->place.is_page_server;
 }
 
@@ -56,13 +56,13 @@ static bool goes_back(struct pagelog_file *file, const struct mark *wanted) {
     uint8_t page[PAGELOG_PAGE_BYTES];
     struct mark found;
     bool follows = options->reads_only && !options->at && !options->may_be_stale;
-    bool is_near = wanted->lsn < file->mark.lsn && file->mark.lsn - wanted->lsn < FAR_BEHIND;
+    bool is_near =
+        is_before(wanted->lsn, file->mark.lsn) && distance(wanted->lsn, file->mark.lsn) < FAR_BEHIND;
     if (!follows || !is_near) return false;
-    if (pagelog_get(file->log, PAGELOG_SECONDARY, wanted->lsn, &number, 1, page) != PAGELOG_DONE)
-        return false;
+    if (get_at(file, PAGELOG_SECONDARY, wanted->lsn, &number, 1, page) != PAGELOG_DONE) return false;
     if (!pagelog_read_mark(file, page, &found) || !pagelog_is_same_mark(&found, wanted)) return false;
     file->mark = found;
-    file->next = found.lsn + 1;
+    file->next = next_of(found.lsn);
     file->pending.length = 0;
     file->size = file->least = found.size;
     file->told_session = 0;
@@ -76,7 +76,8 @@ void pagelog_file_adopt(struct pagelog_file *file, struct pagelog_kept *kept) {
                   pagelog_cache_most(kept->cache) == pagelog_cache_most(file->cache) &&
                   !file->named.place.is_page_server;
     mark.lsn = lsn_of(file, kept->position);
-    if (is_own && mark.lsn > 0 && (pagelog_is_same_mark(&mark, &file->mark) || goes_back(file, &mark))) {
+    if (is_own && !is_none(mark.lsn) &&
+        (pagelog_is_same_mark(&mark, &file->mark) || goes_back(file, &mark))) {
         pagelog_cache_free(file->cache);
         file->cache = kept->cache;
         kept->cache = NULL;

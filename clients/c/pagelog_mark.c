@@ -10,28 +10,34 @@ static const uint8_t magic[8] = {'p', 'l', 'f', 'i', 'l', 'e', '0', '1'};
  * a mark beyond that is forged, and a writer that believed it would write zeros for hours. */
 enum { MOST_ZEROS = PAGELOG_BLOCK_BYTES / PAGELOG_ZERO_BYTES };
 
+/* What the mark of page 0 says where it is. */
+static struct pagelog_position position_in(const uint8_t *page) {
+    return (struct pagelog_position){pagelog_read_number(page + sizeof magic, 8)};
+}
+
 bool pagelog_read_mark(const struct pagelog_file *file, const uint8_t *page, struct mark *mark) {
     static const uint8_t zeros[MARK_BYTES];
     memset(mark, 0, sizeof *mark);
     if (memcmp(page, zeros, MARK_BYTES) == 0) return true;
     if (memcmp(page, magic, sizeof magic) != 0) return false;
-    uint64_t position = pagelog_read_number(page + 8, 8);
+    struct pagelog_position position = position_in(page);
     mark->lsn = lsn_of(file, position);
     mark->size = pagelog_read_number(page + 16, 8);
     mark->session = pagelog_read_number(page + 24, 8);
     mark->transaction = pagelog_read_number(page + 32, 8);
     if (mark->size > PAGELOG_FILE_MOST) return false;
     uint64_t least = ((uint64_t)pages_of(mark->size) + MOST_ZEROS - 1) / MOST_ZEROS;
-    return mark->lsn > 0 && position >= least;
+    return !is_none(mark->lsn) && position.number >= least; /* a block at each position */
 }
 
 bool pagelog_is_same_mark(const struct mark *one, const struct mark *other) {
-    return one->lsn == other->lsn && one->session == other->session && one->transaction == other->transaction;
+    return is_at(one->lsn, other->lsn) && one->session == other->session &&
+           one->transaction == other->transaction;
 }
 
 static void write_mark(const struct pagelog_file *file, uint8_t *bytes, const struct mark *mark) {
     memcpy(bytes, magic, sizeof magic);
-    uint8_t *at = pagelog_write_number(bytes + sizeof magic, position_of(file, mark->lsn), 8);
+    uint8_t *at = pagelog_write_number(bytes + sizeof magic, position_of(file, mark->lsn).number, 8);
     at = pagelog_write_number(at, mark->size, 8);
     at = pagelog_write_number(at, mark->session, 8);
     pagelog_write_number(at, mark->transaction, 8);
@@ -44,7 +50,7 @@ bool pagelog_has_mark(const struct pagelog_file *file, const uint8_t *block, str
     while (pagelog_records_next(&records, &record))
         last = record;
     return last.page == MARK_PAGE && last.offset == 0 && last.length == MARK_BYTES &&
-           pagelog_read_mark(file, last.bytes, mark) && mark->lsn == records.lsn;
+           pagelog_read_mark(file, last.bytes, mark) && mark->lsn.number == records.lsn;
 }
 
 /* Bytes of a Put's head. */
@@ -83,7 +89,7 @@ bool pagelog_is_misnamed(const struct pagelog_file *file, const uint8_t *page) {
     const struct pagelog_place *place = &file->named.place;
     if (!*file->name || page[NAME_PLACE] == 0 || has_name(page, file->name)) return false;
     bool is_own = is_named(file) && strcmp(file->name, pagelog_keepers_name(file->named.keepers)) == 0;
-    bool is_copied = pagelog_read_number(page + sizeof magic, 8) <= place->copied;
+    bool is_copied = !is_before(place->copied, position_in(page));
     return !is_own || !(is_copied || has_name(page, place->ancestor));
 }
 
@@ -121,8 +127,8 @@ enum pagelog_outcome pagelog_add_mark(struct pagelog_file *file, struct mark *ma
          adds_origin = is_named(file) && (is_image || file->told_session != file->session);
     size_t before = (size_t)PAGELOG_ZERO_BYTES + (adds_name ? NAME : 0) + (adds_origin ? ORIGIN : 0);
     enum pagelog_outcome outcome = PAGELOG_DONE;
-    mark->lsn = pagelog_blocks_room(file->blocks, MARK_PAGE, (uint16_t)(before + MARK_BYTES));
-    if (mark->lsn == 0) return PAGELOG_NO_MEMORY;
+    mark->lsn.number = pagelog_blocks_room(file->blocks, MARK_PAGE, (uint16_t)(before + MARK_BYTES));
+    if (is_none(mark->lsn)) return PAGELOG_NO_MEMORY;
     write_mark(file, bytes, mark);
     if (is_image) outcome = pagelog_blocks_zero(file->blocks, MARK_PAGE);
     if (outcome == PAGELOG_DONE && adds_name) outcome = add_name(file);
@@ -137,35 +143,37 @@ static bool is_untouched(const uint8_t *page) {
 }
 
 /* Reads page 0 at an LSN: false where it is not what a file has there. */
-static bool read_mark_at(const struct pagelog_file *file, const uint8_t *page, uint64_t lsn,
+static bool read_mark_at(const struct pagelog_file *file, const uint8_t *page, struct pagelog_lsn lsn,
                          struct mark *mark) {
-    return pagelog_read_mark(file, page, mark) && mark->lsn <= lsn && (mark->lsn > 0 || is_untouched(page));
+    return pagelog_read_mark(file, page, mark) && !is_before(lsn, mark->lsn) &&
+           (!is_none(mark->lsn) || is_untouched(page));
 }
 
-bool pagelog_is_foreign(const struct pagelog_file *file, const uint8_t *page, uint64_t lsn) {
+bool pagelog_is_foreign(const struct pagelog_file *file, const uint8_t *page, struct pagelog_lsn lsn) {
     struct mark mark;
     return !read_mark_at(file, page, lsn, &mark);
 }
 
 /* The LSN of the last end mark before page 0 was written by another; 0 where that is not known. What is left
  * of the mark may still say it: then it is there. */
-static uint64_t find_last_mark(struct pagelog_file *file, enum pagelog_role role, const uint8_t *page,
-                               uint64_t lsn) {
+static struct pagelog_lsn find_last_mark(struct pagelog_file *file, enum pagelog_role role,
+                                         const uint8_t *page, struct pagelog_lsn lsn) {
     uint8_t before[PAGELOG_PAGE_BYTES];
     const uint32_t number = MARK_PAGE;
     struct mark mark;
-    uint64_t left = lsn_of(file, pagelog_read_number(page + sizeof magic, 8));
-    if (left > 0 && left < lsn && pagelog_get(file->log, role, left, &number, 1, before) == PAGELOG_DONE &&
-        read_mark_at(file, before, left, &mark) && mark.lsn == left)
+    struct pagelog_lsn left = lsn_of(file, position_in(page));
+    if (!is_none(left) && is_before(left, lsn) &&
+        get_at(file, role, left, &number, 1, before) == PAGELOG_DONE &&
+        read_mark_at(file, before, left, &mark) && is_at(mark.lsn, left))
         return left;
     return file->mark.lsn;
 }
 
 static void explain_foreign(struct pagelog_file *file, enum pagelog_role role, const uint8_t *page,
-                            uint64_t lsn) {
-    uint64_t last = find_last_mark(file, role, page, lsn);
+                            struct pagelog_lsn lsn) {
+    struct pagelog_lsn last = find_last_mark(file, role, page, lsn);
     char at[24] = "LSN";
-    if (last > 0) snprintf(at, sizeof at, "%llu", (unsigned long long)position_of(file, last));
+    if (!is_none(last)) snprintf(at, sizeof at, "%llu", (unsigned long long)position_of(file, last).number);
     snprintf(file->words, sizeof file->words,
              "page 0 was written by another client: this is no SQLite database; at=%s still reads what was "
              "before",
@@ -173,24 +181,24 @@ static void explain_foreign(struct pagelog_file *file, enum pagelog_role role, c
 }
 
 enum pagelog_outcome pagelog_refuse_foreign(struct pagelog_file *file, enum pagelog_role role,
-                                            const uint8_t *page, uint64_t lsn) {
+                                            const uint8_t *page, struct pagelog_lsn lsn) {
     struct mark mark;
     file->is_foreign = true;
-    if (pagelog_read_mark(file, page, &mark) && mark.lsn > lsn)
+    if (pagelog_read_mark(file, page, &mark) && is_before(lsn, mark.lsn))
         snprintf(
             file->words, sizeof file->words,
             "page 0 says that a SQLite database ends at LSN %llu, above LSN %llu: the log is not its own",
-            (unsigned long long)mark.lsn, (unsigned long long)lsn);
+            (unsigned long long)mark.lsn.number, (unsigned long long)lsn.number);
     else
         explain_foreign(file, role, page, lsn);
     return pagelog_file_fail(file, PAGELOG_MALFORMED, file->words);
 }
 
-enum pagelog_outcome pagelog_take_mark(struct pagelog_file *file, uint64_t lsn) {
+enum pagelog_outcome pagelog_take_mark(struct pagelog_file *file, struct pagelog_lsn lsn) {
     uint8_t page[PAGELOG_PAGE_BYTES];
     const uint32_t number = MARK_PAGE;
     struct mark mark;
-    uint64_t position = position_of(file, lsn); /* the fetch may move the file */
+    struct pagelog_position position = position_of(file, lsn); /* the fetch may move the file */
     bool was_gone = is_gone(file);
     enum pagelog_outcome outcome =
         pagelog_fetch(file, lsn, (struct wanted){.pages = &number, .count = 1}, page);
@@ -205,7 +213,7 @@ enum pagelog_outcome pagelog_take_mark(struct pagelog_file *file, uint64_t lsn) 
         pagelog_cache_clear(file->cache);
         file->pending.length = 0;
         file->is_far = false;
-        file->next = mark.lsn + 1;
+        file->next = next_of(mark.lsn);
     }
     if (pagelog_is_misnamed(file, page)) return pagelog_refuse_name(file, page);
     outcome = pagelog_check_origin(file, page, &mark);
@@ -214,6 +222,6 @@ enum pagelog_outcome pagelog_take_mark(struct pagelog_file *file, uint64_t lsn) 
     file->told_session = pagelog_has_origin(file, page, &mark) ? mark.session : 0;
     file->mark = mark;
     if (file->reading == GONE) pagelog_have(file, OPEN);
-    pagelog_expect(file->log, lsn, MARK_PAGE, 0, page, MARK_BYTES);
+    pagelog_expect(file->log, lsn.number, MARK_PAGE, 0, page, MARK_BYTES);
     return PAGELOG_DONE;
 }

@@ -69,18 +69,18 @@ void pagelog_give_up_transaction(struct pagelog_file *file) {
     give_up_transaction(file);
 }
 
-static uint64_t carried(uint64_t lsn, int64_t by) {
-    int64_t now = (int64_t)lsn + by;
-    return lsn == 0 || now < 0 ? 0 : (uint64_t)now;
+/* An LSN of one run is the same position in another one; 0 where it is not there. */
+static struct pagelog_lsn carried(struct pagelog_lsn lsn, int64_t from, int64_t to) {
+    return is_none(lsn) ? lsn : pagelog_lsn_in(to, pagelog_position_in(from, lsn));
 }
 
-/* What the file has of LSNs becomes what it is in a generation of another shift. */
-static void carry(struct pagelog_file *file, int64_t by) {
-    file->mark.lsn = carried(file->mark.lsn, by);
-    file->settled.lsn = carried(file->settled.lsn, by);
-    file->torn = carried(file->torn, by);
-    file->doubted = carried(file->doubted, by);
-    pagelog_blocks_shift(file->blocks, by);
+/* What the file has of LSNs becomes what it is in a run of another shift. */
+static void carry(struct pagelog_file *file, int64_t from, int64_t to) {
+    file->mark.lsn = carried(file->mark.lsn, from, to);
+    file->settled.lsn = carried(file->settled.lsn, from, to);
+    file->torn = carried(file->torn, from, to);
+    file->doubted = carried(file->doubted, from, to);
+    pagelog_blocks_shift(file->blocks, from - to);
 }
 
 /* Goes to the service of a place. */
@@ -92,7 +92,7 @@ static enum pagelog_outcome enter(struct pagelog_file *file, const struct pagelo
     if (outcome != PAGELOG_DONE) return outcome;
     pagelog_token_of_run(named->keepers, named->operator_token, place->run, file->options.operator_token);
     bool is_same_run = named->has_place && strcmp(named->place.run, place->run) == 0;
-    carry(file, named->place.shift - place->shift);
+    carry(file, named->place.shift, place->shift);
     if (named->has_place) named->moves++;
     named->place = *place;
     if (!place->is_page_server) pagelog_keepers_are_of(named->keepers, place);
@@ -104,7 +104,7 @@ static enum pagelog_outcome enter(struct pagelog_file *file, const struct pagelo
     }
     if (named->is_superseded) named->settled = *place; /* nothing is left of before: that is told once */
     named->is_superseded = false;
-    if (file->options.durable_only && place->archived > named->durable) named->durable = place->archived;
+    if (file->options.durable_only) named->durable = higher_of(named->durable, place->archived);
     pagelog_become_follower(file);
     file->is_far = false;
     return PAGELOG_DONE;
@@ -118,15 +118,17 @@ static enum pagelog_outcome learn_end(struct pagelog_file *file) {
     struct named *named = &file->named;
     struct pagelog_fate fate;
     bool is_empty = pagelog_tail_is_empty(&named->tail);
-    uint64_t last = is_empty ? named->own : named->tail.next - 1; /* where all is durable, it may be lost */
-    if (is_settled_here(named) || last == 0) return PAGELOG_DONE;
+    /* Where all is durable, it may be lost. */
+    struct pagelog_position last = is_empty ? named->own : last_before(named->tail.next);
+    if (is_settled_here(named) || is_none(last)) return PAGELOG_DONE;
     enum pagelog_outcome outcome = pagelog_fate_of(named->keepers, NULL, &named->settled, last, &fate);
     if (outcome != PAGELOG_DONE) return outcome;
-    bool is_lost = fate.end < named->durable || (is_empty && fate.is_over && fate.end < last);
+    bool is_lost =
+        is_before(fate.end, named->durable) || (is_empty && fate.is_over && is_before(fate.end, last));
     if (is_lost) fate.loss = PAGELOG_SUPERSEDED; /* of what was durable some is lost */
     if (fate.loss) return pagelog_lose_run(file, &named->settled, fate.loss);
-    uint64_t told = fate.end < named->told ? fate.end : named->told;
-    if (told > named->durable) named->durable = told;
+    struct pagelog_position told = lower_of(fate.end, named->told);
+    named->durable = higher_of(named->durable, told);
     pagelog_tail_drop(&named->tail, told);
     return PAGELOG_DONE;
 }
@@ -143,14 +145,15 @@ static bool is_same_block(const uint8_t *one, size_t one_length, const uint8_t *
 }
 
 /* Compares what one pull has served. False at the first block that is another; the walk is at it then. */
-static bool compare_pulled(struct pagelog_file *file, const struct pagelog_reply *pulled, uint64_t hard,
-                           struct pagelog_tail_walk *walk) {
+static bool compare_pulled(struct pagelog_file *file, const struct pagelog_reply *pulled,
+                           struct pagelog_position hard, struct pagelog_tail_walk *walk) {
     const struct pagelog_tail *tail = &file->named.tail;
     size_t at = 0, length = 0, own_length;
     const uint8_t *block = pagelog_next_block(pulled, &at, &length), *own;
-    while (walk->position < position_of(file, pulled->next) && walk->position <= hard) {
+    struct pagelog_position next = lower_of(position_of(file, next_in(pulled)), next_of(hard));
+    while (is_before(walk->position, next)) {
         struct pagelog_tail_walk here = *walk;
-        bool is_served = block && position_of(file, pagelog_read_number(block, 8)) == here.position;
+        bool is_served = block && is_at(position_of(file, lsn_in(block)), here.position);
         if (!(own = pagelog_tail_next(tail, walk, &own_length))) return true;
         if (!is_same_block(own, own_length, is_served ? block : NULL, length)) {
             *walk = here;
@@ -163,18 +166,17 @@ static bool compare_pulled(struct pagelog_file *file, const struct pagelog_reply
 
 /* The first position, from one on, at which the log, which ends at `hard`, lacks the tail's block or has
  * another one. */
-static enum pagelog_outcome compare(struct pagelog_file *file, uint64_t from, uint64_t hard,
-                                    uint64_t *differs) {
+static enum pagelog_outcome compare(struct pagelog_file *file, struct pagelog_position from,
+                                    struct pagelog_position hard, struct pagelog_position *differs) {
     const struct pagelog_tail *tail = &file->named.tail;
     struct pagelog_tail_walk walk = pagelog_tail_at(tail, from);
     bool is_same = true;
-    while (is_same && walk.position <= hard && walk.position < tail->next) {
+    while (is_same && !is_before(hard, walk.position) && is_before(walk.position, tail->next)) {
         struct pagelog_reply pulled;
-        enum pagelog_outcome outcome =
-            pagelog_pull(file->log, lsn_of(file, walk.position), PAGELOG_PULL_BLOCKS, &pulled);
+        struct pagelog_lsn at = lsn_of(file, walk.position);
+        enum pagelog_outcome outcome = pull_from(file, at, PAGELOG_PULL_BLOCKS, &pulled);
         if (outcome != PAGELOG_DONE) return outcome;
-        if (pulled.next == lsn_of(file, walk.position))
-            break; /* the end of the log, whatever was told before */
+        if (is_at(next_in(&pulled), at)) break; /* the end of the log, whatever was told before */
         is_same = compare_pulled(file, &pulled, hard, &walk);
     }
     *differs = walk.position;
@@ -182,16 +184,16 @@ static enum pagelog_outcome compare(struct pagelog_file *file, uint64_t from, ui
 }
 
 /* The newest end mark up to an LSN. */
-static enum pagelog_outcome mark_at(struct pagelog_file *file, uint64_t lsn, struct mark *mark) {
+static enum pagelog_outcome mark_at(struct pagelog_file *file, struct pagelog_lsn lsn, struct mark *mark) {
     uint8_t page[PAGELOG_PAGE_BYTES];
     const uint32_t number = MARK_PAGE;
-    enum pagelog_outcome outcome = pagelog_get(file->log, PAGELOG_SECONDARY, lsn, &number, 1, page);
+    enum pagelog_outcome outcome = get_at(file, PAGELOG_SECONDARY, lsn, &number, 1, page);
     if (outcome == PAGELOG_DONE && !pagelog_read_mark(file, page, mark)) *mark = (struct mark){0};
     return outcome;
 }
 
 /* The end mark of a block of the tail; zeros where it has none. */
-static struct mark mark_of(const struct pagelog_file *file, uint64_t position) {
+static struct mark mark_of(const struct pagelog_file *file, struct pagelog_position position) {
     const struct pagelog_tail *tail = &file->named.tail;
     struct pagelog_tail_walk walk = pagelog_tail_at(tail, position);
     struct pagelog_records records;
@@ -210,39 +212,39 @@ static struct mark mark_of(const struct pagelog_file *file, uint64_t position) {
 /* Of positions up to the base there may be images alone. The tail was there if it has the end mark that they
  * have: DONE, or IN_DOUBT. */
 static enum pagelog_outcome compare_with_base(struct pagelog_file *file) {
-    uint64_t base = file->named.place.base;
+    struct pagelog_position base = file->named.place.base;
     struct mark found, own = mark_of(file, base);
     enum pagelog_outcome outcome = mark_at(file, lsn_of(file, base), &found);
     if (outcome != PAGELOG_DONE) return outcome;
-    return own.lsn > 0 && pagelog_is_same_mark(&own, &found) ? PAGELOG_DONE : PAGELOG_IN_DOUBT;
+    return !is_none(own.lsn) && pagelog_is_same_mark(&own, &found) ? PAGELOG_DONE : PAGELOG_IN_DOUBT;
 }
 
 /* ---- Losing and sending again ---- */
 
 /* From a position on the tail is not in the database, or cannot be found there. */
-static enum pagelog_outcome lose_to(struct pagelog_file *file, uint64_t position,
+static enum pagelog_outcome lose_to(struct pagelog_file *file, struct pagelog_position position,
                                     enum pagelog_outcome outcome, const char *why) {
     struct named *named = &file->named;
-    bool was_told = position <= named->own;
+    bool was_told = !is_before(named->own, position);
     pagelog_tail_cut(&named->tail, position);
-    if (named->durable >= position) named->durable = position - 1;
+    named->durable = lower_of(named->durable, last_before(position));
     named->settled = named->place;
     named->is_between = false;
-    if (named->told >= position) named->told = position - 1;
+    named->told = lower_of(named->told, last_before(position));
     pagelog_become_follower(file);
     give_up_transaction(file);
     pagelog_begin_session(file); /* what comes at the positions of its commits is something else */
     if (!was_told) return pagelog_file_fail(file, outcome, why);
-    named->own = position - 1;
+    named->own = last_before(position);
     file->on_their_way = 0;
     file->losses++;
     pagelog_have(file, OVER);
     return pagelog_file_fail(file, outcome, why);
 }
 
-static enum pagelog_outcome lose_from(struct pagelog_file *file, uint64_t position,
+static enum pagelog_outcome lose_from(struct pagelog_file *file, struct pagelog_position position,
                                       enum pagelog_outcome outcome) {
-    bool was_told = position <= file->named.own;
+    bool was_told = !is_before(file->named.own, position);
     return lose_to(file, position, outcome,
                    was_told ? "commits that were not durable are lost: another writer has gone on"
                             : "another writer has gone on: it is not in the database");
@@ -263,14 +265,15 @@ enum pagelog_outcome pagelog_lose_run(struct pagelog_file *file, const struct pa
                                       enum pagelog_loss loss) {
     struct named *named = &file->named;
     bool is_here = strcmp(place->run, named->place.run) == 0, is_no_more = loss != PAGELOG_SUPERSEDED;
-    uint64_t first = pagelog_tail_is_empty(&named->tail) ? named->durable + 1 : named->tail.first;
-    bool is_durable = named->own > 0 && named->own < first; /* so PostgreSQL may have lost it */
+    bool is_empty = pagelog_tail_is_empty(&named->tail);
+    struct pagelog_position first = is_empty ? next_of(named->durable) : named->tail.first;
+    bool is_durable = !is_none(named->own) && is_before(named->own, first); /* PostgreSQL may have lost it */
     if (is_no_more)
         named->dropped = reason_of(loss);
     else if (is_durable)
         first = named->own;
     named->lost = reason_of(loss);
-    named->durable = 0; /* of the run that follows, whose positions come again, nothing is known */
+    named->durable.number = 0; /* of the run that follows, whose positions come again, nothing is known */
     enum pagelog_outcome outcome =
         lose_to(file, first, is_no_more ? PAGELOG_DENIED : PAGELOG_FENCED, reason_of(loss));
     named->is_superseded = named->is_between = is_here && !is_no_more;
@@ -292,15 +295,14 @@ enum pagelog_outcome pagelog_take_denial(struct pagelog_file *file) {
 /* Sends the tail from the end of the log on, in the epoch of this file. */
 static enum pagelog_outcome send_rest(struct pagelog_file *file) {
     struct named *named = &file->named;
-    struct pagelog_tail_walk walk =
-        pagelog_tail_at(&named->tail, position_of(file, pagelog_end(file->log)) + 1);
+    struct pagelog_tail_walk walk = pagelog_tail_at(&named->tail, next_of(position_of(file, end_of(file))));
     struct pagelog_blocks *blocks = pagelog_blocks_new();
     enum pagelog_outcome outcome = blocks ? PAGELOG_DONE : PAGELOG_NO_MEMORY;
     named->is_sent_again = true;
-    while (outcome == PAGELOG_DONE && walk.position < named->tail.next) {
+    while (outcome == PAGELOG_DONE && is_before(walk.position, named->tail.next)) {
         const uint8_t *block;
         size_t length;
-        pagelog_blocks_restart(blocks, pagelog_end(file->log) + 1);
+        restart_at(blocks, next_of(end_of(file)));
         while (outcome == PAGELOG_DONE && pagelog_blocks_count(blocks) < GROUP &&
                (block = pagelog_tail_next(&named->tail, &walk, &length)))
             outcome = pagelog_blocks_add(blocks, block, length);
@@ -317,10 +319,10 @@ static enum pagelog_outcome send_again(struct pagelog_file *file, const struct p
     uint32_t writing = pagelog_writing_epoch(file->log);
     bool is_anothers =
         is_settled_here(&file->named) && status->primary != PAGELOG_KEEPER && status->epoch != writing;
-    if (is_anothers) return lose_from(file, position_of(file, status->hard) + 1, PAGELOG_FENCED);
+    if (is_anothers) return lose_from(file, next_of(position_of(file, hard_of(status))), PAGELOG_FENCED);
     enum pagelog_outcome outcome =
         pagelog_take_over(file->log, options->operator_principal, options->operator_token, status->epoch);
-    if (outcome == PAGELOG_DONE && pagelog_end(file->log) != status->hard) outcome = PAGELOG_LOST;
+    if (outcome == PAGELOG_DONE && !is_at(end_of(file), hard_of(status))) outcome = PAGELOG_LOST;
     if (outcome == PAGELOG_DONE) outcome = send_rest(file);
     if (outcome != PAGELOG_DONE) return outcome;
     if (!is_writer(file)) pagelog_stand(file, WRITING);
@@ -329,51 +331,53 @@ static enum pagelog_outcome send_again(struct pagelog_file *file, const struct p
 
 /* The first position of the tail that the log lacks, or has another block at. What lies below the base is
  * compared block for block only where nothing was shifted, and may be images even there. */
-static enum pagelog_outcome compare_tail(struct pagelog_file *file, uint64_t hard, uint64_t *differs) {
+static enum pagelog_outcome compare_tail(struct pagelog_file *file, struct pagelog_position hard,
+                                         struct pagelog_position *differs) {
     const struct named *named = &file->named;
-    uint64_t base = named->place.base, first = named->tail.first;
+    struct pagelog_position base = named->place.base, first = named->tail.first;
     enum pagelog_outcome outcome = PAGELOG_DONE;
     *differs = first;
-    if (first > base || named->place.shift == 0) outcome = compare(file, first, hard, differs);
-    if (outcome != PAGELOG_DONE || *differs > base) return outcome;
+    if (is_before(base, first) || named->place.shift == 0) outcome = compare(file, first, hard, differs);
+    if (outcome != PAGELOG_DONE || is_before(base, *differs)) return outcome;
     outcome = compare_with_base(file);
-    return outcome == PAGELOG_DONE ? compare(file, base + 1, hard, differs) : outcome;
+    return outcome == PAGELOG_DONE ? compare(file, next_of(base), hard, differs) : outcome;
 }
 
 /* Whether the log may have something else right before the tail than what that was made upon: another's
  * blocks, which are not held and were not durable. Of the run that had the whole tail last they are there. */
 static bool is_upon_lost(const struct pagelog_file *file) {
     const struct named *named = &file->named;
-    uint64_t known = named->durable > named->place.base ? named->durable : named->place.base;
-    return !is_settled_here(named) && known + 1 < named->tail.first;
+    struct pagelog_position known = higher_of(named->durable, named->place.base);
+    return !is_settled_here(named) && is_before(next_of(known), named->tail.first);
 }
 
 /* Sees to it that the log has the whole tail. */
 static enum pagelog_outcome settle_tail(struct pagelog_file *file, const struct pagelog_reply *status) {
     struct named *named = &file->named;
-    uint64_t hard = position_of(file, status->hard), differs = 0;
+    struct pagelog_position hard = position_of(file, hard_of(status)), next = next_of(hard), differs;
     if (pagelog_tail_is_empty(&named->tail)) return PAGELOG_DONE;
-    bool is_next = hard + 1 == named->tail.first;
-    if (hard + 1 < named->tail.first || (is_next && is_upon_lost(file)))
-        return lose_from(file, hard + 1, PAGELOG_FENCED);
+    bool is_next = is_at(next, named->tail.first);
+    if (is_before(next, named->tail.first) || (is_next && is_upon_lost(file)))
+        return lose_from(file, next, PAGELOG_FENCED);
     enum pagelog_outcome outcome = compare_tail(file, hard, &differs);
     if (outcome == PAGELOG_IN_DOUBT) return lose_from(file, differs, outcome);
-    if (outcome != PAGELOG_DONE || differs == named->tail.next) return outcome;
-    return differs <= hard ? lose_from(file, differs, PAGELOG_FENCED) : send_again(file, status);
+    if (outcome != PAGELOG_DONE || is_at(differs, named->tail.next)) return outcome;
+    return is_before(differs, next) ? lose_from(file, differs, PAGELOG_FENCED) : send_again(file, status);
 }
 
 /* ---- The transaction that is read ---- */
 
 /* Looks whether it is in this generation, where it is at the same position. */
-static enum pagelog_outcome find_transaction(struct pagelog_file *file, uint64_t hard) {
+static enum pagelog_outcome find_transaction(struct pagelog_file *file, struct pagelog_lsn hard) {
     struct named *named = &file->named;
     struct mark found;
-    file->next = file->mark.lsn + 1;
+    file->next = next_of(file->mark.lsn);
     file->pending.length = 0;
     if (is_gone(file)) return PAGELOG_DONE;
-    if (file->mark.transaction == 0 && named->place.base == 0) return PAGELOG_DONE; /* of an empty log */
-    bool is_below = position_of(file, file->mark.lsn) < named->place.base && named->place.shift != 0;
-    if (file->mark.lsn == 0 || file->mark.lsn > hard || is_below) {
+    if (file->mark.transaction == 0 && is_none(named->place.base)) return PAGELOG_DONE; /* of an empty log */
+    struct pagelog_position position = position_of(file, file->mark.lsn);
+    bool is_below = is_before(position, named->place.base) && named->place.shift != 0;
+    if (is_none(file->mark.lsn) || is_before(hard, file->mark.lsn) || is_below) {
         give_up_transaction(file);
         return PAGELOG_DONE;
     }
@@ -404,10 +408,11 @@ static enum pagelog_outcome refuse_principal(struct pagelog_file *file) {
 }
 
 /* Whether the file is at a page server that has less than another one has shown. */
-static bool is_behind(const struct pagelog_file *file, uint64_t end) {
+static bool is_behind(const struct pagelog_file *file, struct pagelog_lsn end) {
     const struct named *named = &file->named;
-    bool lacks_transaction = !is_gone(file) && file->mark.lsn > end;
-    return named->place.is_page_server && (end < named->shown || lacks_transaction);
+    bool lacks_transaction = !is_gone(file) && is_before(end, file->mark.lsn);
+    return named->place.is_page_server &&
+           (is_before(position_of(file, end), named->shown) || lacks_transaction);
 }
 
 /* Goes on in the generation that the file is in. What is LOST is tried again, there or in the next one. */
@@ -418,7 +423,7 @@ static enum pagelog_outcome go_on(struct pagelog_file *file) {
     if (outcome == PAGELOG_DENIED && pagelog_refused(file->log)->section == SECTION_B)
         return pagelog_file_fail(file, outcome, "the principal has to be allowed to read as a secondary");
     if (outcome == PAGELOG_DENIED && pagelog_is_unknown_principal(file)) return refuse_principal(file);
-    if (outcome == PAGELOG_DONE && is_behind(file, status.hard)) return PAGELOG_LOST;
+    if (outcome == PAGELOG_DONE && is_behind(file, hard_of(&status))) return PAGELOG_LOST;
     if (outcome == PAGELOG_DONE) named->is_accepted = true;
     if (outcome == PAGELOG_DONE) outcome = learn_end(file);
     if (outcome == PAGELOG_DONE) outcome = settle_tail(file, &status);
@@ -426,7 +431,7 @@ static enum pagelog_outcome go_on(struct pagelog_file *file) {
     named->settled = named->place;
     named->epoch = status.epoch;
     named->is_closing = status.primary == PAGELOG_KEEPER && status.epoch > 1;
-    outcome = find_transaction(file, pagelog_end(file->log));
+    outcome = find_transaction(file, end_of(file));
     if (outcome == PAGELOG_DONE) named->is_between = false;
     return outcome;
 }
@@ -443,8 +448,9 @@ static bool is_passing(const struct pagelog_file *file, enum pagelog_outcome out
  * known with which of the two it has gone on. */
 static enum pagelog_outcome ask_own_fate(struct pagelog_file *file) {
     struct named *named = &file->named;
+    const struct pagelog_position any = {0};
     struct pagelog_fate fate = {0};
-    enum pagelog_outcome outcome = pagelog_fate_of(named->keepers, NULL, &named->place, 0, &fate);
+    enum pagelog_outcome outcome = pagelog_fate_of(named->keepers, NULL, &named->place, any, &fate);
     if (outcome == PAGELOG_DONE && fate.loss) return pagelog_lose_run(file, &named->place, fate.loss);
     return PAGELOG_LOST;
 }
@@ -492,7 +498,8 @@ static enum pagelog_outcome try_to_move(struct pagelog_file *file, bool is_over)
 /* Whether a commit that is not acknowledged may have come into a log by this move, which did not get to its
  * end. */
 static bool may_be_there(const struct named *named) {
-    return named->is_sent_again && !pagelog_tail_is_empty(&named->tail) && named->tail.next - 1 > named->told;
+    return named->is_sent_again && !pagelog_tail_is_empty(&named->tail) &&
+           is_before(next_of(named->told), named->tail.next);
 }
 
 /* The generation that the file has left, or is to leave, and for what. */
@@ -517,7 +524,7 @@ static void leave_if_full(struct pagelog_file *file, struct leaving *leaving) {
 static enum pagelog_outcome give_up_move(struct pagelog_file *file, const struct leaving *leaving) {
     static const struct pagelog_reply no_memory = {.kind = PAGELOG_REPLY_NO_MEMORY};
     const char *why = pagelog_explain_wait(file, "no generation could be used in time", "");
-    file->named.shown = 0; /* it was told once: PostgreSQL may have gone back */
+    file->named.shown.number = 0; /* it was told once: PostgreSQL may have gone back */
     if (leaving->is_full) why = "the service has no memory left, and no other has followed it in time";
     if (leaving->cause == PAGELOG_NO_MEMORY) pagelog_restore(file->log, leaving->cause, &no_memory);
     return pagelog_file_fail(file, may_be_there(&file->named) ? PAGELOG_IN_DOUBT : leaving->cause, why);

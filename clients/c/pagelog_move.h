@@ -27,10 +27,10 @@ enum pagelog_outcome pagelog_begin_named(struct pagelog_file *file,
                                          enum pagelog_outcome (*refresh)(struct pagelog_file *file));
 
 /* The LSN up to which may be read. */
-uint64_t pagelog_limit_of(const struct pagelog_file *file);
+struct pagelog_lsn pagelog_limit_of(const struct pagelog_file *file);
 
 /* As pagelog_fetch, at a position. LOST where that cannot be had any more. */
-enum pagelog_outcome pagelog_fetch_wherever(struct pagelog_file *file, uint64_t position,
+enum pagelog_outcome pagelog_fetch_wherever(struct pagelog_file *file, struct pagelog_position position,
                                             struct wanted wanted, uint8_t *out);
 
 /* What every call but a begin returns where `is_gone`: LOST. */
@@ -85,7 +85,8 @@ size_t pagelog_page_server_places(struct pagelog_file *file, const struct pagelo
 enum pagelog_outcome pagelog_look_at_page_server(struct pagelog_file *file);
 
 /* The same as pagelog_file_reach, of one that is at a page server. */
-enum pagelog_outcome pagelog_reach_at_page_server(struct pagelog_file *file, uint64_t position);
+enum pagelog_outcome pagelog_reach_at_page_server(struct pagelog_file *file,
+                                                  struct pagelog_position position);
 
 /* Pages, PAGELOG_COPY_PAGES at most, as the transaction that is read has them, of a page server: the file's
  * until the next call. NULL where none has them and answers soon, or none is to be asked: the service has
@@ -104,7 +105,8 @@ enum pagelog_outcome pagelog_hold_blocks(struct pagelog_file *file);
 
 /* Takes blocks of other writers that were pulled from an LSN on: this file may be the one that is left to
  * send them again. */
-void pagelog_hold_pulled(struct pagelog_file *file, uint64_t from, const struct pagelog_reply *pulled);
+void pagelog_hold_pulled(struct pagelog_file *file, struct pagelog_lsn from,
+                         const struct pagelog_reply *pulled);
 
 /* After an append of the blocks that are held: moves where it was not DONE. DONE: they are in the log, and
  * acknowledged. Any other outcome: they are in the tail no more. */
@@ -112,7 +114,7 @@ enum pagelog_outcome pagelog_end_append(struct pagelog_file *file, enum pagelog_
 
 /* Goes on from what the keepers have said of a position: DONE, or as of a move. */
 enum pagelog_outcome pagelog_note_fate(struct pagelog_file *file, const struct pagelog_place *place,
-                                       const struct pagelog_fate *fate, uint64_t position);
+                                       const struct pagelog_fate *fate, struct pagelog_position position);
 
 /* A run is lost, or the database with it: what was not durable of it is told as a loss, and sent again by
  * nobody. Where the database is no more nothing goes on with the file. */

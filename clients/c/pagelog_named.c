@@ -28,24 +28,25 @@ enum { MOST_HELD = 1024 };
 
 /* ---- What is read ---- */
 
-uint64_t pagelog_limit_of(const struct pagelog_file *file) {
-    if (file->named.place.is_page_server) return UINT64_MAX; /* all that it has is durable */
-    return file->options.durable_only ? lsn_of(file, file->named.durable) : UINT64_MAX;
+struct pagelog_lsn pagelog_limit_of(const struct pagelog_file *file) {
+    const struct pagelog_lsn no_limit = {UINT64_MAX};
+    if (file->named.place.is_page_server) return no_limit; /* all that it has is durable */
+    return file->options.durable_only ? lsn_of(file, file->named.durable) : no_limit;
 }
 
 /* Holds what is in the log before the transaction that is read, and is not known to be archived. What is too
  * much is left to its writers. */
 static enum pagelog_outcome hold_newest(struct pagelog_file *file) {
     const struct named *named = &file->named;
-    uint64_t known = named->durable > named->place.archived ? named->durable : named->place.archived;
-    uint64_t from = lsn_of(file, known > named->place.base ? known : named->place.base) + 1;
-    bool is_wanted = !file->options.reads_only && file->mark.lsn < from + MOST_HELD;
-    while (is_wanted && from <= file->mark.lsn) {
+    struct pagelog_position known = higher_of(named->durable, named->place.archived);
+    struct pagelog_lsn from = next_of(lsn_of(file, higher_of(known, named->place.base)));
+    bool is_wanted = !file->options.reads_only && is_before(file->mark.lsn, plus(from, MOST_HELD));
+    while (is_wanted && !is_before(file->mark.lsn, from)) {
         struct pagelog_reply pulled;
-        enum pagelog_outcome outcome = pagelog_pull(file->log, from, PAGELOG_PULL_BLOCKS, &pulled);
-        if (outcome != PAGELOG_DONE || pulled.next == from) return outcome;
+        enum pagelog_outcome outcome = pull_from(file, from, PAGELOG_PULL_BLOCKS, &pulled);
+        if (outcome != PAGELOG_DONE || is_at(next_in(&pulled), from)) return outcome;
         pagelog_hold_pulled(file, from, &pulled);
-        from = pulled.next;
+        from = next_in(&pulled);
     }
     return PAGELOG_DONE;
 }
@@ -54,11 +55,12 @@ static enum pagelog_outcome hold_newest(struct pagelog_file *file) {
 static enum pagelog_outcome take_newest(struct pagelog_file *file) {
     struct named *named = &file->named;
     struct pagelog_reply status;
-    uint64_t at = file->options.at, lsn = lsn_of(file, at), limit = pagelog_limit_of(file);
+    struct pagelog_position at = {file->options.at};
+    struct pagelog_lsn lsn = lsn_of(file, at);
     enum pagelog_outcome outcome = pagelog_status(file->log, PAGELOG_SECONDARY, &status);
     if (outcome != PAGELOG_DONE) return outcome;
-    if (at == 0) lsn = status.hard < limit ? status.hard : limit;
-    if (at > 0 && at < named->place.base && named->place.shift != 0)
+    if (is_none(at)) lsn = lower_of(hard_of(&status), pagelog_limit_of(file));
+    if (!is_none(at) && is_before(at, named->place.base) && named->place.shift != 0)
         return pagelog_file_fail(file, PAGELOG_MALFORMED,
                                  "this position is before the base of the generation");
     pagelog_cache_clear(file->cache);
@@ -117,10 +119,10 @@ static bool take_hand_over(struct pagelog_file *file, uint32_t epoch) {
     bool is_own = is_writer(file) && epoch == pagelog_writing_epoch(file->log); /* nobody has written since */
     if (epoch == 0 || is_own || !may_take_hand_over(file)) return false;
     pagelog_become_follower(file);
-    enum pagelog_outcome outcome = pagelog_hand_over(file->log, options->operator_principal,
-                                                     options->operator_token, epoch, file->next, &pulled);
+    enum pagelog_outcome outcome = pagelog_hand_over(
+        file->log, options->operator_principal, options->operator_token, epoch, file->next.number, &pulled);
     if (outcome == PAGELOG_DONE) outcome = pagelog_take_pulled(file, &pulled);
-    if (outcome != PAGELOG_DONE || file->mark.lsn != pagelog_end(file->log)) return false;
+    if (outcome != PAGELOG_DONE || !is_at(file->mark.lsn, end_of(file))) return false;
     pagelog_stand(file, WRITING);
     file->named.is_doubted = false;
     file->checked = asked;
@@ -153,7 +155,7 @@ enum pagelog_outcome pagelog_begin_named(struct pagelog_file *file,
     return outcome;
 }
 
-enum pagelog_outcome pagelog_fetch_wherever(struct pagelog_file *file, uint64_t position,
+enum pagelog_outcome pagelog_fetch_wherever(struct pagelog_file *file, struct pagelog_position position,
                                             struct wanted wanted, uint8_t *out) {
     file->reason = NULL;
     bool was_gone = is_gone(file); /* a begin asks for the newest one then */
@@ -180,24 +182,25 @@ enum pagelog_outcome pagelog_refuse_gone(struct pagelog_file *file) {
 enum pagelog_outcome pagelog_write_on(struct pagelog_file *file) {
     const struct pagelog_file_options *options = &file->options;
     size_t length;
-    uint64_t end = pagelog_read_number(pagelog_blocks_at(file->blocks, 0, &length), 8) - 1;
+    struct pagelog_lsn first = lsn_in(pagelog_blocks_at(file->blocks, 0, &length));
     enum pagelog_outcome outcome = PAGELOG_DONE;
-    if (pagelog_end(file->log) == end) /* else it fences nobody */
+    if (is_at(next_of(end_of(file)), first)) /* else it fences nobody */
         outcome = pagelog_take_over(file->log, options->operator_principal, options->operator_token, 0);
     if (outcome != PAGELOG_DONE) return outcome;
-    if (pagelog_end(file->log) != end)
+    if (!is_at(next_of(end_of(file)), first))
         return pagelog_file_fail(file, PAGELOG_FENCED, "another writer has gone on meanwhile");
     pagelog_stand(file, WRITING);
     return PAGELOG_DONE;
 }
 
 /* Whether the newest transaction at an LSN is the one that is read: DONE, or FENCED. */
-static enum pagelog_outcome compare_newest(struct pagelog_file *file, enum pagelog_role role, uint64_t lsn) {
+static enum pagelog_outcome compare_newest(struct pagelog_file *file, enum pagelog_role role,
+                                           struct pagelog_lsn lsn) {
     uint8_t page[PAGELOG_PAGE_BYTES];
     const uint32_t number = MARK_PAGE;
     struct mark mark;
-    if (lsn == file->mark.lsn) return PAGELOG_DONE;
-    enum pagelog_outcome outcome = pagelog_get(file->log, role, lsn, &number, 1, page);
+    if (is_at(lsn, file->mark.lsn)) return PAGELOG_DONE;
+    enum pagelog_outcome outcome = get_at(file, role, lsn, &number, 1, page);
     if (outcome != PAGELOG_DONE) return outcome;
     if (pagelog_read_mark(file, page, &mark) && pagelog_is_same_mark(&mark, &file->mark)) return PAGELOG_DONE;
     return pagelog_file_fail(file, PAGELOG_FENCED, "another writer has gone on since: begin again");
@@ -209,18 +212,18 @@ static enum pagelog_outcome become_writer(struct pagelog_file *file) {
     struct pagelog_reply status;
     uint64_t asked = pagelog_now();
     enum pagelog_outcome outcome = pagelog_status(file->log, PAGELOG_SECONDARY, &status);
-    if (outcome == PAGELOG_DONE) outcome = compare_newest(file, PAGELOG_SECONDARY, status.hard);
+    if (outcome == PAGELOG_DONE) outcome = compare_newest(file, PAGELOG_SECONDARY, hard_of(&status));
     bool is_let_in = outcome == PAGELOG_DONE;
     if (outcome == PAGELOG_DONE)
         outcome = pagelog_take_over(file->log, options->operator_principal, options->operator_token, 0);
     if (is_let_in && outcome == PAGELOG_DENIED && pagelog_is_unknown_principal(file))
         return pagelog_refuse_token(file, "operator", options->operator_principal);
-    if (outcome == PAGELOG_DONE) outcome = compare_newest(file, PAGELOG_PRIMARY, pagelog_end(file->log));
+    if (outcome == PAGELOG_DONE) outcome = compare_newest(file, PAGELOG_PRIMARY, end_of(file));
     if (outcome != PAGELOG_DONE) return outcome;
     pagelog_stand(file, WRITING);
     file->checked = asked;
     file->is_checked = true;
-    return pagelog_end(file->log) > file->mark.lsn ? pagelog_repair(file) : PAGELOG_DONE;
+    return is_before(file->mark.lsn, end_of(file)) ? pagelog_repair(file) : PAGELOG_DONE;
 }
 
 enum pagelog_outcome pagelog_file_move_on(struct pagelog_file *file) {
@@ -238,7 +241,7 @@ void pagelog_file_doubt(struct pagelog_file *file) {
 static enum pagelog_outcome confirm_writer(struct pagelog_file *file) {
     struct pagelog_reply status;
     enum pagelog_outcome outcome = pagelog_status(file->log, PAGELOG_PRIMARY, &status);
-    if (outcome == PAGELOG_DONE && status.hard == file->mark.lsn) return PAGELOG_DONE;
+    if (outcome == PAGELOG_DONE && is_at(hard_of(&status), file->mark.lsn)) return PAGELOG_DONE;
     if (outcome == PAGELOG_DONE)
         return pagelog_file_fail(file, PAGELOG_FENCED, "another writer has gone on since: begin again");
     if (outcome == PAGELOG_FENCED) pagelog_become_follower(file);

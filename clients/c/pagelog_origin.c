@@ -93,10 +93,11 @@ bool pagelog_has_origin(struct pagelog_file *file, const uint8_t *page, const st
 /* A mark of another run is there because the archive had it, or because its writer has sent it again, mostly
  * from the run before. One that was away meanwhile may have sent it from an earlier one: so it is said, and
  * refused by nobody. */
-static void note_run(struct pagelog_file *file, const struct origin *origin, uint64_t position) {
+static void note_run(struct pagelog_file *file, const struct origin *origin,
+                     struct pagelog_position position) {
     struct named *named = &file->named;
     const struct pagelog_place *place = &named->place;
-    bool is_explained = strcmp(origin->run, place->run) == 0 || position <= place->kept ||
+    bool is_explained = strcmp(origin->run, place->run) == 0 || !is_before(place->kept, position) ||
                         strcmp(origin->run, place->after) == 0;
     if (!*place->after || is_explained || strcmp(origin->run, named->noted) == 0) return;
     snprintf(named->noted, sizeof named->noted, "%s", origin->run);
@@ -105,14 +106,14 @@ static void note_run(struct pagelog_file *file, const struct origin *origin, uin
 
 static enum pagelog_outcome check(struct pagelog_file *file, const uint8_t *bytes, const struct mark *mark) {
     const struct pagelog_place *place = &file->named.place;
-    uint64_t position = position_of(file, mark->lsn);
+    struct pagelog_position position = position_of(file, mark->lsn);
     struct origin origin;
     if (!is_named(file) || !read_origin(file, bytes, mark, &origin)) return PAGELOG_DONE;
     if (strcmp(origin.database, place->database) == 0) {
         note_run(file, &origin, position);
         return PAGELOG_DONE;
     }
-    if (position <= place->copied) return PAGELOG_DONE;
+    if (!is_before(place->copied, position)) return PAGELOG_DONE;
     file->is_misnamed = true;
     snprintf(file->words, sizeof file->words,
              "page 0 was written for the database %s, and not for this one, %s", origin.database,
@@ -147,7 +148,7 @@ enum pagelog_outcome pagelog_check_pending(struct pagelog_file *file, const stru
     enum pagelog_outcome outcome = found ? check(file, found, mark) : PAGELOG_DONE;
     if (outcome == PAGELOG_DONE) return outcome;
     file->pending.length = 0; /* the next begin pulls it again, and is told again */
-    file->next = file->mark.lsn + 1;
+    file->next = next_of(file->mark.lsn);
     return outcome;
 }
 
@@ -170,8 +171,9 @@ enum pagelog_outcome pagelog_file_origin(struct pagelog_file *file, char *text, 
     struct origin origin;
     *text = 0;
     struct wanted wanted = {.pages = &number, .count = 1};
-    enum pagelog_outcome outcome = mark.lsn > 0 ? pagelog_fetch(file, mark.lsn, wanted, page) : PAGELOG_DONE;
-    if (mark.lsn > 0 && outcome == PAGELOG_DONE && read_origin(file, page + ORIGIN_PLACE, &mark, &origin))
+    bool has_one = !is_none(mark.lsn);
+    enum pagelog_outcome outcome = has_one ? pagelog_fetch(file, mark.lsn, wanted, page) : PAGELOG_DONE;
+    if (has_one && outcome == PAGELOG_DONE && read_origin(file, page + ORIGIN_PLACE, &mark, &origin))
         snprintf(text, room, "%s/%s", origin.database, origin.run);
     return outcome;
 }

@@ -11,22 +11,23 @@
 enum { GLANCE_MS = 1000, LIST_MS = 5000, SOON_MS = 50 };
 
 /* Whether a position is not to be had at the service of a place. */
-static bool is_below(uint64_t position, const struct pagelog_place *place) {
-    return position < place->base && place->shift != 0;
+static bool is_below(struct pagelog_position position, const struct pagelog_place *place) {
+    return is_before(position, place->base) && place->shift != 0;
 }
 
 /* The position that is read: of `at`, or of the transaction; 0: there is none yet. */
-static uint64_t position_read(const struct pagelog_file *file) {
-    if (file->options.at > 0) return file->options.at;
-    bool has_one = file->mark.lsn > 0 && !is_gone(file);
-    return has_one ? position_of(file, file->mark.lsn) : 0;
+static struct pagelog_position position_read(const struct pagelog_file *file) {
+    const struct pagelog_position at = {file->options.at}, none = {0};
+    bool has_one = !is_none(file->mark.lsn) && !is_gone(file);
+    if (!is_none(at)) return at;
+    return has_one ? position_of(file, file->mark.lsn) : none;
 }
 
 bool pagelog_wants_page_server(const struct pagelog_file *file, const struct pagelog_place *place) {
-    uint64_t position = position_read(file);
+    struct pagelog_position position = position_read(file);
     if (!file->options.reads_only || file->options.pages == PAGELOG_PAGES_NEVER) return false;
     if (file->options.pages == PAGELOG_PAGES_ONLY) return true;
-    return place->pages > 0 && position > 0 && is_below(position, place);
+    return place->pages > 0 && !is_none(position) && is_below(position, place);
 }
 
 /* A page server, as a place. */
@@ -39,7 +40,7 @@ static struct pagelog_place place_of(const struct pagelog_place *service,
     place.archived = server->position;
     place.base = server->oldest;
     place.shift = 0;
-    place.kept = 0;
+    place.kept.number = 0;
     place.is_page_server = true;
     return place;
 }
@@ -48,13 +49,13 @@ size_t pagelog_page_server_places(struct pagelog_file *file, const struct pagelo
                                   struct pagelog_place found[PAGELOG_MOST_PAGE_SERVERS]) {
     struct pagelog_page_server servers[PAGELOG_MOST_PAGE_SERVERS];
     struct named *named = &file->named;
-    uint64_t position = position_read(file);
+    struct pagelog_position position = position_read(file);
     size_t count, chosen = 0, last = PAGELOG_MOST_PAGE_SERVERS;
     if (!named->has_place) pagelog_keepers_are_of(named->keepers, service);
     if (pagelog_page_servers(named->keepers, servers, &count) != PAGELOG_DONE) return 0;
     for (size_t i = 0; i < count; i++) {
         bool is_here = named->has_place && strcmp(servers[i].run, named->place.run) == 0;
-        if (position > 0 && servers[i].oldest > position) continue;
+        if (!is_none(position) && is_before(position, servers[i].oldest)) continue;
         if (is_here)
             last = i;
         else
@@ -79,7 +80,7 @@ enum pagelog_outcome pagelog_look_at_page_server(struct pagelog_file *file) {
     uint64_t now = pagelog_now();
     bool stays = file->options.pages == PAGELOG_PAGES_ONLY || file->options.at > 0;
     named->is_suspect = false;
-    if (file->mark.lsn > named->shown) named->shown = file->mark.lsn;
+    named->shown = higher_of(named->shown, position_of(file, file->mark.lsn));
     if (!stays) { /* the transaction for which it came is over */
         pagelog_give_up_transaction(file);
         return pagelog_move(file, PAGELOG_LOST);
@@ -90,17 +91,19 @@ enum pagelog_outcome pagelog_look_at_page_server(struct pagelog_file *file) {
 }
 
 /* Whether it has a position: DONE, or LOST. */
-static enum pagelog_outcome has_position(struct pagelog_file *file, uint64_t position) {
+static enum pagelog_outcome has_position(struct pagelog_file *file, struct pagelog_position position) {
     struct pagelog_reply status;
     enum pagelog_outcome outcome = pagelog_status(file->log, PAGELOG_SECONDARY, &status);
-    return outcome == PAGELOG_DONE && status.hard < position ? PAGELOG_LOST : outcome;
+    bool is_behind = outcome == PAGELOG_DONE && is_before(position_of(file, hard_of(&status)), position);
+    return is_behind ? PAGELOG_LOST : outcome;
 }
 
-enum pagelog_outcome pagelog_reach_at_page_server(struct pagelog_file *file, uint64_t position) {
+enum pagelog_outcome pagelog_reach_at_page_server(struct pagelog_file *file,
+                                                  struct pagelog_position position) {
     struct pagelog_file_patience patience = pagelog_file_patience(file);
     enum pagelog_outcome outcome = pagelog_look_at_page_server(file);
     if (outcome == PAGELOG_DONE && !file->named.place.is_page_server)
-        return pagelog_file_reach(file, position);
+        return pagelog_file_reach(file, position.number);
     while (outcome == PAGELOG_DONE && file->named.place.is_page_server &&
            has_position(file, position) != PAGELOG_DONE) {
         if (!pagelog_file_may_wait(file, &patience))
@@ -119,7 +122,7 @@ static bool may_ask(const struct pagelog_file *file) {
         file->options.pages == PAGELOG_PAGES_PREFERRED || file->options.pages == PAGELOG_PAGES_ONLY;
     bool is_here = named->has_place && !named->is_between && !is_gone(file) && !named->dropped;
     return is_named(file) && file->options.reads_only && is_wanted && is_here && named->place.pages > 0 &&
-           file->mark.lsn > 0 && pagelog_is_own(file->log);
+           !is_none(file->mark.lsn) && pagelog_is_own(file->log);
 }
 
 static struct pagelog_held_mark held_mark(const struct pagelog_file *file, const struct mark *mark) {
@@ -131,7 +134,7 @@ static struct pagelog_held_mark held_mark(const struct pagelog_file *file, const
 static bool is_held(const struct pagelog_file *file, const struct pagelog_held_mark *mark) {
     const struct named *named = &file->named;
     const struct pagelog_held_mark *last = pagelog_held_last(&named->held);
-    return last && strcmp(named->held_run, named->place.run) == 0 && last->position == mark->position &&
+    return last && strcmp(named->held_run, named->place.run) == 0 && is_at(last->position, mark->position) &&
            last->session == mark->session && last->transaction == mark->transaction;
 }
 

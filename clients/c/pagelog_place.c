@@ -224,7 +224,7 @@ static size_t split(char *line, char *words[MOST_WORDS]) {
     return count;
 }
 
-/* A position or a generation. */
+/* A generation, or the number of a position. */
 static bool read_number(const char *word, uint64_t *number) {
     char *end;
     errno = 0;
@@ -267,8 +267,8 @@ static bool read_identity(const char *of, char database[PAGELOG_IDENTITY_BYTES])
 static void read_before(char **words, size_t count, struct pagelog_place *place) {
     const char *after = value_of(words, count, "after"), *copied = value_of(words, count, "copied");
     snprintf(place->after, sizeof place->after, "%s", after ? after : "");
-    if (count < 10 || !read_number(words[9], &place->kept)) place->kept = 0;
-    if (!copied || !read_number(copied, &place->copied)) place->copied = 0;
+    if (count < 10 || !read_number(words[9], &place->kept.number)) place->kept.number = 0;
+    if (!copied || !read_number(copied, &place->copied.number)) place->copied.number = 0;
     const char *pages = value_of(words, count, "pages");
     uint64_t servers = 0;
     if (pages && !read_number(pages, &servers)) servers = 0;
@@ -285,16 +285,16 @@ static bool read_place(char **words, size_t count, struct pagelog_place *place) 
            strcmp(words[0], "at") == 0 && read_number(words[2], &place->generation) &&
            copy_word(place->run, sizeof place->run, words[3]) &&
            copy_word(place->address, sizeof place->address, words[4]) &&
-           read_number(words[5], &place->archived) &&
-           copy_word(place->lines, sizeof place->lines, words[6]) && read_number(words[7], &place->base) &&
-           read_shift(words[8], &place->shift);
+           read_number(words[5], &place->archived.number) &&
+           copy_word(place->lines, sizeof place->lines, words[6]) &&
+           read_number(words[7], &place->base.number) && read_shift(words[8], &place->shift);
 }
 
 /* Of two answers that of the higher generation; of one generation, of who knows most of its archive: one that
  * has not looked for a while knows less of both. */
 static bool is_newer(const struct pagelog_place *told, const struct pagelog_place *place) {
     if (told->generation != place->generation) return told->generation > place->generation;
-    return told->archived > place->archived;
+    return is_before(place->archived, told->archived);
 }
 
 static bool is_own(const struct pagelog_keepers *keepers, const struct pagelog_place *place) {
@@ -402,14 +402,15 @@ bool pagelog_where_take(struct pagelog_keepers *keepers, uint64_t ms, struct pag
 }
 
 /* durable NAME GENERATION M, or over NAME GENERATION END */
-static bool read_end(char **words, size_t count, uint64_t position, struct pagelog_fate *fate) {
-    if (count < 4 || !read_number(words[3], &fate->end)) return false;
+static bool read_end(char **words, size_t count, struct pagelog_position position,
+                     struct pagelog_fate *fate) {
+    if (count < 4 || !read_number(words[3], &fate->end.number)) return false;
     fate->is_over = strcmp(words[0], "over") == 0;
-    return fate->is_over || (strcmp(words[0], "durable") == 0 && fate->end >= position);
+    return fate->is_over || (strcmp(words[0], "durable") == 0 && !is_before(fate->end, position));
 }
 
 /* The same of this very run, or lost NAME GENERATION WHY by=N */
-static bool read_fate(char **words, size_t count, uint64_t position, const char *of,
+static bool read_fate(char **words, size_t count, struct pagelog_position position, const char *of,
                       struct pagelog_fate *fate) {
     const char *told = value_of(words, count, "of");
     *fate = (struct pagelog_fate){0};
@@ -455,11 +456,12 @@ static size_t ask_one(struct pagelog_keepers *keepers, struct pagelog_line *keep
 /* A keeper of version 1 knows numbers alone: what it says is of this run if it has this run now. Of a
  * generation that is over it may be of another run, or of another database. */
 static bool ask_older(struct pagelog_keepers *keepers, struct pagelog_line *keeper,
-                      const struct pagelog_place *place, uint64_t position, struct pagelog_fate *fate) {
+                      const struct pagelog_place *place, struct pagelog_position position,
+                      struct pagelog_fate *fate) {
     char line[LINE_BYTES], answer[PAGELOG_LINE_BYTES], *words[MOST_WORDS];
     struct pagelog_place now;
     snprintf(line, sizeof line, "durable %s %llu %llu\n", keepers->name,
-             (unsigned long long)place->generation, (unsigned long long)position);
+             (unsigned long long)place->generation, (unsigned long long)position.number);
     size_t count = ask_one(keepers, keeper, line, SILENCE_MS, answer, words);
     *fate = (struct pagelog_fate){0};
     if (!read_end(words, count, position, fate) || fate->is_over) return false;
@@ -471,13 +473,13 @@ static bool ask_older(struct pagelog_keepers *keepers, struct pagelog_line *keep
 
 /* Asks one keeper. */
 static bool ask_fate(struct pagelog_keepers *keepers, struct pagelog_line *keeper,
-                     const struct pagelog_place *place, uint64_t position, uint64_t ms,
+                     const struct pagelog_place *place, struct pagelog_position position, uint64_t ms,
                      struct pagelog_fate *fate) {
     char line[LINE_BYTES], of[PAGELOG_IDENTITY_BYTES + PAGELOG_RUN_BYTES], answer[PAGELOG_LINE_BYTES];
     char *words[MOST_WORDS];
     snprintf(of, sizeof of, "%s/%s", place->database, place->run);
     snprintf(line, sizeof line, "durable %s %llu %llu of=%s\n", keepers->name,
-             (unsigned long long)place->generation, (unsigned long long)position, of);
+             (unsigned long long)place->generation, (unsigned long long)position.number, of);
     prove(keepers, keeper, of);
     size_t count = keeper->version == 1 ? 0 : ask_one(keepers, keeper, line, ms, answer, words);
     if (keeper->version == 1) return ask_older(keepers, keeper, place, position, fate);
@@ -485,7 +487,7 @@ static bool ask_fate(struct pagelog_keepers *keepers, struct pagelog_line *keepe
 }
 
 enum pagelog_outcome pagelog_fate_of(struct pagelog_keepers *keepers, const char *lines,
-                                     const struct pagelog_place *place, uint64_t position,
+                                     const struct pagelog_place *place, struct pagelog_position position,
                                      struct pagelog_fate *fate) {
     struct pagelog_line *first = find_keeper(keepers, lines);
     if (first && ask_fate(keepers, first, place, position, SILENCE_MS, fate)) return PAGELOG_DONE;
@@ -498,7 +500,8 @@ enum pagelog_outcome pagelog_fate_of(struct pagelog_keepers *keepers, const char
 }
 
 enum pagelog_outcome pagelog_fate_at_once(struct pagelog_keepers *keepers, const struct pagelog_place *place,
-                                          uint64_t position, uint64_t ms, struct pagelog_fate *fate) {
+                                          struct pagelog_position position, uint64_t ms,
+                                          struct pagelog_fate *fate) {
     struct pagelog_line *holder = find_keeper(keepers, place->lines);
     return holder && ask_fate(keepers, holder, place, position, ms, fate) ? PAGELOG_DONE : PAGELOG_LOST;
 }
@@ -511,8 +514,8 @@ static size_t read_page_servers(char **words, size_t count,
         struct pagelog_page_server *server = &found[read];
         bool is_one = copy_word(server->address, sizeof server->address, words[at]) &&
                       copy_word(server->run, sizeof server->run, words[at + 1]) &&
-                      read_number(words[at + 2], &server->position) &&
-                      read_number(words[at + 3], &server->oldest);
+                      read_number(words[at + 2], &server->position.number) &&
+                      read_number(words[at + 3], &server->oldest.number);
         if (!is_one) break;
         read++;
     }
@@ -604,7 +607,8 @@ static enum pagelog_loss ask_loss(struct pagelog_keepers *keepers) {
         pagelog_line_ask(&keepers->keepers[i]);
     }
     while (!fate.loss && next_answer(keepers, line, until, answer))
-        if (!read_fate(words, split(answer, words), 0, of, &fate)) fate.loss = PAGELOG_NOT_LOST;
+        if (!read_fate(words, split(answer, words), (struct pagelog_position){0}, of, &fate))
+            fate.loss = PAGELOG_NOT_LOST;
     stop_asking(keepers, line, false);
     return fate.loss;
 }

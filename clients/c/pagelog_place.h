@@ -14,6 +14,7 @@
 #define PAGELOG_PLACE_H
 
 #include "pagelog.h"
+#include "pagelog_position.h"
 
 enum {
     PAGELOG_PLACE_BYTES = 256,   /* of an address, with the 0 at its end */
@@ -32,22 +33,22 @@ struct pagelog_place {
     char database[PAGELOG_IDENTITY_BYTES]; /* also another one of the same name has another */
     char ancestor[PAGELOG_PLACE_BYTES];    /* of a copy the name of the database that it is of; else empty */
     char run[PAGELOG_RUN_BYTES];
-    char after[PAGELOG_RUN_BYTES];     /* the run before, where its keeper knows that; else empty */
-    char address[PAGELOG_PLACE_BYTES]; /* of the service */
-    char lines[PAGELOG_PLACE_BYTES];   /* of the keeper that has it */
-    uint64_t archived,
-        base; /* positions: what is durable at least, and below which nothing can be read there */
+    char after[PAGELOG_RUN_BYTES];          /* the run before, where its keeper knows that; else empty */
+    char address[PAGELOG_PLACE_BYTES];      /* of the service */
+    char lines[PAGELOG_PLACE_BYTES];        /* of the keeper that has it */
+    struct pagelog_position archived, base; /* what is durable at least; below it nothing can be read there */
     int64_t shift;
-    uint64_t kept, copied; /* positions: where the run before ended; and up to which the database began as a
-                            * copy, whose marks are those of others. 0: with nothing */
-    unsigned pages;        /* how many page servers the database has */
-    bool is_page_server;   /* this is one of them: its LSNs are positions, and all that it has is durable */
+    /* Where the run before ended; and up to which the database began as a copy, whose marks are those of
+     * others. 0: with nothing */
+    struct pagelog_position kept, copied;
+    unsigned pages;      /* how many page servers the database has */
+    bool is_page_server; /* this is one of them: its LSNs are positions, and all that it has is durable */
 };
 
 /* A page server: it has pages at positions from `oldest` to `position`, or a later one by now. */
 struct pagelog_page_server {
     char address[PAGELOG_PLACE_BYTES], run[PAGELOG_RUN_BYTES];
-    uint64_t position, oldest;
+    struct pagelog_position position, oldest;
 };
 
 /* Why a run is lost. */
@@ -62,7 +63,7 @@ enum pagelog_loss {
  * every later generation, at the same positions. A run that is lost is in no later one, and of none of its
  * blocks it is known whether they are. All of it is final. */
 struct pagelog_fate {
-    uint64_t end;
+    struct pagelog_position end;
     bool is_over;
     enum pagelog_loss loss;
 };
@@ -133,12 +134,13 @@ bool pagelog_where_take(struct pagelog_keepers *keepers, uint64_t ms, struct pag
  * `lines` are those of who is asked first, or NULL. LOST: none has said it within some seconds; it may be
  * asked again, of who has the database by then. */
 enum pagelog_outcome pagelog_fate_of(struct pagelog_keepers *keepers, const char *lines,
-                                     const struct pagelog_place *place, uint64_t position,
+                                     const struct pagelog_place *place, struct pagelog_position position,
                                      struct pagelog_fate *fate);
 
 /* The same, as the holder's keeper alone says within so many milliseconds. */
 enum pagelog_outcome pagelog_fate_at_once(struct pagelog_keepers *keepers, const struct pagelog_place *place,
-                                          uint64_t position, uint64_t ms, struct pagelog_fate *fate);
+                                          struct pagelog_position position, uint64_t ms,
+                                          struct pagelog_fate *fate);
 
 /* The page servers of the database whose clients these are that live, those first that have most. LOST: no
  * keeper answers. */

@@ -81,21 +81,23 @@ static bool add_touched(struct pages *pages, const uint8_t *block, uint32_t last
 
 /* The pages of the file that the blocks after the end mark touch. All pages, of which there is no list, where
  * this principal may not pull, and where the blocks or the pages are so many that the file is the bound. */
-static enum pagelog_outcome touched_pages(struct pagelog_file *file, uint64_t end, struct pages *pages) {
+static enum pagelog_outcome touched_pages(struct pagelog_file *file, struct pagelog_lsn end,
+                                          struct pages *pages) {
     uint32_t last = pages_of(file->mark.size);
-    uint64_t next = end - file->mark.lsn <= MOST_BEHIND ? file->mark.lsn + 1 : UINT64_MAX;
-    while (next <= end && pages->count <= MOST_PAGES) {
+    bool is_near = distance(file->mark.lsn, end) <= MOST_BEHIND;
+    struct pagelog_lsn next = is_near ? next_of(file->mark.lsn) : (struct pagelog_lsn){UINT64_MAX};
+    while (!is_before(end, next) && pages->count <= MOST_PAGES) {
         struct pagelog_reply pulled;
         size_t at = 0, length;
         const uint8_t *block;
-        enum pagelog_outcome outcome = pagelog_pull(file->log, next, PAGELOG_PULL_BLOCKS, &pulled);
+        enum pagelog_outcome outcome = pull_from(file, next, PAGELOG_PULL_BLOCKS, &pulled);
         if (outcome == PAGELOG_DENIED) break;
         if (outcome != PAGELOG_DONE) return outcome;
         pagelog_hold_pulled(file, next, &pulled);
         while ((block = pagelog_next_block(&pulled, &at, &length)))
             if (!add_touched(pages, block, last)) return out_of_memory(file);
-        next = pulled.next;
-        if (next > end) {
+        next = next_in(&pulled);
+        if (is_before(end, next)) {
             sort_once_each(pages);
             return PAGELOG_DONE;
         }
@@ -105,16 +107,15 @@ static enum pagelog_outcome touched_pages(struct pagelog_file *file, uint64_t en
     return PAGELOG_DONE;
 }
 
-/* Adds what makes up to 64 pages again what they were at the end mark. `end` is a position: each append may
- * move the file. */
-static enum pagelog_outcome add_repairs(struct pagelog_file *file, uint64_t end, const uint32_t *pages,
-                                        size_t count) {
+/* Adds what makes up to 64 pages again what they were at the end mark. Each append may move the file. */
+static enum pagelog_outcome add_repairs(struct pagelog_file *file, struct pagelog_position end,
+                                        const uint32_t *pages, size_t count) {
     uint8_t *old = malloc(2 * GROUP * PAGELOG_PAGE_BYTES);
     if (!old) return out_of_memory(file);
     uint8_t *now = old + GROUP * PAGELOG_PAGE_BYTES;
-    enum pagelog_outcome outcome = pagelog_get(file->log, PAGELOG_PRIMARY, file->mark.lsn, pages, count, old);
+    enum pagelog_outcome outcome = get_at(file, PAGELOG_PRIMARY, file->mark.lsn, pages, count, old);
     if (outcome == PAGELOG_DONE)
-        outcome = pagelog_get(file->log, PAGELOG_PRIMARY, lsn_of(file, end), pages, count, now);
+        outcome = get_at(file, PAGELOG_PRIMARY, lsn_of(file, end), pages, count, now);
     for (size_t i = 0; i < count && outcome == PAGELOG_DONE; i++) {
         size_t at = i * PAGELOG_PAGE_BYTES;
         outcome = pagelog_blocks_difference(file->blocks, pages[i], now + at, old + at);
@@ -126,10 +127,11 @@ static enum pagelog_outcome add_repairs(struct pagelog_file *file, uint64_t end,
 
 enum pagelog_outcome pagelog_repair(struct pagelog_file *file) {
     struct pages pages = {0};
-    uint64_t end = pagelog_end(file->log), position = position_of(file, end);
+    struct pagelog_lsn end = end_of(file);
+    struct pagelog_position position = position_of(file, end);
     struct mark mark = {.size = file->mark.size, .transaction = file->mark.transaction + 1};
     enum pagelog_outcome outcome = touched_pages(file, end, &pages);
-    pagelog_blocks_restart(file->blocks, end + 1);
+    restart_at(file->blocks, next_of(end));
     for (size_t i = 0; i < pages.count && outcome == PAGELOG_DONE; i += GROUP) {
         uint32_t group[GROUP];
         size_t count = group_of(&pages, i, group);
@@ -143,16 +145,16 @@ enum pagelog_outcome pagelog_repair(struct pagelog_file *file) {
     mark.lsn = lsn_of(file, position);
     file->mark = mark;
     file->told_session = mark.session;
-    file->next = mark.lsn + 1;
+    file->next = next_of(mark.lsn);
     file->repairs++;
     return PAGELOG_DONE;
 }
 
 /* ---- Whether a transaction is whole ---- */
 
-static uint64_t first_lsn_of(const struct pagelog_blocks *blocks) {
+static struct pagelog_lsn first_lsn_of(const struct pagelog_blocks *blocks) {
     size_t length;
-    return pagelog_read_number(pagelog_blocks_at(blocks, 0, &length), 8);
+    return lsn_in(pagelog_blocks_at(blocks, 0, &length));
 }
 
 /* Applies what a block has of these pages, `count` of them by rising number, to their bytes. */
@@ -169,15 +171,15 @@ static void apply_block(const uint8_t *block, const uint32_t *pages, size_t coun
 }
 
 /* Whether up to 64 pages at an LSN are what the blocks make of what they were before: DONE or CONFLICT. */
-static enum pagelog_outcome compare_pages(struct pagelog_file *file, enum pagelog_role role, uint64_t lsn,
-                                          const uint32_t *pages, size_t count) {
+static enum pagelog_outcome compare_pages(struct pagelog_file *file, enum pagelog_role role,
+                                          struct pagelog_lsn lsn, const uint32_t *pages, size_t count) {
     size_t blocks = pagelog_blocks_count(file->blocks), length, bytes = count * PAGELOG_PAGE_BYTES;
     uint8_t *wanted = malloc(2 * GROUP * PAGELOG_PAGE_BYTES);
     if (!wanted) return out_of_memory(file);
     uint8_t *found = wanted + GROUP * PAGELOG_PAGE_BYTES;
-    uint64_t before = first_lsn_of(file->blocks) - 1;
-    enum pagelog_outcome outcome = pagelog_get(file->log, role, before, pages, count, wanted);
-    if (outcome == PAGELOG_DONE) outcome = pagelog_get(file->log, role, lsn, pages, count, found);
+    struct pagelog_lsn before = last_before(first_lsn_of(file->blocks));
+    enum pagelog_outcome outcome = get_at(file, role, before, pages, count, wanted);
+    if (outcome == PAGELOG_DONE) outcome = get_at(file, role, lsn, pages, count, found);
     for (size_t i = 0; i < blocks && outcome == PAGELOG_DONE; i++)
         apply_block(pagelog_blocks_at(file->blocks, i, &length), pages, count, wanted);
     if (outcome == PAGELOG_DONE && memcmp(wanted, found, bytes) != 0) outcome = PAGELOG_CONFLICT;
@@ -186,7 +188,8 @@ static enum pagelog_outcome compare_pages(struct pagelog_file *file, enum pagelo
 }
 
 /* Only the last of the blocks has the end mark of the last transaction. So one block is whole where it is. */
-enum pagelog_outcome pagelog_find_blocks(struct pagelog_file *file, enum pagelog_role role, uint64_t lsn) {
+enum pagelog_outcome pagelog_find_blocks(struct pagelog_file *file, enum pagelog_role role,
+                                         struct pagelog_lsn lsn) {
     struct pages pages = {0};
     size_t blocks = pagelog_blocks_count(file->blocks), length;
     enum pagelog_outcome outcome = PAGELOG_DONE;
@@ -206,23 +209,23 @@ enum pagelog_outcome pagelog_find_blocks(struct pagelog_file *file, enum pagelog
 /* Looks for the blocks of a commit that is still in doubt, where its end mark is the newest one. Nothing was
  * made since that is in their place. */
 static enum pagelog_outcome look_for_doubted(struct pagelog_file *file) {
-    bool is_newest = file->mark.lsn == file->doubted && file->mark.session == file->session;
-    if (!is_newest || file->torn > 0) return PAGELOG_DONE;
+    bool is_newest = is_at(file->mark.lsn, file->doubted) && file->mark.session == file->session;
+    if (!is_newest || !is_none(file->torn)) return PAGELOG_DONE;
     enum pagelog_outcome outcome = pagelog_find_blocks(file, PAGELOG_PRIMARY, file->doubted);
     if (outcome != PAGELOG_DONE && outcome != PAGELOG_CONFLICT) return outcome;
-    file->doubted = 0;
+    file->doubted.number = 0;
     return PAGELOG_DONE;
 }
 
 enum pagelog_outcome pagelog_take_whole(struct pagelog_file *file) {
     unsigned marks = 0;
-    enum pagelog_outcome outcome = pagelog_take_mark(file, pagelog_end(file->log));
-    if (outcome == PAGELOG_DONE && file->doubted > 0) outcome = look_for_doubted(file);
-    while (outcome == PAGELOG_DONE && file->torn > 0 && file->mark.lsn >= file->torn &&
+    enum pagelog_outcome outcome = pagelog_take_mark(file, end_of(file));
+    if (outcome == PAGELOG_DONE && !is_none(file->doubted)) outcome = look_for_doubted(file);
+    while (outcome == PAGELOG_DONE && !is_none(file->torn) && !is_before(file->mark.lsn, file->torn) &&
            file->mark.session == file->session) {
         if (marks++ == MOST_MARKS)
             return pagelog_file_fail(file, PAGELOG_MALFORMED, "there are more end marks than were written");
-        outcome = pagelog_take_mark(file, file->mark.lsn - 1);
+        outcome = pagelog_take_mark(file, last_before(file->mark.lsn));
     }
     return outcome;
 }

@@ -69,7 +69,7 @@ const struct pagelog_place *pagelog_file_place(const struct pagelog_file *file) 
 }
 
 uint64_t pagelog_file_lsn(const struct pagelog_file *file) {
-    return file->mark.lsn;
+    return file->mark.lsn.number;
 }
 
 void pagelog_file_set_check(struct pagelog_file *file, unsigned check_ms) {
@@ -99,12 +99,12 @@ struct pagelog_file_state pagelog_file_state_of(const struct pagelog_file *file)
         .is_gone = is_gone(file),
         .is_dropped = file->named.dropped != NULL,
         .generation = file->named.place.generation,
-        .position = file->mark.lsn > 0 ? position_of(file, file->mark.lsn) : 0,
-        .durable = file->named.durable,
-        .committed = file->named.own,
+        .position = is_none(file->mark.lsn) ? 0 : position_of(file, file->mark.lsn).number,
+        .durable = file->named.durable.number,
+        .committed = file->named.own.number,
         .moves = file->named.moves,
         .resent = file->named.resent,
-        .lsn = file->mark.lsn,
+        .lsn = file->mark.lsn.number,
         .end = pagelog_end(file->log),
         .size = file->mark.size,
         .transaction = file->mark.transaction,

@@ -37,8 +37,9 @@ static bool reserve(struct pagelog_tail *tail, size_t wanted) {
     return true;
 }
 
-bool pagelog_tail_add(struct pagelog_tail *tail, uint64_t position, const uint8_t *block, size_t length) {
-    if (position != tail->next) {
+bool pagelog_tail_add(struct pagelog_tail *tail, struct pagelog_position position, const uint8_t *block,
+                      size_t length) {
+    if (!is_at(position, tail->next)) {
         tail->next = position;
         forget(tail);
     }
@@ -46,14 +47,14 @@ bool pagelog_tail_add(struct pagelog_tail *tail, uint64_t position, const uint8_
     uint8_t *at = pagelog_write_number(tail->bytes + tail->end, length, LENGTH_BYTES);
     memcpy(at, block, length);
     tail->end += LENGTH_BYTES + length;
-    tail->next++;
+    tail->next = next_of(tail->next);
     return true;
 }
 
-struct pagelog_tail_walk pagelog_tail_at(const struct pagelog_tail *tail, uint64_t position) {
+struct pagelog_tail_walk pagelog_tail_at(const struct pagelog_tail *tail, struct pagelog_position position) {
     struct pagelog_tail_walk walk = {tail->start, tail->first};
     size_t length;
-    while (walk.position < position && pagelog_tail_next(tail, &walk, &length))
+    while (is_before(walk.position, position) && pagelog_tail_next(tail, &walk, &length))
         ;
     return walk;
 }
@@ -64,27 +65,27 @@ const uint8_t *pagelog_tail_next(const struct pagelog_tail *tail, struct pagelog
     const uint8_t *block = tail->bytes + walk->at + LENGTH_BYTES;
     *length = (size_t)pagelog_read_number(tail->bytes + walk->at, LENGTH_BYTES);
     walk->at += LENGTH_BYTES + *length;
-    walk->position++;
+    walk->position = next_of(walk->position);
     return block;
 }
 
-uint64_t pagelog_tail_after(const struct pagelog_tail *tail, size_t bytes) {
+struct pagelog_position pagelog_tail_after(const struct pagelog_tail *tail, size_t bytes) {
     struct pagelog_tail_walk walk = {tail->start, tail->first};
     size_t length;
     while (walk.at - tail->start < bytes && pagelog_tail_next(tail, &walk, &length))
         ;
-    return walk.position - 1;
+    return last_before(walk.position);
 }
 
-void pagelog_tail_drop(struct pagelog_tail *tail, uint64_t until) {
-    struct pagelog_tail_walk walk = pagelog_tail_at(tail, until + 1);
+void pagelog_tail_drop(struct pagelog_tail *tail, struct pagelog_position until) {
+    struct pagelog_tail_walk walk = pagelog_tail_at(tail, next_of(until));
     tail->start = walk.at;
     tail->first = walk.position;
     if (tail->start == tail->end) forget(tail);
 }
 
-void pagelog_tail_cut(struct pagelog_tail *tail, uint64_t from) {
-    if (from >= tail->next) return;
+void pagelog_tail_cut(struct pagelog_tail *tail, struct pagelog_position from) {
+    if (!is_before(from, tail->next)) return;
     struct pagelog_tail_walk walk = pagelog_tail_at(tail, from);
     tail->end = walk.at;
     tail->next = walk.position;

@@ -4,18 +4,19 @@
 #define PAGELOG_TAIL_H
 
 #include "pagelog.h"
+#include "pagelog_position.h"
 
 /* Blocks with consecutive positions, each after its length. All zeros: no blocks. */
 struct pagelog_tail {
     uint8_t *bytes;
     size_t start, end, room;
-    uint64_t first, next; /* positions: those held are from the first on, and before the next */
+    struct pagelog_position first, next; /* those held are from the first on, and before the next */
 };
 
 /* Where a walk through the blocks is. */
 struct pagelog_tail_walk {
     size_t at;
-    uint64_t position;
+    struct pagelog_position position;
 };
 
 void pagelog_tail_free(struct pagelog_tail *tail);
@@ -30,18 +31,19 @@ static inline size_t pagelog_tail_bytes(const struct pagelog_tail *tail) {
 }
 
 /* The position of the block with which the first ones are so many bytes, or of the last one. */
-uint64_t pagelog_tail_after(const struct pagelog_tail *tail, size_t bytes);
+struct pagelog_position pagelog_tail_after(const struct pagelog_tail *tail, size_t bytes);
 
 /* Adds a block at the next position. Where its position is another one, the blocks before are of no use any
  * more, and are forgotten. False where memory runs out. */
-bool pagelog_tail_add(struct pagelog_tail *tail, uint64_t position, const uint8_t *block, size_t length);
+bool pagelog_tail_add(struct pagelog_tail *tail, struct pagelog_position position, const uint8_t *block,
+                      size_t length);
 
 /* Forgets the blocks up to a position, or those from it on. */
-void pagelog_tail_drop(struct pagelog_tail *tail, uint64_t until);
-void pagelog_tail_cut(struct pagelog_tail *tail, uint64_t from);
+void pagelog_tail_drop(struct pagelog_tail *tail, struct pagelog_position until);
+void pagelog_tail_cut(struct pagelog_tail *tail, struct pagelog_position from);
 
 /* Goes to the block at a position, or to the end. */
-struct pagelog_tail_walk pagelog_tail_at(const struct pagelog_tail *tail, uint64_t position);
+struct pagelog_tail_walk pagelog_tail_at(const struct pagelog_tail *tail, struct pagelog_position position);
 
 /* The block that the walk is at, and goes on to the next; NULL at the end. Its first 8 bytes mean nothing. */
 const uint8_t *pagelog_tail_next(const struct pagelog_tail *tail, struct pagelog_tail_walk *walk,

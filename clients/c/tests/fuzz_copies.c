@@ -57,8 +57,8 @@ static void must(const char *what, bool holds) {
 /* ---- What is held: a block that puts a byte into page 7 comes after the base ---- */
 
 static void hold(struct pagelog_held *held) {
-    struct pagelog_held_mark base = {.position = BASE, .session = 5, .transaction = 6};
-    struct pagelog_held_mark newest = {.position = NEWEST, .session = 5, .transaction = 7};
+    struct pagelog_held_mark base = {.position = {BASE}, .session = 5, .transaction = 6};
+    struct pagelog_held_mark newest = {.position = {NEWEST}, .session = 5, .transaction = 7};
     uint8_t bytes[64], *at = pagelog_write_number(bytes, 24, 4);
     at = pagelog_write_number(at, NEWEST, 8);
     at = pagelog_write_number(at, 1, 2); /* partition 0, and one record */
@@ -119,13 +119,14 @@ static size_t answer(uint8_t *to, uint8_t sound, const uint8_t *bytes, size_t si
 struct believed {
     bool is_right;
     uint8_t bytes[PAGES * PAGELOG_PAGE_BYTES];
-    uint64_t proved;
+    struct pagelog_position proved;
 };
 
 static void ask_it(struct believed *believed, const struct pagelog_held *held, const uint8_t *bytes,
                    size_t size, size_t most) {
     static struct pagelog_copies copies = {.count = 1};
     static const uint32_t pages[PAGES] = {7, 8};
+    const struct pagelog_position base = {BASE};
     struct pagelog_copy *copy = &copies.copies[0];
     struct question question = {
         .copies = &copies, .held = held, .pages = pages, .count = PAGES, .bytes = believed->bytes};
@@ -133,11 +134,11 @@ static void ask_it(struct believed *believed, const struct pagelog_held *held, c
     copy->line.is_bare = true;
     copy->line.is_asked = false;
     copy->connects = copy->line.connects;
-    copy->proved = 0;
-    copy->server.position = BASE + 1;
+    copy->proved.number = 0;
+    copy->server.position.number = BASE + 1;
     memset(believed, 0, sizeof *believed);
     input = bytes, left = size, piece = most;
-    must("it is asked", pagelog_copy_ask(copy, &copies.reader, BASE, pages, PAGES));
+    must("it is asked", pagelog_copy_ask(copy, &copies.reader, base, pages, PAGES));
     must("and has to prove it", copy->has_proof && copy->replies == REPLIES);
     copy->line.sent = copy->length;
     bool is_good = true;
@@ -151,8 +152,8 @@ static void ask_it(struct believed *believed, const struct pagelog_held *held, c
 
 static void must_be_right(const struct believed *believed, uint8_t sound) {
     const uint8_t *page = believed->bytes;
-    must("a mark proves it", !believed->is_right || believed->proved == BASE);
-    must("nothing else does", believed->proved == 0 || believed->proved == BASE);
+    must("a mark proves it", !believed->is_right || believed->proved.number == BASE);
+    must("nothing else does", is_none(believed->proved) || believed->proved.number == BASE);
     must("what came after is laid over", !believed->is_right || page[3] == LAID);
     bool is_sound = believed->is_right && (sound & 0xf) == 0xf;
     must("and nothing else", !is_sound || (page[2] == FILLING && page[4] == FILLING));

@@ -75,6 +75,7 @@ static void take_all(struct taken *taken, const uint8_t *bytes, size_t size, siz
 
 static void read_answer(char *words[MOST_WORDS], size_t count) {
     static const char *const runs[] = {"", "i/r"};
+    const struct pagelog_position position = {7};
     struct pagelog_place place;
     struct pagelog_fate fate;
     if (read_place(words, count, &place)) {
@@ -84,12 +85,13 @@ static void read_answer(char *words[MOST_WORDS], size_t count) {
         must_fit(place.database, sizeof place.database);
         must_fit(place.ancestor, sizeof place.ancestor);
         must_fit(place.after, sizeof place.after);
-        must("positions are numbers", place.archived <= PAGELOG_LAST_LSN && place.base <= PAGELOG_LAST_LSN &&
+        must("positions are numbers", place.archived.number <= PAGELOG_LAST_LSN &&
+                                          place.base.number <= PAGELOG_LAST_LSN &&
                                           place.generation <= PAGELOG_LAST_LSN);
     }
     for (size_t i = 0; i < sizeof runs / sizeof *runs; i++) {
-        bool is_said = read_fate(words, count, 7, runs[i], &fate);
-        must("nothing is durable that is below", !is_said || fate.is_over || fate.end >= 7);
+        bool is_said = read_fate(words, count, position, runs[i], &fate);
+        must("nothing is durable that is below", !is_said || fate.is_over || !is_before(fate.end, position));
     }
 }
 
@@ -101,7 +103,7 @@ static void read_servers(char *words[MOST_WORDS], size_t count) {
         must_fit(found[i].address, sizeof found[i].address);
         must_fit(found[i].run, sizeof found[i].run);
         must("its positions are numbers",
-             found[i].position <= PAGELOG_LAST_LSN && found[i].oldest <= PAGELOG_LAST_LSN);
+             found[i].position.number <= PAGELOG_LAST_LSN && found[i].oldest.number <= PAGELOG_LAST_LSN);
     }
 }
 

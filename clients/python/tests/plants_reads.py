@@ -8,9 +8,9 @@ _KEPT = "c/pagelog_kept.c"
 PLANTS = {
     "ahead, of an epoch that was over": Plant("c/pagelog_calls.c", "bool is_refused_ahead = was_ahead && log->socket >= 0;", "bool is_refused_ahead = was_ahead && log->socket < 0;",
                                               "c/ahead", "asked_for_again_by_who_follows"),
-    "ahead, at another LSN": Plant(_FILE, "if (lsn != file->mark.lsn || page >", "if (page >", "c/ahead", "after_a_commit_is_none_of_that"),
-    "ahead, of a file that is shorter": Plant(_FILE, "if (lsn != file->mark.lsn || page > pages_of(file->least)) return;",
-                                              "if (lsn != file->mark.lsn) return;", "c/ahead", "when_the_file_is_shorter"),
+    "ahead, at another LSN": Plant(_FILE, "if (lsn != file->mark.lsn.number || page >", "if (page >", "c/ahead", "after_a_commit_is_none_of_that"),
+    "ahead, of a file that is shorter": Plant(_FILE, "if (lsn != file->mark.lsn.number || page > pages_of(file->least)) return;",
+                                              "if (lsn != file->mark.lsn.number) return;", "c/ahead", "when_the_file_is_shorter"),
     "ahead, of another page": Plant(_REQUESTS, "        log->take(log->taker, asked.lsn, asked.page, reply.bytes);\n",
                                     "        log->take(log->taker, asked.lsn, asked.page + 1, reply.bytes);\n", "c/ahead", "beside_a_writer"),
     "ahead, not compared": Plant(_REQUESTS, "    struct asked asked = take_asked(log);\n    if (pagelog_decode_reply(body, length, &reply) != 0 || !pagelog_answers(asked, &reply))\n        return pagelog_distrust(log);\n    log->counts.replies++;\n    if",
@@ -39,6 +39,6 @@ PLANTS = {
     "kept, by another principal": Plant("c/pagelog_vfs_kept.c", "strcmp(kept->key, database->key) == 0 && ", "", "c/readers", "with_the_pages_of_the_last"),
     "kept, of all databases": Plant("c/pagelog_vfs_kept.c", "count == MOST_DATABASES || ", "", "c/readers", "of_four_databases"),
     "kept, at another shift": Plant(_KEPT, "mark.lsn = lsn_of(file, kept->position);", "", "c/readers", "outlive_its_service"),
-    "kept, of what was lost": Plant(_KEPT, "(pagelog_is_same_mark(&mark, &file->mark) || goes_back(file, &mark))", "(mark.lsn == file->mark.lsn || goes_back(file, &mark))", "c/readers",
+    "kept, of what was lost": Plant(_KEPT, "(pagelog_is_same_mark(&mark, &file->mark) || goes_back(file, &mark))", "(is_at(mark.lsn, file->mark.lsn) || goes_back(file, &mark))", "c/readers",
                                     "outlive_its_service"),
 }  # fmt: skip
