@@ -117,7 +117,7 @@ active proctype World() {
 // pagelog_paged.c: pagelog_hold_transaction
                     // ..
                     // if (is_held(file, &before))
-                    // pagelog_held_add(&file->named.held, &next, file->pending.bytes, file->pending.length);
+                    // pagelog_held_add(&file->source.named->held, &next, file->pending.bytes, file->pending.length);
 inline follow() { mark++; held[mark] = AT(gen, mark) }
 
 // pagelog_paged.c: hold_read

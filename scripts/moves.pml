@@ -238,7 +238,7 @@ inline tell_durable(b) {
 // pagelog_move.c: give_up_transaction
                     // pagelog_cache_clear(file->cache);
                     // if (file->reading != OVER) pagelog_have(file, GONE);
-                    // file->named.given_up++;
+                    // file->given_up++;
 // pagelog_move.c: lose_to
                     // ..
                     // bool was_told = !is_before(named->own, position);
@@ -540,12 +540,12 @@ inline try_to_move() {
                     // return named->is_sent_again && !pagelog_tail_is_empty(&named->tail) && is_before(next_of(named->told), named->tail.next);
 // pagelog_move.c: give_up_move
                     // ..
-                    // return pagelog_file_fail(file, may_be_there(&file->named) ? PAGELOG_IN_DOUBT : leaving->cause, why);
+                    // return pagelog_file_fail(file, may_be_there(file->source.named) ? PAGELOG_IN_DOUBT : leaving->cause, why);
 // pagelog_move.c: move
                     // ..
-                    // file->named.is_sent_again = false;
+                    // file->source.named->is_sent_again = false;
                     // for (;;)
-                    // bool is_over = leaving.is_over && file->named.place.generation == leaving.generation;
+                    // bool is_over = leaving.is_over && file->source.named->place.generation == leaving.generation;
                     // enum pagelog_outcome outcome = try_to_move(file, is_over);
                     // if (outcome == PAGELOG_DONE || !is_passing(file, outcome)) return outcome;
                     // ..
@@ -579,7 +579,7 @@ inline move(why) {
 
 // pagelog_move.c: pagelog_arrive
                     // ..
-                    // return file->named.is_between ? pagelog_move(file, PAGELOG_LOST) : PAGELOG_DONE;
+                    // return file->source.named->is_between ? pagelog_move(file, PAGELOG_LOST) : PAGELOG_DONE;
 #ifdef READS_ON_BEFORE_IT_HAS_LOOKED
 #define HAS_ARRIVED true
 #else
@@ -663,15 +663,13 @@ inline follow() {
 
 /* The block takes its place in the tail before it is sent. The keeper is told as soon as it is, and may have it archived before it is
  * acknowledged: it archives what is in the log, whoever knows that. */
-// pagelog_mark.c: pagelog_append_ended
-                    // ..
-                    // enum pagelog_outcome outcome = is_named(file) ? pagelog_hold_blocks(file) : PAGELOG_DONE;
-                    // if (outcome != PAGELOG_DONE) return outcome;
+// pagelog_named.c: append
+                    // enum pagelog_outcome outcome = pagelog_hold_blocks(file);
+                    // return outcome == PAGELOG_DONE ? pagelog_end_append(file, pagelog_append_here(file)) : outcome;
+// pagelog_mark.c: pagelog_append_here
                     // if (file->tell_sent && pagelog_append_unwaited(file->log, file->blocks, file->options.written))
                     //     file->tell_sent(file->told_sent);
-                    // outcome = pagelog_append(file->log, file->blocks, file->options.written);
-                    // if (is_named(file)) outcome = pagelog_end_append(file, outcome);
-                    // ..
+                    // return pagelog_append(file->log, file->blocks, file->options.written);
 inline append() {
     if
     :: d_step { alive[gen] && owner[gen] == ME -> harden(gen, made) }
@@ -691,7 +689,7 @@ inline append() {
 }
 
 // pagelog_durable.c: let_go
-                    // pagelog_tail_cut(&file->named.tail, next_of(file->named.told));
+                    // pagelog_tail_cut(&file->source.named->tail, next_of(file->source.named->told));
                     // pagelog_begin_session(file);
                     // return outcome;
 // pagelog_durable.c: pagelog_end_append
@@ -756,7 +754,7 @@ inline hold_nothing() {
                     // named->durable = higher_of(named->durable, position);
                     // pagelog_tail_drop(&named->tail, lower_of(position, named->told));
 // pagelog_durable.c: pagelog_note_fate
-                    // bool is_here = strcmp(place->run, file->named.place.run) == 0;
+                    // bool is_here = strcmp(place->run, file->source.named->place.run) == 0;
                     // ..
                     // if (is_here) note_durable(file, fate->end);
                     // bool is_cut = is_here && fate->is_over && is_before(fate->end, position);
@@ -922,9 +920,9 @@ end:
                     // if (strcmp(place.run, named->place.run) != 0) return leave_if_lost(file);
                     // note_durable(file, place.archived);
                     // return file->options.durable_only && !file->options.at ? hurry(file) : PAGELOG_DONE;
-// pagelog_named.c: pagelog_limit_of
+// pagelog_named.c: limit
                     // ..
-                    // return file->options.durable_only ? lsn_of(file, file->named.durable) : no_limit;
+                    // return file->options.durable_only ? lsn_of(file, file->source.named->durable) : no_limit;
 #ifdef SEES_WHAT_IS_NOT_DURABLE
 #define LIMIT LAST
 #else

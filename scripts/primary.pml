@@ -684,7 +684,7 @@ inline take_over_any() {
 #endif
 
 /* A page at an LSN of the log stays what it is. A writer that is fenced by this read goes on as a follower. */
-// pagelog_file.c: recover
+// pagelog_repair.c: pagelog_recover
                     // enum pagelog_outcome outcome = pagelog_take_whole(file);
                     // if (outcome == PAGELOG_DONE && is_writer(file) && is_before(file->mark.lsn, end_of(file)))
                     // outcome = pagelog_repair(file);
@@ -712,14 +712,14 @@ inline recover() {
     reply = ALLOWED
 }
 
-// pagelog_file.c: begin_to_write
+// pagelog_addressed.c: begin_to_write
                     // ..
                     // options->has_operator
                     // ? pagelog_take_over(file->log, options->operator_principal, options->operator_token, 0)
                     // : pagelog_join(file->log);
                     // if (outcome != PAGELOG_DONE) return outcome;
                     // ..
-                    // return recover(file);
+                    // return pagelog_recover(file);
 inline open_writer() {
     if
 #ifdef SHORT_WHERE_JOINED
@@ -743,7 +743,7 @@ inline open_writer() {
                     // ..
                     // pagelog_take_over(
                     // file->log, options->operator_principal, options->operator_token, pagelog_writing_epoch(file->log));
-                    // if (outcome == PAGELOG_DONE) outcome = recover(file);
+                    // if (outcome == PAGELOG_DONE) outcome = pagelog_recover(file);
                     // if (outcome == PAGELOG_DONE && file->standing == BROKEN) pagelog_stand(file, WRITING);
                     // ..
 inline renew() {
@@ -768,7 +768,7 @@ inline renew() {
                     // ..
                     // enum pagelog_outcome outcome = pagelog_status(file->log, PAGELOG_PRIMARY, &status);
                     // if (outcome != PAGELOG_DONE || is_at(hard_of(&status), file->mark.lsn)) return outcome;
-                    // outcome = recover(file);
+                    // outcome = pagelog_recover(file);
                     // bool is_ended = !pagelog_is_stuck(file->log);
                     // if (!is_ended && is_writer(file)) pagelog_stand(file, BROKEN);
                     // ..
@@ -787,7 +787,7 @@ inline check_epoch() {
 }
 
 /* The session is the writer's, and the number of a transaction is that of its LSN. */
-// pagelog_commit.c: find_mark
+// pagelog_addressed.c: find_mark
                     // ..
                     // if (ends_before) return PAGELOG_CONFLICT;
                     // if (outcome != PAGELOG_DONE) return outcome;
@@ -816,7 +816,7 @@ inline find_mark() {
                     // ..
                     // if (outcome == PAGELOG_CONFLICT) file->torn = first_lsn_of(file->blocks);
                     // return outcome;
-// pagelog_commit.c: settle_by_blocks
+// pagelog_addressed.c: settle_by_blocks
                     // enum pagelog_outcome outcome = pagelog_find_blocks(file, role_of(file), mark->lsn);
                     // if (outcome == PAGELOG_DONE) return outcome;
                     // if (outcome == PAGELOG_CONFLICT)
@@ -839,9 +839,9 @@ inline settle_by_blocks() {
 #endif
 }
 
-// pagelog_commit.c: settle_doubt
+// pagelog_addressed.c: settle_doubt
                     // ..
-                    // if (!options->has_operator || is_named(file)) return PAGELOG_IN_DOUBT;
+                    // if (!options->has_operator) return PAGELOG_IN_DOUBT;
                     // file->doubted = mark->lsn;
                     // enum pagelog_outcome outcome = pagelog_take_over(
                     // file->log, options->operator_principal, options->operator_token, pagelog_writing_epoch(file->log));
@@ -897,10 +897,11 @@ inline settle_doubt() {
 // pagelog_commit.c: note_failure
                     // ..
                     // bool is_untouched = is_at(end_of(file), end) && !pagelog_is_stuck(file->log);
-                    // if (is_named(file)) pagelog_become_follower(file);
-                    // else if (outcome == PAGELOG_FENCED && !pagelog_is_restarted(file->log))
-                    // pagelog_become_follower(file);
-                    // else if (is_writer(file) && (!is_untouched || outcome == PAGELOG_IN_DOUBT)) pagelog_stand(file, BROKEN);
+                    // file->source.calls->fall_back(file, outcome, !is_untouched || outcome == PAGELOG_IN_DOUBT);
+// pagelog_addressed.c: fall_back
+                    // bool is_fenced = outcome == PAGELOG_FENCED && !pagelog_is_restarted(file->log);
+                    // if (is_fenced || !is_writer(file)) pagelog_become_follower(file);
+                    // else if (may_be_there) pagelog_stand(file, BROKEN);
 inline note_failure() {
     if
     :: outcome == FENCED -> is_fenced = true
@@ -917,9 +918,7 @@ inline note_failure() {
                     // ..
                     // file->on_their_way = 0;
                     // ..
-                    // bool is_fenced = outcome == PAGELOG_FENCED && !pagelog_is_restarted(file->log);
-                    // if (is_named(file) || !is_writer(file) || is_fenced)
-                    // pagelog_become_follower(file); else pagelog_stand(file, BROKEN);
+                    // file->source.calls->fall_back(file, outcome, true);
                     // ..
 inline lose() {
 #ifndef KEEPS_REPLIES
@@ -935,7 +934,7 @@ inline lose() {
 /* What has become of the commit. */
 // pagelog_commit.c: commit_changes
                     // ..
-                    // if (outcome == PAGELOG_IN_DOUBT) outcome = settle_doubt(file, &mark);
+                    // if (outcome == PAGELOG_IN_DOUBT) outcome = file->source.calls->settle_doubt(file, &mark);
                     // if (outcome != PAGELOG_DONE && file->on_their_way > 0) return lose(file, outcome);
                     // if (outcome == PAGELOG_DONE && fate != NOTHING_DIFFERS) keep(file, &mark, fate == ON_ITS_WAY);
                     // ..
@@ -944,7 +943,7 @@ inline lose() {
 // pagelog_commit.c: pagelog_file_settle
                     // ..
                     // enum pagelog_outcome outcome = pagelog_append_ended(file);
-                    // if (outcome == PAGELOG_IN_DOUBT) outcome = settle_doubt(file, &file->mark);
+                    // if (outcome == PAGELOG_IN_DOUBT) outcome = file->source.calls->settle_doubt(file, &file->mark);
                     // if (outcome != PAGELOG_DONE) return file->reading == OVER ? outcome : lose(file, outcome);
                     // ..
 inline tell() {

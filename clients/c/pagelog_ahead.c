@@ -1,6 +1,6 @@
 /* Pages that are asked for before they are read: which ones, and how they come into memory. */
 #include "pagelog_copy.h"
-#include "pagelog_move.h"
+#include "pagelog_file_inside.h"
 
 #include <stdlib.h>
 #include <string.h>
@@ -164,7 +164,7 @@ static bool copy_pages(struct pagelog_file *file, const uint32_t *pages, size_t 
                        enum pagelog_outcome *outcome) {
     size_t asked = count < PAGELOG_COPY_PAGES ? count : PAGELOG_COPY_PAGES;
     if (pagelog_is_ahead(file->log, file->mark.lsn.number, pages[0])) return false;
-    const uint8_t *copied = pagelog_fetch_copied(file, pages, asked);
+    const uint8_t *copied = file->source.calls->copied(file, pages, asked);
     if (!copied) return false;
     note_wait(file, pagelog_now_ns() - began, asked, asked);
     if (asked < count)

@@ -1,6 +1,6 @@
 /* The commit: pages that differ become records, records fill blocks, and the end mark ends the last of them.
  */
-#include "pagelog_move.h"
+#include "pagelog_file_inside.h"
 
 #include <stdlib.h>
 #include <string.h>
@@ -109,7 +109,7 @@ static void keep(struct pagelog_file *file, const struct mark *mark, bool is_unw
     file->on_their_way = is_unwaited ? file->on_their_way + 1 : 0;
     file->mark = *mark;
     file->told_session = mark->session;
-    file->is_named = file->is_named || *file->name;
+    file->has_name = file->has_name || *file->name;
     file->least = file->size;
     file->next = next_of(mark->lsn);
     file->commits++;
@@ -169,71 +169,11 @@ static enum pagelog_outcome send_changes(struct commit *commit, struct mark *mar
     return outcome;
 }
 
-/* Whether the end mark is in the log, of an epoch that is over: DONE where it is, CONFLICT where it is not.
- */
-static enum pagelog_outcome find_mark(struct pagelog_file *file, enum pagelog_role role,
-                                      const struct mark *mark) {
-    uint8_t page[PAGELOG_PAGE_BYTES];
-    const uint32_t number = MARK_PAGE;
-    struct mark found;
-    enum pagelog_outcome outcome = get_at(file, role, mark->lsn, &number, 1, page);
-    bool ends_before = outcome == PAGELOG_DENIED && pagelog_refused(file->log)->section == 3 &&
-                       pagelog_refused(file->log)->row == 1 && !pagelog_is_restarted(file->log);
-    if (ends_before) return PAGELOG_CONFLICT;
-    if (outcome != PAGELOG_DONE) return outcome;
-    bool is_ours = pagelog_read_mark(file, page, &found) && pagelog_is_same_mark(&found, mark);
-    return is_ours ? PAGELOG_DONE : PAGELOG_CONFLICT;
-}
-
-/* A commit in doubt whose end mark is in the log: it is done if all of its blocks are. */
-static enum pagelog_outcome settle_by_blocks(struct pagelog_file *file, const struct mark *mark,
-                                             const struct pagelog_reply *refused) {
-    enum pagelog_outcome outcome = pagelog_find_blocks(file, role_of(file), mark->lsn);
-    if (outcome == PAGELOG_DONE) return outcome;
-    if (outcome == PAGELOG_CONFLICT)
-        return pagelog_file_fail(
-            file, PAGELOG_IN_DOUBT,
-            "another session of this epoch has put a block in the place of one of these");
-    file->reason = NULL;
-    return pagelog_restore(file->log, PAGELOG_IN_DOUBT, refused);
-}
-
-/* A commit in doubt: another epoch decides it, be it one that this writer begins or one that somebody else
- * has begun. */
-static enum pagelog_outcome settle_doubt(struct pagelog_file *file, const struct mark *mark) {
-    const struct pagelog_file_options *options = &file->options;
-    struct pagelog_reply refused = *pagelog_refused(file->log);
-    enum pagelog_outcome cause = pagelog_outcome_of(&refused);
-    if (!options->has_operator || is_named(file)) return PAGELOG_IN_DOUBT; /* a move has looked already */
-    file->doubted = mark->lsn;
-    enum pagelog_outcome outcome = pagelog_take_over(
-        file->log, options->operator_principal, options->operator_token, pagelog_writing_epoch(file->log));
-    bool is_fenced = outcome == PAGELOG_FENCED && !pagelog_is_restarted(file->log);
-    if (outcome != PAGELOG_DONE && !is_fenced) return pagelog_restore(file->log, PAGELOG_IN_DOUBT, &refused);
-    if (is_fenced) pagelog_become_follower(file);
-    outcome = find_mark(file, role_of(file), mark);
-    if (outcome == PAGELOG_DONE) outcome = settle_by_blocks(file, mark, &refused);
-    if (outcome == PAGELOG_IN_DOUBT) return outcome;
-    if (outcome == PAGELOG_DONE || outcome == PAGELOG_CONFLICT) file->doubted.number = 0;
-    /* Where a failover's reply was lost, another writer may have gone on from there before this epoch. */
-    bool has_gone_on = outcome == PAGELOG_DONE && !is_fenced && !is_at(end_of(file), mark->lsn);
-    if (has_gone_on && is_writer(file)) pagelog_stand(file, BROKEN);
-    if (outcome == PAGELOG_DONE) return PAGELOG_DONE;
-    if (outcome != PAGELOG_CONFLICT) return pagelog_restore(file->log, PAGELOG_IN_DOUBT, &refused);
-    if (is_fenced) return PAGELOG_FENCED;
-    return pagelog_restore(file->log, cause == PAGELOG_DONE ? PAGELOG_LOST : cause, &refused);
-}
-
 /* What an outcome leaves behind for the next transaction. */
 static void note_failure(struct pagelog_file *file, enum pagelog_outcome outcome, struct pagelog_lsn end) {
     if (pagelog_in_flight(file->log) > 0) pagelog_disconnect(file->log); /* blocks without an end */
     bool is_untouched = is_at(end_of(file), end) && !pagelog_is_stuck(file->log);
-    if (is_named(file))
-        pagelog_become_follower(file);
-    else if (outcome == PAGELOG_FENCED && !pagelog_is_restarted(file->log))
-        pagelog_become_follower(file);
-    else if (is_writer(file) && (!is_untouched || outcome == PAGELOG_IN_DOUBT))
-        pagelog_stand(file, BROKEN);
+    file->source.calls->fall_back(file, outcome, !is_untouched || outcome == PAGELOG_IN_DOUBT);
 }
 
 /* Commits that nobody waited for are not in the log, or may not be: the file is what it was before them. */
@@ -245,11 +185,7 @@ static enum pagelog_outcome lose(struct pagelog_file *file, enum pagelog_outcome
     file->on_their_way = 0;
     pagelog_have(file, OVER);
     file->losses++;
-    bool is_fenced = outcome == PAGELOG_FENCED && !pagelog_is_restarted(file->log);
-    if (is_named(file) || !is_writer(file) || is_fenced)
-        pagelog_become_follower(file);
-    else
-        pagelog_stand(file, BROKEN);
+    file->source.calls->fall_back(file, outcome, true);
     return pagelog_file_fail(file, outcome,
                              "the last commits, which nobody waited for, may not be in the log");
 }
@@ -259,7 +195,7 @@ enum pagelog_outcome pagelog_file_settle(struct pagelog_file *file) {
     if (file->on_their_way == 0) return PAGELOG_DONE;
     file->reason = NULL;
     enum pagelog_outcome outcome = pagelog_append_ended(file);
-    if (outcome == PAGELOG_IN_DOUBT) outcome = settle_doubt(file, &file->mark);
+    if (outcome == PAGELOG_IN_DOUBT) outcome = file->source.calls->settle_doubt(file, &file->mark);
     if (outcome != PAGELOG_DONE) return file->reading == OVER ? outcome : lose(file, outcome);
     file->on_their_way = 0;
     return PAGELOG_DONE;
@@ -281,7 +217,7 @@ static enum pagelog_outcome commit_changes(struct commit *commit) {
     enum fate fate = IN_THE_LOG;
     struct pagelog_lsn end = end_of(file);
     enum pagelog_outcome outcome = send_changes(commit, &mark, &fate);
-    if (outcome == PAGELOG_IN_DOUBT) outcome = settle_doubt(file, &mark);
+    if (outcome == PAGELOG_IN_DOUBT) outcome = file->source.calls->settle_doubt(file, &mark);
     if (outcome != PAGELOG_DONE && file->on_their_way > 0) return lose(file, outcome);
     if (outcome == PAGELOG_DONE && fate != NOTHING_DIFFERS)
         keep(file, &mark, fate == ON_ITS_WAY);

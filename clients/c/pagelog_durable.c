@@ -12,7 +12,7 @@ enum { HEAD_BYTES = 12 };
 /* All up to a position of this generation is durable. Where its log is not known to have the tail that says
  * nothing of the tail's blocks. */
 static void note_durable(struct pagelog_file *file, struct pagelog_position position) {
-    struct named *named = &file->named;
+    struct named *named = file->source.named;
     if (!is_settled_here(named)) return;
     named->durable = higher_of(named->durable, position);
     pagelog_tail_drop(&named->tail, lower_of(position, named->told));
@@ -20,7 +20,7 @@ static void note_durable(struct pagelog_file *file, struct pagelog_position posi
 
 enum pagelog_outcome pagelog_note_fate(struct pagelog_file *file, const struct pagelog_place *place,
                                        const struct pagelog_fate *fate, struct pagelog_position position) {
-    bool is_here = strcmp(place->run, file->named.place.run) == 0;
+    bool is_here = strcmp(place->run, file->source.named->place.run) == 0;
     if (is_here && fate->loss) return pagelog_lose_run(file, place, fate->loss);
     if (is_here) note_durable(file, fate->end);
     bool is_cut = is_here && fate->is_over && is_before(fate->end, position);
@@ -28,7 +28,7 @@ enum pagelog_outcome pagelog_note_fate(struct pagelog_file *file, const struct p
 }
 
 bool pagelog_file_is_durable(const struct pagelog_file *file, struct pagelog_awaited *awaited) {
-    const struct named *named = &file->named;
+    const struct named *named = file->source.named;
     if (awaited->position <= named->durable.number) return true;
     awaited->place = named->place;
     return false;
@@ -38,7 +38,7 @@ bool pagelog_file_is_durable(const struct pagelog_file *file, struct pagelog_awa
  * CONFLICT: it is not in the database, and never will be. Else as of a begin that finds commits lost. */
 static enum pagelog_outcome take_of_writer(struct pagelog_file *file, const struct pagelog_awaited *awaited,
                                            enum pagelog_outcome outcome, const struct pagelog_fate *fate) {
-    struct named *named = &file->named;
+    struct named *named = file->source.named;
     struct pagelog_position position = {awaited->position};
     struct pagelog_place place;
     file->reason = NULL;
@@ -111,7 +111,7 @@ static size_t bytes_of(const struct pagelog_blocks *blocks) {
 
 /* What was to be appended is in the tail no more. */
 static enum pagelog_outcome let_go(struct pagelog_file *file, enum pagelog_outcome outcome) {
-    pagelog_tail_cut(&file->named.tail, next_of(file->named.told));
+    pagelog_tail_cut(&file->source.named->tail, next_of(file->source.named->told));
     pagelog_begin_session(file);
     return outcome;
 }
@@ -119,7 +119,7 @@ static enum pagelog_outcome let_go(struct pagelog_file *file, enum pagelog_outco
 /* What the next block is made upon, where that may be lost yet and is not held, as after a leap: a log that
  * has another block there is not to get the next one. */
 static enum pagelog_outcome hold_before(struct pagelog_file *file) {
-    const struct named *named = &file->named;
+    const struct named *named = file->source.named;
     struct pagelog_position known = higher_of(named->durable, named->place.archived);
     size_t length;
     if (pagelog_blocks_count(file->blocks) == 0) return PAGELOG_DONE;
@@ -134,7 +134,7 @@ static enum pagelog_outcome hold_before(struct pagelog_file *file) {
 }
 
 enum pagelog_outcome pagelog_hold_blocks(struct pagelog_file *file) {
-    struct named *named = &file->named;
+    struct named *named = file->source.named;
     enum pagelog_outcome outcome = PAGELOG_DONE;
     size_t length, more = bytes_of(file->blocks), part = more > A_PART ? more : A_PART;
     if (pagelog_tail_bytes(&named->tail) + more > MOST_TAIL)
@@ -155,7 +155,7 @@ enum pagelog_outcome pagelog_hold_blocks(struct pagelog_file *file) {
  */
 static bool hold(struct pagelog_file *file, struct pagelog_position position, const uint8_t *block,
                  size_t length) {
-    struct named *named = &file->named;
+    struct named *named = file->source.named;
     if (pagelog_tail_bytes(&named->tail) + length > MOST_TAIL) return false;
     if (!pagelog_tail_add(&named->tail, position, block, length)) return false;
     named->told = position;
@@ -166,10 +166,10 @@ static bool hold(struct pagelog_file *file, struct pagelog_position position, co
  * again by nobody, or by its writer. */
 void pagelog_hold_pulled(struct pagelog_file *file, struct pagelog_lsn from,
                          const struct pagelog_reply *pulled) {
-    struct pagelog_tail *tail = &file->named.tail;
+    struct pagelog_tail *tail = &file->source.named->tail;
     size_t at = 0, length = 0;
     const uint8_t *block = pagelog_next_block(pulled, &at, &length);
-    if (!is_named(file) || file->options.reads_only) return;
+    if (file->options.reads_only) return;
     for (struct pagelog_lsn lsn = from; is_before(lsn, next_in(pulled)); lsn = next_of(lsn)) {
         static const uint8_t none[HEAD_BYTES];
         bool is_served = block && is_at(lsn_in(block), lsn);
@@ -182,7 +182,7 @@ void pagelog_hold_pulled(struct pagelog_file *file, struct pagelog_lsn from,
 }
 
 enum pagelog_outcome pagelog_end_append(struct pagelog_file *file, enum pagelog_outcome outcome) {
-    struct named *named = &file->named;
+    struct named *named = file->source.named;
     if (outcome != PAGELOG_DONE && pagelog_may_move(file, outcome)) outcome = pagelog_move(file, outcome);
     if (outcome != PAGELOG_DONE) return let_go(file, outcome);
     named->settled = named->place;
@@ -191,13 +191,13 @@ enum pagelog_outcome pagelog_end_append(struct pagelog_file *file, enum pagelog_
 }
 
 void pagelog_file_suspect(struct pagelog_file *file) {
-    file->named.is_suspect = true;
+    file->source.named->is_suspect = true;
 }
 
 /* A reader of what is durable has the keeper archive what it sees in the log, as a commit does that waits. If
  * that takes long it reads what is durable now, and asks for nothing for a while. */
 static enum pagelog_outcome hurry(struct pagelog_file *file) {
-    struct named *named = &file->named;
+    struct named *named = file->source.named;
     struct pagelog_place place = named->place;
     struct pagelog_reply status;
     struct pagelog_fate fate;
@@ -222,12 +222,12 @@ static enum pagelog_outcome take_of_reader(struct pagelog_file *file, const stru
     struct pagelog_position position = {awaited->position};
     outcome = outcome == PAGELOG_DONE ? pagelog_note_fate(file, &awaited->place, fate, position)
                                       : pagelog_glance(file);
-    bool is_awaited = outcome == PAGELOG_DONE && is_before(file->named.durable, position);
+    bool is_awaited = outcome == PAGELOG_DONE && is_before(file->source.named->durable, position);
     return is_awaited ? PAGELOG_LOST : outcome;
 }
 
 enum pagelog_outcome pagelog_file_reach(struct pagelog_file *file, uint64_t position) {
-    struct named *named = &file->named;
+    struct named *named = file->source.named;
     file->reason = NULL;
     if (position <= named->durable.number) return PAGELOG_DONE;
     if (named->place.is_page_server)
@@ -243,7 +243,7 @@ enum pagelog_outcome pagelog_file_reach(struct pagelog_file *file, uint64_t posi
 /* Whether PostgreSQL went back, and has lost the run with what this file has committed there. Its next commit
  * is told so; a move would hide it. */
 static bool has_lost_run(struct pagelog_file *file, const struct pagelog_place *now) {
-    struct named *named = &file->named;
+    struct named *named = file->source.named;
     struct pagelog_fate fate;
     bool is_told =
         !is_none(named->own) && pagelog_tail_is_empty(&named->tail) &&
@@ -254,7 +254,7 @@ static bool has_lost_run(struct pagelog_file *file, const struct pagelog_place *
 /* Another run has the number of this one: PostgreSQL may have lost this one. Who has committed here is told
  * that by its next commit. */
 static enum pagelog_outcome leave_if_lost(struct pagelog_file *file) {
-    struct named *named = &file->named;
+    struct named *named = file->source.named;
     struct pagelog_fate fate = {0};
     const struct pagelog_position any = {0};
     bool has_own = !is_none(named->own) || !pagelog_tail_is_empty(&named->tail);
@@ -267,7 +267,7 @@ static enum pagelog_outcome leave_if_lost(struct pagelog_file *file) {
 }
 
 enum pagelog_outcome pagelog_glance(struct pagelog_file *file) {
-    struct named *named = &file->named;
+    struct named *named = file->source.named;
     struct pagelog_place place;
     uint64_t now = pagelog_now();
     if (named->place.is_page_server) return pagelog_look_at_page_server(file);

@@ -1,6 +1,6 @@
 /* Opening, transactions, reads and writes. pagelog_mark.c has the end mark, pagelog_commit.c the commit,
  * pagelog_repair.c the repair, pagelog_follow.c the follower. */
-#include "pagelog_move.h"
+#include "pagelog_file_inside.h"
 
 #include <stdio.h>
 #include <stdlib.h>
@@ -22,6 +22,7 @@ struct pagelog_file *pagelog_file_new(const struct pagelog_file_options *options
     if (!file) return NULL;
     file->options = *options;
     snprintf(file->name, sizeof file->name, "%s", options->name ? options->name : "");
+    pagelog_make_addressed(file);
     bool is_made = !options->keepers || pagelog_make_named(file);
     file->options.keepers = file->options.database_name = file->options.name =
         NULL; /* they are the caller's */
@@ -38,11 +39,7 @@ struct pagelog_file *pagelog_file_new(const struct pagelog_file_options *options
 void pagelog_file_free(struct pagelog_file *file) {
     if (!file) return;
     pagelog_free(file->log);
-    pagelog_keepers_free(file->named.keepers);
-    pagelog_copies_free(file->named.copies);
-    free(file->named.copied);
-    pagelog_held_free(&file->named.held);
-    pagelog_tail_free(&file->named.tail);
+    file->source.calls->free(file);
     pagelog_cache_free(file->cache);
     pagelog_blocks_free(file->blocks);
     free(file->pending.bytes);
@@ -59,85 +56,14 @@ enum pagelog_outcome pagelog_file_connect(struct pagelog_file *file, char *peer,
 
 void pagelog_file_abandon(struct pagelog_file *file) {
     pagelog_abandon(file->log);
-    if (is_named(file)) pagelog_keepers_abandon(file->named.keepers);
-    pagelog_copies_abandon(file->named.copies);
-}
-
-/* Reads the newest end mark as a writer, and undoes what is after it. */
-static enum pagelog_outcome recover(struct pagelog_file *file) {
-    enum pagelog_outcome outcome = pagelog_take_whole(file);
-    if (outcome == PAGELOG_DONE && is_writer(file) && is_before(file->mark.lsn, end_of(file)))
-        outcome = pagelog_repair(file);
-    if (outcome == PAGELOG_DONE) file->torn = file->doubted = (struct pagelog_lsn){0};
-    return outcome;
-}
-
-/* Looks whether the database is one of files, and has this name, before a writer elsewhere is fenced, if its
- * principal may look so. */
-static enum pagelog_outcome look_at_mark(struct pagelog_file *file) {
-    uint8_t page[PAGELOG_PAGE_BYTES];
-    const uint32_t number = MARK_PAGE;
-    struct pagelog_reply status;
-    if (!*file->name) return PAGELOG_DONE;
-    enum pagelog_outcome outcome = pagelog_status(file->log, PAGELOG_SECONDARY, &status);
-    if (outcome == PAGELOG_DONE)
-        outcome = get_at(file, PAGELOG_SECONDARY, hard_of(&status), &number, 1, page);
-    if (outcome == PAGELOG_DONE && pagelog_is_foreign(file, page, hard_of(&status)))
-        return pagelog_refuse_foreign(file, PAGELOG_SECONDARY, page, hard_of(&status));
-    if (outcome == PAGELOG_DONE && pagelog_is_misnamed(file, page)) return pagelog_refuse_name(file, page);
-    return outcome == PAGELOG_DENIED ? PAGELOG_DONE : outcome;
-}
-
-/* Begins an epoch as the options say, and takes over what is in the log. */
-static enum pagelog_outcome begin_to_write(struct pagelog_file *file) {
-    const struct pagelog_file_options *options = &file->options;
-    uint64_t asked = pagelog_now();
-    enum pagelog_outcome outcome =
-        options->has_operator
-            ? pagelog_take_over(file->log, options->operator_principal, options->operator_token, 0)
-            : pagelog_join(file->log);
-    if (outcome != PAGELOG_DONE) return outcome;
-    pagelog_stand(file, WRITING);
-    file->checked = asked;
-    file->is_checked = true;
-    return recover(file);
-}
-
-static enum pagelog_outcome open_reader(struct pagelog_file *file) {
-    struct pagelog_reply status;
-    uint64_t asked = pagelog_now();
-    enum pagelog_outcome outcome = pagelog_status(file->log, PAGELOG_SECONDARY, &status);
-    if (outcome != PAGELOG_DONE) return outcome;
-    file->checked = asked;
-    file->is_checked = true;
-    struct pagelog_lsn at = {file->options.at};
-    return pagelog_take_mark(file, is_none(at) ? hard_of(&status) : at);
-}
-
-/* Another writer has begun an epoch right after this one, or in its place: it opens all the same, as one that
- * is fenced later, if its principal may be a secondary. */
-static enum pagelog_outcome open_fenced(struct pagelog_file *file) {
-    struct pagelog_reply refused = *pagelog_refused(file->log);
-    pagelog_become_follower(file);
-    enum pagelog_outcome outcome = open_reader(file);
-    return outcome == PAGELOG_DENIED ? pagelog_restore(file->log, PAGELOG_FENCED, &refused) : outcome;
-}
-
-static enum pagelog_outcome open_writer(struct pagelog_file *file) {
-    enum pagelog_outcome outcome = look_at_mark(file);
-    if (outcome == PAGELOG_DONE) outcome = begin_to_write(file);
-    bool is_overtaken =
-        outcome == PAGELOG_FENCED && file->options.has_operator && !pagelog_is_restarted(file->log);
-    return is_overtaken ? open_fenced(file) : outcome;
+    file->source.calls->abandon(file);
 }
 
 enum pagelog_outcome pagelog_file_open(struct pagelog_file *file) {
     file->reason = NULL;
     if (!pagelog_begin_session(file))
         return pagelog_file_fail(file, PAGELOG_NO_MEMORY, "the system has no random number");
-    enum pagelog_outcome outcome = is_named(file)             ? pagelog_open_named(file)
-                                   : file->options.reads_only ? open_reader(file)
-                                                              : open_writer(file);
+    enum pagelog_outcome outcome = file->source.calls->open(file);
     pagelog_have(file, outcome == PAGELOG_DONE ? OPEN : CLOSED);
     file->size = file->least = file->mark.size;
     return outcome;
@@ -155,18 +81,12 @@ void pagelog_become_follower(struct pagelog_file *file) {
 enum pagelog_outcome pagelog_file_take_over(struct pagelog_file *file, uint32_t operator_principal,
                                             const uint8_t operator_token[PAGELOG_TOKEN_BYTES]) {
     file->reason = NULL;
-    if (is_named(file)) return pagelog_file_reserve(file);
-    enum pagelog_outcome outcome = pagelog_file_settle(file);
-    if (outcome != PAGELOG_DONE && file->reading != OVER) return outcome;
-    pagelog_file_undo(file);
-    file->options.has_operator = true;
-    file->options.operator_principal = operator_principal;
-    memcpy(file->options.operator_token, operator_token, PAGELOG_TOKEN_BYTES);
-    if (file->reading == OVER) pagelog_have(file, OPEN);
-    outcome = begin_to_write(file);
-    if (outcome != PAGELOG_DONE) pagelog_become_follower(file);
-    file->size = file->least = file->mark.size;
-    return outcome;
+    return file->source.calls->take_over(file, operator_principal, operator_token);
+}
+
+enum pagelog_outcome pagelog_file_reserve(struct pagelog_file *file) {
+    file->reason = NULL;
+    return file->source.calls->reserve(file);
 }
 
 /* After a commit that did not come to its end: an epoch of its own, in which all is decided, but only if
@@ -178,7 +98,7 @@ static enum pagelog_outcome renew(struct pagelog_file *file) {
                                  "a commit did not come to its end: open the file again");
     enum pagelog_outcome outcome = pagelog_take_over(
         file->log, options->operator_principal, options->operator_token, pagelog_writing_epoch(file->log));
-    if (outcome == PAGELOG_DONE) outcome = recover(file);
+    if (outcome == PAGELOG_DONE) outcome = pagelog_recover(file);
     if (outcome == PAGELOG_DONE && file->standing == BROKEN) pagelog_stand(file, WRITING);
     return outcome;
 }
@@ -188,7 +108,7 @@ static enum pagelog_outcome check_epoch(struct pagelog_file *file) {
     struct pagelog_reply status;
     enum pagelog_outcome outcome = pagelog_status(file->log, PAGELOG_PRIMARY, &status);
     if (outcome != PAGELOG_DONE || is_at(hard_of(&status), file->mark.lsn)) return outcome;
-    outcome = recover(file);
+    outcome = pagelog_recover(file);
     bool is_ended = !pagelog_is_stuck(file->log); /* the repair */
     if (!is_ended && is_writer(file)) pagelog_stand(file, BROKEN);
     return outcome;
@@ -220,8 +140,7 @@ static enum pagelog_outcome look_after_commits(struct pagelog_file *file, uint64
     return is_wanted ? pagelog_file_settle(file) : PAGELOG_DONE;
 }
 
-/* Brings the file to the newest transaction, as far as that is due. */
-static enum pagelog_outcome refresh(struct pagelog_file *file) {
+enum pagelog_outcome pagelog_refresh(struct pagelog_file *file) {
     uint64_t now = file->begun; /* by which it was decided whether commits on their way are waited for */
     enum pagelog_outcome outcome = is_writer(file) ? begin_writer(file, now) : PAGELOG_DONE;
     if (!is_writer(file) && !file->options.at && is_due(file, now)) outcome = pagelog_follow(file);
@@ -235,12 +154,12 @@ enum pagelog_outcome pagelog_file_begin(struct pagelog_file *file) {
     file->reason = NULL;
     if (file->reading == CLOSED) return pagelog_file_fail(file, PAGELOG_MALFORMED, "the file is not open");
     pagelog_file_undo(file);
-    if (file->reading == OVER) pagelog_have(file, is_named(file) ? GONE : OPEN);
-    file->named.lost = NULL;
+    if (file->reading == OVER) pagelog_have(file, file->source.calls->is_gone_after_loss ? GONE : OPEN);
+    file->lost = NULL;
     file->begun = pagelog_now();
     enum pagelog_outcome outcome = look_after_commits(file, file->begun);
     if (outcome != PAGELOG_DONE) return outcome;
-    outcome = is_named(file) ? pagelog_begin_named(file, refresh) : refresh(file);
+    outcome = file->source.calls->begin(file);
     file->is_stale = outcome != PAGELOG_DONE && !is_writer(file) && file->options.may_be_stale;
     if (outcome != PAGELOG_DONE && !file->is_stale) return outcome;
     file->size = file->least = file->mark.size;
@@ -260,8 +179,7 @@ enum pagelog_outcome pagelog_fetch(struct pagelog_file *file, struct pagelog_lsn
         enum pagelog_outcome settled = pagelog_file_settle(file);
         if (settled != PAGELOG_DONE) return settled;
     }
-    return is_named(file) ? pagelog_fetch_wherever(file, position, wanted, out)
-                          : pagelog_fetch_here(file, lsn, wanted, out);
+    return file->source.calls->get(file, position, wanted, out);
 }
 
 static enum pagelog_outcome get(struct pagelog_file *file, struct pagelog_lsn lsn, struct wanted wanted,

@@ -4,11 +4,10 @@
 
 #include "pagelog_cache.h"
 #include "pagelog_common.h"
-#include "pagelog_copies.h"
 #include "pagelog_file.h"
 #include "pagelog_place.h"
 #include "pagelog_position.h"
-#include "pagelog_tail.h"
+#include "pagelog_source.h"
 
 #include <string.h>
 
@@ -72,67 +71,12 @@ struct pending {
     size_t length, room;
 };
 
-/* Of a named database: where it is, and what it may lack there. */
-enum { WHY_BYTES = 320 };
-
-/* A wait goes on for a reply of the service; or for a time, while who waits may end it; or it was ended
- * because the generation is over. */
-enum wait { FOR_A_REPLY, FOR_A_TIME, OVERTAKEN };
-
 /* An origin whose code is known, of others too, which come again and again where several write. */
 enum { MOST_KNOWN = 16 };
 struct known_origin {
     uint64_t session; /* the code of */
     size_t length;    /* the first so many bytes; 0: of none */
     uint8_t bytes[ORIGIN_BYTES];
-};
-
-struct named {
-    struct pagelog_keepers *keepers; /* NULL: the database has no name, and one address */
-    struct pagelog_place place;
-    bool has_place;
-    uint8_t token[PAGELOG_TOKEN_BYTES],
-        operator_token[PAGELOG_TOKEN_BYTES]; /* of the table; each run has others */
-    struct pagelog_tail tail;        /* of who may write: the blocks that are not known to be durable */
-    struct pagelog_place settled;    /* the generation whose log had all of these */
-    struct pagelog_position told;    /* the blocks up to it were in its log, and may be sent again */
-    struct pagelog_position own;     /* of the last commit of this file that was acknowledged */
-    struct pagelog_position durable; /* all up to it is durable */
-    uint64_t glanced;                /* when the keepers were asked last whether the generation goes on */
-    uint64_t waited;                 /* the same, amid a wait for the service */
-    uint64_t
-        hurried; /* until when what a reader sees in the log is not asked for again, and the pause after */
-    unsigned hurry_ms;
-    bool (*goes_on)(void *argument); /* by whom waits are ended; NULL: by nobody */
-    void *argument;
-    enum wait wait;
-    bool is_suspect;     /* keepers may have gone on without the run that is read: the next begin asks */
-    uint32_t epoch;      /* the last one whose primary was asked for */
-    bool is_closing;     /* that was the keeper, which closes the generation */
-    const char *dropped; /* why the database is no more, and nothing goes on; NULL: it is there */
-    const char *lost;    /* why commits were lost, until a begin; NULL: another writer has gone on */
-    struct pagelog_position shown; /* of the newest transaction that was read at a page server */
-    struct pagelog_copies *copies; /* of a reader: the page servers that it asks for pages; NULL: none yet */
-    uint8_t *copied;               /* room for the pages of one question to these; NULL: none yet */
-    struct pagelog_held held;      /* and the transactions that it has read in this run: */
-    char held_run[PAGELOG_RUN_BYTES];
-    uint64_t listed;    /* when keepers were asked last which page servers there are */
-    bool is_accepted;   /* the service of this run has answered: it knows the principal */
-    uint64_t refused;   /* when that of this run said first that it does not; 0: it has not */
-    bool is_superseded; /* PostgreSQL went on without the run that the file is in: another place is to be had
-                         */
-    bool is_between;    /* it has come to this generation, and not looked yet what is there of it */
-    bool is_sent_again; /* blocks of the tail were sent in this move */
-    bool is_doubted;    /* another process may have written since the last begin */
-    uint32_t handed;    /* the epoch that the next begin goes on from as the writer; 0: it does not */
-    uint64_t given_up;  /* how often that was so */
-    uint64_t moves, resent;
-    char noted[PAGELOG_RUN_BYTES]; /* the last run whose mark is not explained; whether that was not said yet
-                                    */
-    bool has_note;
-    struct known_origin known[MOST_KNOWN];
-    unsigned next_known; /* is written next, the oldest */
-    char why[WHY_BYTES]; /* a sentence on what was waited for in vain */
 };
 
 /* Pages that will probably be read, as who uses the file says: those that a few others refer to, up to as
@@ -150,7 +94,7 @@ struct pagelog_file {
     struct pagelog *log;
     enum standing standing; /* these two change by steps alone */
     enum reading reading;
-    struct named named;
+    struct source source;
     struct pagelog_file_options options;
     struct pagelog_cache *cache;
     struct pagelog_blocks *blocks;
@@ -161,14 +105,21 @@ struct pagelog_file {
     uint64_t sent;         /* when the last of them was sent */
     uint64_t tidied;       /* how many bytes had been sent when the service was asked to tidy up */
     uint64_t losses;       /* how often some of them were lost */
+    const char *lost;      /* why, until a begin; NULL: nobody waited for them, or another has gone on */
+    uint64_t given_up;     /* how often the transaction that is read could not be had any more */
     uint64_t session;      /* of the writer in this run, by a random seed: no other has it */
     uint8_t seed[SEED_BYTES];
-    uint64_t told_session;      /* whose origin page 0 has; 0: it is not known */
+    uint64_t told_session; /* whose origin page 0 has; 0: it is not known */
+    struct known_origin known[MOST_KNOWN];
+    unsigned next_known;           /* is written next, the oldest */
+    char noted[PAGELOG_RUN_BYTES]; /* the last run whose mark is not explained; whether that was not said yet
+                                    */
+    bool has_note;
     struct pagelog_lsn torn;    /* from it on transactions are not whole until they are undone; 0: all are */
     struct pagelog_lsn doubted; /* of the mark of a commit whose blocks are still to be looked for; 0: none */
     bool is_stale, is_foreign, is_misnamed;
     char name[PAGELOG_NAME_BYTES + 1]; /* of the options; empty: any */
-    bool is_named;        /* page 0 has that after the mark: its length in a byte, and its bytes */
+    bool has_name;        /* page 0 has that after the mark: its length in a byte, and its bytes */
     uint64_t size, least; /* of the transaction: the size, and the least that it was since the last commit */
     struct pagelog_lsn next; /* of a follower: where the next pull begins */
     struct pending pending;
@@ -224,15 +175,6 @@ bool pagelog_has_gone_on(const struct pagelog_file *file);
 /* The epoch of a writer is over: it follows from now on. */
 void pagelog_become_follower(struct pagelog_file *file);
 
-/* Whether the log of the run that the file is in had the whole tail. */
-static inline bool is_settled_here(const struct named *named) {
-    return strcmp(named->settled.run, named->place.run) == 0;
-}
-
-static inline bool is_named(const struct pagelog_file *file) {
-    return file->named.keepers != NULL;
-}
-
 /* Makes a step of the tables above; any other is none. */
 void pagelog_stand(struct pagelog_file *file, enum standing to);
 void pagelog_have(struct pagelog_file *file, enum reading to);
@@ -241,6 +183,7 @@ void pagelog_have(struct pagelog_file *file, enum reading to);
  * DONE.
  */
 enum pagelog_outcome pagelog_refuse_to_go_on(struct pagelog_file *file);
+enum pagelog_outcome pagelog_refuse_gone(struct pagelog_file *file);
 
 /* Whether this file is the writer, though a commit may not have come to its end. */
 static inline bool is_writer(const struct pagelog_file *file) {
@@ -249,7 +192,7 @@ static inline bool is_writer(const struct pagelog_file *file) {
 
 /* Whether the transaction that was read cannot be had here. */
 static inline bool is_gone(const struct pagelog_file *file) {
-    return file->reading == GONE || (file->reading == OVER && is_named(file));
+    return file->reading == GONE || (file->reading == OVER && file->source.calls->is_gone_after_loss);
 }
 
 static inline enum pagelog_role role_of(const struct pagelog_file *file) {
@@ -263,11 +206,11 @@ static inline uint32_t pages_of(uint64_t size) {
 
 /* The position of an LSN of the run that the file is in, and back: 0 where it is before this run. */
 static inline struct pagelog_position position_of(const struct pagelog_file *file, struct pagelog_lsn lsn) {
-    return pagelog_position_in(file->named.place.shift, lsn);
+    return pagelog_position_in(file->source.shift, lsn);
 }
 
 static inline struct pagelog_lsn lsn_of(const struct pagelog_file *file, struct pagelog_position position) {
-    return pagelog_lsn_in(file->named.place.shift, position);
+    return pagelog_lsn_in(file->source.shift, position);
 }
 
 /* ---- The log, by the LSNs of the run that the file is in ---- */
@@ -358,6 +301,9 @@ enum pagelog_outcome pagelog_take_mark(struct pagelog_file *file, struct pagelog
 /* Appends the blocks that were ended, and forgets them. */
 enum pagelog_outcome pagelog_append_ended(struct pagelog_file *file);
 
+/* The same in the run that the file is in; they are still there. */
+enum pagelog_outcome pagelog_append_here(struct pagelog_file *file);
+
 /* Appends full groups, so that the blocks of a long transaction need not all be in memory. The last group
  * waits for the end mark: nobody sees what is in the log without one. */
 enum pagelog_outcome pagelog_append_full_group(struct pagelog_file *file);
@@ -374,6 +320,12 @@ enum pagelog_outcome pagelog_find_blocks(struct pagelog_file *file, enum pagelog
 
 /* Takes the newest whole transaction for the one that is read. */
 enum pagelog_outcome pagelog_take_whole(struct pagelog_file *file);
+
+/* The same as a writer, and undoes what is after it. */
+enum pagelog_outcome pagelog_recover(struct pagelog_file *file);
+
+/* Brings the file to the newest transaction of the run that it is in, as far as that is due. */
+enum pagelog_outcome pagelog_refresh(struct pagelog_file *file);
 
 /* Undoes what is in the log after the end mark, in a transaction of its own. */
 enum pagelog_outcome pagelog_repair(struct pagelog_file *file);

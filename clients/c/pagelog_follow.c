@@ -1,6 +1,6 @@
 /* The follower: it pulls blocks, keeps them aside until an end mark comes, and then applies them to the pages
  * in memory. */
-#include "pagelog_move.h"
+#include "pagelog_file_inside.h"
 
 #include <stdlib.h>
 #include <string.h>
@@ -66,7 +66,7 @@ static enum pagelog_outcome take_block(struct pagelog_file *file, const uint8_t 
     if (file->is_far)
         pagelog_cache_clear(file->cache);
     else
-        pagelog_hold_transaction(file, &mark);
+        file->source.calls->note_pulled(file, &mark);
     file->is_far = false;
     apply_pending(file, &mark);
     return PAGELOG_DONE;
@@ -77,17 +77,16 @@ static enum pagelog_outcome take_block(struct pagelog_file *file, const uint8_t 
 static enum pagelog_outcome leap(struct pagelog_file *file, struct pagelog_lsn *until) {
     struct pagelog_reply status;
     enum pagelog_outcome outcome = pagelog_status(file->log, PAGELOG_SECONDARY, &status);
-    struct pagelog_lsn end = lower_of(hard_of(&status), pagelog_limit_of(file));
+    struct pagelog_lsn end = lower_of(hard_of(&status), file->source.calls->limit(file));
     bool is_far = outcome == PAGELOG_DONE && !is_before(end, plus(file->next, FAR_BEHIND));
     *until = is_far ? (struct pagelog_lsn){0} : end;
     return is_far ? pagelog_take_mark(file, end) : outcome;
 }
 
 enum pagelog_outcome pagelog_take_pulled(struct pagelog_file *file, const struct pagelog_reply *pulled) {
-    struct pagelog_lsn limit = pagelog_limit_of(file);
+    struct pagelog_lsn limit = file->source.calls->limit(file);
     size_t at = 0, length;
     const uint8_t *block;
-    pagelog_hold_pulled(file, file->next, pulled);
     while ((block = pagelog_next_block(pulled, &at, &length))) {
         if (is_before(limit, lsn_in(block))) return PAGELOG_DONE;
         enum pagelog_outcome outcome = take_block(file, block, length);
@@ -102,10 +101,10 @@ enum pagelog_outcome pagelog_take_pulled(struct pagelog_file *file, const struct
  * to go on from that transaction. */
 enum pagelog_outcome pagelog_follow(struct pagelog_file *file) {
     struct pagelog_lsn until = {UINT64_MAX};
-    if (is_before(pagelog_limit_of(file), file->next)) return PAGELOG_DONE;
+    if (is_before(file->source.calls->limit(file), file->next)) return PAGELOG_DONE;
     for (bool may_leap = true;;) {
         struct pagelog_reply pulled;
-        enum pagelog_outcome outcome = pull_from(file, file->next, PAGELOG_PULL_BLOCKS, &pulled);
+        enum pagelog_outcome outcome = file->source.calls->pull(file, file->next, &pulled);
         if (outcome == PAGELOG_DONE) outcome = pagelog_take_pulled(file, &pulled);
         bool is_all_taken = outcome == PAGELOG_DONE && is_at(file->next, next_in(&pulled));
         if (!is_all_taken) return outcome; /* or it is at the limit */

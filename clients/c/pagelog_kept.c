@@ -1,5 +1,5 @@
 /* Pages that outlive the file which has read them, for the next one of the same database. */
-#include "pagelog_move.h"
+#include "pagelog_file_inside.h"
 
 #include <stdlib.h>
 #include <string.h>
@@ -11,12 +11,19 @@ struct pagelog_kept {
     char database[PAGELOG_IDENTITY_BYTES]; /* of a named one; else empty */
 };
 
+/* The database whose pages another file may go on with, empty where it has no name; NULL: not those of the
+ * page server that the file is at. */
+static const char *database_of(const struct pagelog_file *file) {
+    const struct pagelog_place *place = pagelog_file_place(file);
+    if (!place) return "";
+    return place->is_page_server ? NULL : place->database;
+}
+
 /* Whether what is in memory is the transaction of the mark, and that is in the log as far as is known. */
 static bool is_of_mark(const struct pagelog_file *file) {
-    const struct named *named = &file->named;
-    bool is_lost = file->standing == BROKEN || named->dropped || pagelog_is_restarted(file->log);
+    bool is_lost = file->standing == BROKEN || pagelog_is_restarted(file->log);
     return file->reading == OPEN && !is_lost && file->on_their_way == 0 && !is_none(file->mark.lsn) &&
-           !named->place.is_page_server;
+           database_of(file);
 }
 
 struct pagelog_kept *pagelog_file_keep(struct pagelog_file *file, size_t most) {
@@ -33,7 +40,7 @@ struct pagelog_kept *pagelog_file_keep(struct pagelog_file *file, size_t most) {
     }
     *kept = (struct pagelog_kept){
         .cache = file->cache, .mark = file->mark, .position = position_of(file, file->mark.lsn)};
-    strcpy(kept->database, file->named.place.database);
+    strcpy(kept->database, database_of(file));
     file->cache = empty;
     return kept;
 }
@@ -72,9 +79,9 @@ static bool goes_back(struct pagelog_file *file, const struct mark *wanted) {
 
 void pagelog_file_adopt(struct pagelog_file *file, struct pagelog_kept *kept) {
     struct mark mark = kept->mark;
-    bool is_own = strcmp(kept->database, file->named.place.database) == 0 &&
-                  pagelog_cache_most(kept->cache) == pagelog_cache_most(file->cache) &&
-                  !file->named.place.is_page_server;
+    const char *database = database_of(file);
+    bool is_own = database && strcmp(kept->database, database) == 0 &&
+                  pagelog_cache_most(kept->cache) == pagelog_cache_most(file->cache);
     mark.lsn = lsn_of(file, kept->position);
     if (is_own && !is_none(mark.lsn) &&
         (pagelog_is_same_mark(&mark, &file->mark) || goes_back(file, &mark))) {

@@ -1,5 +1,5 @@
 /* The end mark: its bytes, how it is found, and how it ends the blocks of a transaction. */
-#include "pagelog_move.h"
+#include "pagelog_file_inside.h"
 
 #include <stdio.h>
 #include <string.h>
@@ -56,15 +56,16 @@ bool pagelog_has_mark(const struct pagelog_file *file, const uint8_t *block, str
 /* Bytes of a Put's head. */
 enum { PUT_BYTES = 9 };
 
+enum pagelog_outcome pagelog_append_here(struct pagelog_file *file) {
+    if (file->tell_sent && pagelog_append_unwaited(file->log, file->blocks, file->options.written))
+        file->tell_sent(file->told_sent);
+    return pagelog_append(file->log, file->blocks, file->options.written);
+}
+
 enum pagelog_outcome pagelog_append_ended(struct pagelog_file *file) {
     size_t count = pagelog_blocks_count(file->blocks);
     uint64_t asked = pagelog_now();
-    enum pagelog_outcome outcome = is_named(file) ? pagelog_hold_blocks(file) : PAGELOG_DONE;
-    if (outcome != PAGELOG_DONE) return outcome; /* nothing was sent: no move would make it done */
-    if (file->tell_sent && pagelog_append_unwaited(file->log, file->blocks, file->options.written))
-        file->tell_sent(file->told_sent);
-    outcome = pagelog_append(file->log, file->blocks, file->options.written);
-    if (is_named(file)) outcome = pagelog_end_append(file, outcome);
+    enum pagelog_outcome outcome = file->source.calls->append(file);
     if (outcome != PAGELOG_DONE) return outcome;
     pagelog_blocks_drop(file->blocks, count);
     file->blocks_written += count;
@@ -86,11 +87,11 @@ static bool has_name(const uint8_t *page, const char *name) {
 
 /* A copy has the name of another one, up to where it was copied, and until a writer gives it its own. */
 bool pagelog_is_misnamed(const struct pagelog_file *file, const uint8_t *page) {
-    const struct pagelog_place *place = &file->named.place;
+    const struct pagelog_place *place = pagelog_file_place(file);
     if (!*file->name || page[NAME_PLACE] == 0 || has_name(page, file->name)) return false;
-    bool is_own = is_named(file) && strcmp(file->name, pagelog_keepers_name(file->named.keepers)) == 0;
+    if (!place || strcmp(file->name, file->source.name) != 0) return true;
     bool is_copied = !is_before(place->copied, position_in(page));
-    return !is_own || !(is_copied || has_name(page, place->ancestor));
+    return !is_copied && !has_name(page, place->ancestor);
 }
 
 enum pagelog_outcome pagelog_refuse_name(struct pagelog_file *file, const uint8_t *page) {
@@ -123,8 +124,8 @@ enum pagelog_outcome pagelog_add_mark(struct pagelog_file *file, struct mark *ma
     uint8_t bytes[MARK_BYTES];
     mark->session = file->session; /* the blocks before may have moved the file to another run */
     bool is_image = mark->transaction % IMAGE_EACH == 0,
-         adds_name = *file->name && (is_image || !file->is_named),
-         adds_origin = is_named(file) && (is_image || file->told_session != file->session);
+         adds_name = *file->name && (is_image || !file->has_name),
+         adds_origin = pagelog_file_place(file) && (is_image || file->told_session != file->session);
     size_t before = (size_t)PAGELOG_ZERO_BYTES + (adds_name ? NAME : 0) + (adds_origin ? ORIGIN : 0);
     enum pagelog_outcome outcome = PAGELOG_DONE;
     mark->lsn.number = pagelog_blocks_room(file->blocks, MARK_PAGE, (uint16_t)(before + MARK_BYTES));
@@ -218,7 +219,7 @@ enum pagelog_outcome pagelog_take_mark(struct pagelog_file *file, struct pagelog
     if (pagelog_is_misnamed(file, page)) return pagelog_refuse_name(file, page);
     outcome = pagelog_check_origin(file, page, &mark);
     if (outcome != PAGELOG_DONE) return outcome;
-    file->is_named = page[NAME_PLACE] > 0 && (!is_named(file) || has_name(page, file->name));
+    file->has_name = has_name(page, file->name);
     file->told_session = pagelog_has_origin(file, page, &mark) ? mark.session : 0;
     file->mark = mark;
     if (file->reading == GONE) pagelog_have(file, OPEN);

@@ -7,10 +7,8 @@
 
 enum {
     GLANCE_MS = 1000,
-    SERVICE_PATIENCE_MS = 200,
     CONFIRM_MS = 300, /* for how long a service says that it does not know the principal, */
     GONE_MS = 500,    /* or no keeper listens, before that is told */
-    DEFAULT_MOVE_MS = 30000
 };
 
 /* What comes before the records of a block, where it touches no partition. */
@@ -18,29 +16,12 @@ enum { HEAD_BYTES = 12, LSN_BYTES = 8 };
 
 enum { SECTION_A = 1, SECTION_B = 2 };
 
-/* ---- What a named file begins with ---- */
-
-bool pagelog_make_named(struct pagelog_file *file) {
-    struct pagelog_file_options *options = &file->options;
-    struct named *named = &file->named;
-    named->keepers = pagelog_keepers_new(options->keepers, options->database_name, options->service.tls);
-    if (!named->keepers) return false;
-    if (options->move_ms == 0) options->move_ms = DEFAULT_MOVE_MS;
-    options->service.address = NULL;
-    options->service.patience_ms = SERVICE_PATIENCE_MS; /* the wait for a place is the file's */
-    memcpy(named->token, options->service.token, PAGELOG_TOKEN_BYTES);
-    pagelog_keepers_prove(named->keepers, options->service.principal, named->token);
-    memcpy(named->operator_token, options->operator_token, PAGELOG_TOKEN_BYTES);
-    return true;
-}
-
 /* Whether the service has no memory. Where this process has none, the file says why. */
 static bool is_service_full(const struct pagelog_file *file) {
     return !file->reason && pagelog_refused(file->log)->kind == PAGELOG_REPLY_NO_MEMORY;
 }
 
 bool pagelog_may_move(const struct pagelog_file *file, enum pagelog_outcome outcome) {
-    if (!is_named(file)) return false;
     switch (outcome) {
     case PAGELOG_NO_MEMORY:
         return is_service_full(file);
@@ -62,7 +43,7 @@ bool pagelog_may_move(const struct pagelog_file *file, enum pagelog_outcome outc
 static void give_up_transaction(struct pagelog_file *file) {
     pagelog_cache_clear(file->cache);
     if (file->reading != OVER) pagelog_have(file, GONE);
-    file->named.given_up++;
+    file->given_up++;
 }
 
 void pagelog_give_up_transaction(struct pagelog_file *file) {
@@ -85,7 +66,7 @@ static void carry(struct pagelog_file *file, int64_t from, int64_t to) {
 
 /* Goes to the service of a place. */
 static enum pagelog_outcome enter(struct pagelog_file *file, const struct pagelog_place *place) {
-    struct named *named = &file->named;
+    struct named *named = file->source.named;
     uint8_t token[PAGELOG_TOKEN_BYTES];
     pagelog_token_of_run(named->keepers, named->token, place->run, token);
     enum pagelog_outcome outcome = pagelog_enter(file->log, place->address, token);
@@ -95,6 +76,7 @@ static enum pagelog_outcome enter(struct pagelog_file *file, const struct pagelo
     carry(file, named->place.shift, place->shift);
     if (named->has_place) named->moves++;
     named->place = *place;
+    file->source.shift = place->shift;
     if (!place->is_page_server) pagelog_keepers_are_of(named->keepers, place);
     named->has_place = named->is_between = true;
     if (!is_same_run) {
@@ -115,7 +97,7 @@ static enum pagelog_outcome enter(struct pagelog_file *file, const struct pagelo
 /* What has become durable in the generation that had the whole tail last, which is over. LOST: nobody can say
  * it now. */
 static enum pagelog_outcome learn_end(struct pagelog_file *file) {
-    struct named *named = &file->named;
+    struct named *named = file->source.named;
     struct pagelog_fate fate;
     bool is_empty = pagelog_tail_is_empty(&named->tail);
     /* Where all is durable, it may be lost. */
@@ -147,7 +129,7 @@ static bool is_same_block(const uint8_t *one, size_t one_length, const uint8_t *
 /* Compares what one pull has served. False at the first block that is another; the walk is at it then. */
 static bool compare_pulled(struct pagelog_file *file, const struct pagelog_reply *pulled,
                            struct pagelog_position hard, struct pagelog_tail_walk *walk) {
-    const struct pagelog_tail *tail = &file->named.tail;
+    const struct pagelog_tail *tail = &file->source.named->tail;
     size_t at = 0, length = 0, own_length;
     const uint8_t *block = pagelog_next_block(pulled, &at, &length), *own;
     struct pagelog_position next = lower_of(position_of(file, next_in(pulled)), next_of(hard));
@@ -168,7 +150,7 @@ static bool compare_pulled(struct pagelog_file *file, const struct pagelog_reply
  * another one. */
 static enum pagelog_outcome compare(struct pagelog_file *file, struct pagelog_position from,
                                     struct pagelog_position hard, struct pagelog_position *differs) {
-    const struct pagelog_tail *tail = &file->named.tail;
+    const struct pagelog_tail *tail = &file->source.named->tail;
     struct pagelog_tail_walk walk = pagelog_tail_at(tail, from);
     bool is_same = true;
     while (is_same && !is_before(hard, walk.position) && is_before(walk.position, tail->next)) {
@@ -194,7 +176,7 @@ static enum pagelog_outcome mark_at(struct pagelog_file *file, struct pagelog_ls
 
 /* The end mark of a block of the tail; zeros where it has none. */
 static struct mark mark_of(const struct pagelog_file *file, struct pagelog_position position) {
-    const struct pagelog_tail *tail = &file->named.tail;
+    const struct pagelog_tail *tail = &file->source.named->tail;
     struct pagelog_tail_walk walk = pagelog_tail_at(tail, position);
     struct pagelog_records records;
     struct pagelog_record record, last = {0};
@@ -212,7 +194,7 @@ static struct mark mark_of(const struct pagelog_file *file, struct pagelog_posit
 /* Of positions up to the base there may be images alone. The tail was there if it has the end mark that they
  * have: DONE, or IN_DOUBT. */
 static enum pagelog_outcome compare_with_base(struct pagelog_file *file) {
-    struct pagelog_position base = file->named.place.base;
+    struct pagelog_position base = file->source.named->place.base;
     struct mark found, own = mark_of(file, base);
     enum pagelog_outcome outcome = mark_at(file, lsn_of(file, base), &found);
     if (outcome != PAGELOG_DONE) return outcome;
@@ -224,7 +206,7 @@ static enum pagelog_outcome compare_with_base(struct pagelog_file *file) {
 /* From a position on the tail is not in the database, or cannot be found there. */
 static enum pagelog_outcome lose_to(struct pagelog_file *file, struct pagelog_position position,
                                     enum pagelog_outcome outcome, const char *why) {
-    struct named *named = &file->named;
+    struct named *named = file->source.named;
     bool was_told = !is_before(named->own, position);
     pagelog_tail_cut(&named->tail, position);
     named->durable = lower_of(named->durable, last_before(position));
@@ -244,7 +226,7 @@ static enum pagelog_outcome lose_to(struct pagelog_file *file, struct pagelog_po
 
 static enum pagelog_outcome lose_from(struct pagelog_file *file, struct pagelog_position position,
                                       enum pagelog_outcome outcome) {
-    bool was_told = !is_before(file->named.own, position);
+    bool was_told = !is_before(file->source.named->own, position);
     return lose_to(file, position, outcome,
                    was_told ? "commits that were not durable are lost: another writer has gone on"
                             : "another writer has gone on: it is not in the database");
@@ -263,7 +245,7 @@ static const char *reason_of(enum pagelog_loss loss) {
 
 enum pagelog_outcome pagelog_lose_run(struct pagelog_file *file, const struct pagelog_place *place,
                                       enum pagelog_loss loss) {
-    struct named *named = &file->named;
+    struct named *named = file->source.named;
     bool is_here = strcmp(place->run, named->place.run) == 0, is_no_more = loss != PAGELOG_SUPERSEDED;
     bool is_empty = pagelog_tail_is_empty(&named->tail);
     struct pagelog_position first = is_empty ? next_of(named->durable) : named->tail.first;
@@ -272,7 +254,7 @@ enum pagelog_outcome pagelog_lose_run(struct pagelog_file *file, const struct pa
         named->dropped = reason_of(loss);
     else if (is_durable)
         first = named->own;
-    named->lost = reason_of(loss);
+    file->lost = reason_of(loss);
     named->durable.number = 0; /* of the run that follows, whose positions come again, nothing is known */
     enum pagelog_outcome outcome =
         lose_to(file, first, is_no_more ? PAGELOG_DENIED : PAGELOG_FENCED, reason_of(loss));
@@ -281,7 +263,7 @@ enum pagelog_outcome pagelog_lose_run(struct pagelog_file *file, const struct pa
 }
 
 enum pagelog_outcome pagelog_take_denial(struct pagelog_file *file) {
-    struct named *named = &file->named;
+    struct named *named = file->source.named;
     const char *reason = pagelog_keepers_reason(named->keepers);
     bool was_dropped = reason && named->has_place && strcmp(reason, reason_of(PAGELOG_DROPPED)) == 0;
     bool is_another = reason && named->has_place && strcmp(reason, reason_of(PAGELOG_ANOTHER)) == 0;
@@ -294,7 +276,7 @@ enum pagelog_outcome pagelog_take_denial(struct pagelog_file *file) {
 
 /* Sends the tail from the end of the log on, in the epoch of this file. */
 static enum pagelog_outcome send_rest(struct pagelog_file *file) {
-    struct named *named = &file->named;
+    struct named *named = file->source.named;
     struct pagelog_tail_walk walk = pagelog_tail_at(&named->tail, next_of(position_of(file, end_of(file))));
     struct pagelog_blocks *blocks = pagelog_blocks_new();
     enum pagelog_outcome outcome = blocks ? PAGELOG_DONE : PAGELOG_NO_MEMORY;
@@ -318,7 +300,7 @@ static enum pagelog_outcome send_again(struct pagelog_file *file, const struct p
     const struct pagelog_file_options *options = &file->options;
     uint32_t writing = pagelog_writing_epoch(file->log);
     bool is_anothers =
-        is_settled_here(&file->named) && status->primary != PAGELOG_KEEPER && status->epoch != writing;
+        is_settled_here(file->source.named) && status->primary != PAGELOG_KEEPER && status->epoch != writing;
     if (is_anothers) return lose_from(file, next_of(position_of(file, hard_of(status))), PAGELOG_FENCED);
     enum pagelog_outcome outcome =
         pagelog_take_over(file->log, options->operator_principal, options->operator_token, status->epoch);
@@ -333,7 +315,7 @@ static enum pagelog_outcome send_again(struct pagelog_file *file, const struct p
  * compared block for block only where nothing was shifted, and may be images even there. */
 static enum pagelog_outcome compare_tail(struct pagelog_file *file, struct pagelog_position hard,
                                          struct pagelog_position *differs) {
-    const struct named *named = &file->named;
+    const struct named *named = file->source.named;
     struct pagelog_position base = named->place.base, first = named->tail.first;
     enum pagelog_outcome outcome = PAGELOG_DONE;
     *differs = first;
@@ -346,14 +328,14 @@ static enum pagelog_outcome compare_tail(struct pagelog_file *file, struct pagel
 /* Whether the log may have something else right before the tail than what that was made upon: another's
  * blocks, which are not held and were not durable. Of the run that had the whole tail last they are there. */
 static bool is_upon_lost(const struct pagelog_file *file) {
-    const struct named *named = &file->named;
+    const struct named *named = file->source.named;
     struct pagelog_position known = higher_of(named->durable, named->place.base);
     return !is_settled_here(named) && is_before(next_of(known), named->tail.first);
 }
 
 /* Sees to it that the log has the whole tail. */
 static enum pagelog_outcome settle_tail(struct pagelog_file *file, const struct pagelog_reply *status) {
-    struct named *named = &file->named;
+    struct named *named = file->source.named;
     struct pagelog_position hard = position_of(file, hard_of(status)), next = next_of(hard), differs;
     if (pagelog_tail_is_empty(&named->tail)) return PAGELOG_DONE;
     bool is_next = is_at(next, named->tail.first);
@@ -369,7 +351,7 @@ static enum pagelog_outcome settle_tail(struct pagelog_file *file, const struct 
 
 /* Looks whether it is in this generation, where it is at the same position. */
 static enum pagelog_outcome find_transaction(struct pagelog_file *file, struct pagelog_lsn hard) {
-    struct named *named = &file->named;
+    struct named *named = file->source.named;
     struct mark found;
     file->next = next_of(file->mark.lsn);
     file->pending.length = 0;
@@ -400,7 +382,7 @@ enum pagelog_outcome pagelog_refuse_token(struct pagelog_file *file, const char 
  * is gone, which its keeper does not know at once: so it is final where this run has never answered, and its
  * keepers have named it all the while. */
 static enum pagelog_outcome refuse_principal(struct pagelog_file *file) {
-    struct named *named = &file->named;
+    struct named *named = file->source.named;
     uint64_t now = pagelog_now();
     if (named->refused == 0) named->refused = now;
     if (named->is_accepted || now - named->refused < CONFIRM_MS) return PAGELOG_DENIED;
@@ -409,7 +391,7 @@ static enum pagelog_outcome refuse_principal(struct pagelog_file *file) {
 
 /* Whether the file is at a page server that has less than another one has shown. */
 static bool is_behind(const struct pagelog_file *file, struct pagelog_lsn end) {
-    const struct named *named = &file->named;
+    const struct named *named = file->source.named;
     bool lacks_transaction = !is_gone(file) && is_before(end, file->mark.lsn);
     return named->place.is_page_server &&
            (is_before(position_of(file, end), named->shown) || lacks_transaction);
@@ -417,7 +399,7 @@ static bool is_behind(const struct pagelog_file *file, struct pagelog_lsn end) {
 
 /* Goes on in the generation that the file is in. What is LOST is tried again, there or in the next one. */
 static enum pagelog_outcome go_on(struct pagelog_file *file) {
-    struct named *named = &file->named;
+    struct named *named = file->source.named;
     struct pagelog_reply status;
     enum pagelog_outcome outcome = pagelog_status(file->log, PAGELOG_SECONDARY, &status);
     if (outcome == PAGELOG_DENIED && pagelog_refused(file->log)->section == SECTION_B)
@@ -447,7 +429,7 @@ static bool is_passing(const struct pagelog_file *file, enum pagelog_outcome out
 /* Another run has the number of the generation that the file is in: PostgreSQL went back. LOST: it is not
  * known with which of the two it has gone on. */
 static enum pagelog_outcome ask_own_fate(struct pagelog_file *file) {
-    struct named *named = &file->named;
+    struct named *named = file->source.named;
     const struct pagelog_position any = {0};
     struct pagelog_fate fate = {0};
     enum pagelog_outcome outcome = pagelog_fate_of(named->keepers, NULL, &named->place, any, &fate);
@@ -473,7 +455,7 @@ static enum pagelog_outcome go_to_page_server(struct pagelog_file *file,
 
 /* One try: to the place that the keepers say, if it is another one, and on from there. */
 static enum pagelog_outcome try_to_move(struct pagelog_file *file, bool is_over) {
-    struct named *named = &file->named;
+    struct named *named = file->source.named;
     struct pagelog_place place;
     uint64_t least = named->has_place ? named->place.generation : 0;
     pagelog_wait_again(file);
@@ -512,28 +494,28 @@ struct leaving {
 
 /* Where the service has no memory its keeper is told so, and begins the next generation. */
 static void leave_if_full(struct pagelog_file *file, struct leaving *leaving) {
-    uint64_t generation = file->named.place.generation;
+    uint64_t generation = file->source.named->place.generation;
     bool is_left = leaving->is_over && leaving->generation == generation;
-    if (!file->named.has_place || is_left || !is_service_full(file)) return;
+    if (!file->source.named->has_place || is_left || !is_service_full(file)) return;
     leaving->is_over = leaving->is_full = true;
     leaving->generation = generation;
     if (leaving->cause == PAGELOG_LOST) leaving->cause = PAGELOG_NO_MEMORY;
-    pagelog_keepers_tell_full(file->named.keepers, &file->named.place);
+    pagelog_keepers_tell_full(file->source.named->keepers, &file->source.named->place);
 }
 
 static enum pagelog_outcome give_up_move(struct pagelog_file *file, const struct leaving *leaving) {
     static const struct pagelog_reply no_memory = {.kind = PAGELOG_REPLY_NO_MEMORY};
     const char *why = pagelog_explain_wait(file, "no generation could be used in time", "");
-    file->named.shown.number = 0; /* it was told once: PostgreSQL may have gone back */
+    file->source.named->shown.number = 0; /* it was told once: PostgreSQL may have gone back */
     if (leaving->is_full) why = "the service has no memory left, and no other has followed it in time";
     if (leaving->cause == PAGELOG_NO_MEMORY) pagelog_restore(file->log, leaving->cause, &no_memory);
-    return pagelog_file_fail(file, may_be_there(&file->named) ? PAGELOG_IN_DOUBT : leaving->cause, why);
+    return pagelog_file_fail(file, may_be_there(file->source.named) ? PAGELOG_IN_DOUBT : leaving->cause, why);
 }
 
 /* An open that no keeper listens to is not waited for: their addresses may be wrong. Who was there before
  * waits for them, as they may be started again. */
 static bool are_keepers_gone(const struct pagelog_file *file, uint64_t *since) {
-    bool are_gone = !file->named.has_place && pagelog_keepers_are_gone(file->named.keepers);
+    bool are_gone = !file->source.named->has_place && pagelog_keepers_are_gone(file->source.named->keepers);
     uint64_t now = pagelog_now();
     if (!are_gone || *since == 0) *since = are_gone ? now : 0;
     return are_gone && now - *since >= GONE_MS;
@@ -545,9 +527,9 @@ static enum pagelog_outcome move(struct pagelog_file *file, struct leaving leavi
     uint64_t gone = 0;
     leave_if_full(file, &leaving);
     file->reason = NULL;
-    file->named.is_sent_again = false;
+    file->source.named->is_sent_again = false;
     for (;;) {
-        bool is_over = leaving.is_over && file->named.place.generation == leaving.generation;
+        bool is_over = leaving.is_over && file->source.named->place.generation == leaving.generation;
         enum pagelog_outcome outcome = try_to_move(file, is_over);
         if (outcome == PAGELOG_DONE || !is_passing(file, outcome)) return outcome;
         leave_if_full(file, &leaving);
@@ -565,16 +547,17 @@ enum pagelog_outcome pagelog_move(struct pagelog_file *file, enum pagelog_outcom
 }
 
 enum pagelog_outcome pagelog_arrive(struct pagelog_file *file) {
-    if (file->named.dropped) return pagelog_file_fail(file, PAGELOG_DENIED, file->named.dropped);
-    return file->named.is_between ? pagelog_move(file, PAGELOG_LOST) : PAGELOG_DONE;
+    if (file->source.named->dropped)
+        return pagelog_file_fail(file, PAGELOG_DENIED, file->source.named->dropped);
+    return file->source.named->is_between ? pagelog_move(file, PAGELOG_LOST) : PAGELOG_DONE;
 }
 
 /* Commits on their way are settled before, while it is known to whom they were sent. That may move the file
  * already. */
 enum pagelog_outcome pagelog_move_on(struct pagelog_file *file) {
-    uint64_t left = file->named.place.generation;
+    uint64_t left = file->source.named->place.generation;
     enum pagelog_outcome outcome = file->on_their_way > 0 ? pagelog_file_settle(file) : PAGELOG_DONE;
-    bool is_left = outcome == PAGELOG_DONE && file->named.place.generation == left;
+    bool is_left = outcome == PAGELOG_DONE && file->source.named->place.generation == left;
     struct leaving leaving = {.is_over = true, .generation = left, .cause = PAGELOG_LOST};
     return is_left ? move(file, leaving) : outcome;
 }

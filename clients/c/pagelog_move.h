@@ -12,33 +12,72 @@
 #ifndef PAGELOG_MOVE_H
 #define PAGELOG_MOVE_H
 
+#include "pagelog_copies.h"
 #include "pagelog_file_inside.h"
+#include "pagelog_tail.h"
 
-/* Makes the file one of a named database, by its options: false where memory runs out or they cannot be read.
- */
-bool pagelog_make_named(struct pagelog_file *file);
+/* Of a named database: where it is, and what it may lack there. */
+enum { WHY_BYTES = 320 };
+
+/* A wait goes on for a reply of the service; or for a time, while who waits may end it; or it was ended
+ * because the generation is over. */
+enum wait { FOR_A_REPLY, FOR_A_TIME, OVERTAKEN };
+
+struct named {
+    struct pagelog_keepers *keepers;
+    struct pagelog_place place;
+    bool has_place;
+    uint8_t token[PAGELOG_TOKEN_BYTES],
+        operator_token[PAGELOG_TOKEN_BYTES]; /* of the table; each run has others */
+    struct pagelog_tail tail;        /* of who may write: the blocks that are not known to be durable */
+    struct pagelog_place settled;    /* the generation whose log had all of these */
+    struct pagelog_position told;    /* the blocks up to it were in its log, and may be sent again */
+    struct pagelog_position own;     /* of the last commit of this file that was acknowledged */
+    struct pagelog_position durable; /* all up to it is durable */
+    uint64_t glanced;                /* when the keepers were asked last whether the generation goes on */
+    uint64_t waited;                 /* the same, amid a wait for the service */
+    uint64_t
+        hurried; /* until when what a reader sees in the log is not asked for again, and the pause after */
+    unsigned hurry_ms;
+    bool (*goes_on)(void *argument); /* by whom waits are ended; NULL: by nobody */
+    void *argument;
+    enum wait wait;
+    bool is_suspect;     /* keepers may have gone on without the run that is read: the next begin asks */
+    uint32_t epoch;      /* the last one whose primary was asked for */
+    bool is_closing;     /* that was the keeper, which closes the generation */
+    const char *dropped; /* why the database is no more, and nothing goes on; NULL: it is there */
+    struct pagelog_position shown; /* of the newest transaction that was read at a page server */
+    struct pagelog_copies *copies; /* of a reader: the page servers that it asks for pages; NULL: none yet */
+    uint8_t *copied;               /* room for the pages of one question to these; NULL: none yet */
+    struct pagelog_held held;      /* and the transactions that it has read in this run: */
+    char held_run[PAGELOG_RUN_BYTES];
+    uint64_t listed;    /* when keepers were asked last which page servers there are */
+    bool is_accepted;   /* the service of this run has answered: it knows the principal */
+    uint64_t refused;   /* when that of this run said first that it does not; 0: it has not */
+    bool is_superseded; /* PostgreSQL went on without the run that the file is in: another place is to be had
+                         */
+    bool is_between;    /* it has come to this generation, and not looked yet what is there of it */
+    bool is_sent_again; /* blocks of the tail were sent in this move */
+    bool is_doubted;    /* another process may have written since the last begin */
+    uint32_t handed;    /* the epoch that the next begin goes on from as the writer; 0: it does not */
+    uint64_t moves, resent;
+    char why[WHY_BYTES]; /* a sentence on what was waited for in vain */
+};
+
+/* Whether the log of the run that the file is in had the whole tail. */
+static inline bool is_settled_here(const struct named *named) {
+    return strcmp(named->settled.run, named->place.run) == 0;
+}
 
 /* Whether a call that had this outcome may be asked again, once the file has moved. */
 bool pagelog_may_move(const struct pagelog_file *file, enum pagelog_outcome outcome);
 
-/* As pagelog_file_open, and as a begin whose last step brings the file to the newest transaction. */
-enum pagelog_outcome pagelog_open_named(struct pagelog_file *file);
-enum pagelog_outcome pagelog_begin_named(struct pagelog_file *file,
-                                         enum pagelog_outcome (*refresh)(struct pagelog_file *file));
-
-/* The LSN up to which may be read. */
-struct pagelog_lsn pagelog_limit_of(const struct pagelog_file *file);
-
-/* As pagelog_fetch, at a position. LOST where that cannot be had any more. */
-enum pagelog_outcome pagelog_fetch_wherever(struct pagelog_file *file, struct pagelog_position position,
-                                            struct wanted wanted, uint8_t *out);
-
-/* What every call but a begin returns where `is_gone`: LOST. */
-enum pagelog_outcome pagelog_refuse_gone(struct pagelog_file *file);
-
 /* Begins an epoch for the blocks of a transaction that is under way; FENCED where the log has gone on from
  * what comes before them. */
 enum pagelog_outcome pagelog_write_on(struct pagelog_file *file);
+
+/* As pagelog_file_set_waiting. */
+void pagelog_let_wait(struct pagelog_file *file, bool (*goes_on)(void *argument), void *argument);
 
 /* A wait that was ended because the generation is over may be followed by others. */
 void pagelog_wait_again(struct pagelog_file *file);

@@ -1,7 +1,7 @@
 /* A file of a named database: how it opens, begins and becomes the writer, wherever the database is. */
 #include "pagelog_move.h"
 
-#include <stdio.h>
+#include <stdlib.h>
 #include <string.h>
 
 /* Of one call: each move ends where the database can be used, and a peer that says so and refuses is left in
@@ -18,7 +18,7 @@ static bool is_made_again(struct pagelog_file *file, enum pagelog_outcome *outco
     if (*outcome == PAGELOG_DONE || file->reason || !pagelog_may_move(file, *outcome)) return false;
     if (tries->moves == 0) tries->patience = pagelog_file_patience(file);
     bool may_try = tries->moves++ < MOST_MOVES ||
-                   (file->named.is_closing && pagelog_file_may_wait(file, &tries->patience));
+                   (file->source.named->is_closing && pagelog_file_may_wait(file, &tries->patience));
     if (may_try) *outcome = pagelog_move(file, *outcome);
     return may_try && *outcome == PAGELOG_DONE;
 }
@@ -28,16 +28,16 @@ enum { MOST_HELD = 1024 };
 
 /* ---- What is read ---- */
 
-struct pagelog_lsn pagelog_limit_of(const struct pagelog_file *file) {
+static struct pagelog_lsn limit(const struct pagelog_file *file) {
     const struct pagelog_lsn no_limit = {UINT64_MAX};
-    if (file->named.place.is_page_server) return no_limit; /* all that it has is durable */
-    return file->options.durable_only ? lsn_of(file, file->named.durable) : no_limit;
+    if (file->source.named->place.is_page_server) return no_limit; /* all that it has is durable */
+    return file->options.durable_only ? lsn_of(file, file->source.named->durable) : no_limit;
 }
 
 /* Holds what is in the log before the transaction that is read, and is not known to be archived. What is too
  * much is left to its writers. */
 static enum pagelog_outcome hold_newest(struct pagelog_file *file) {
-    const struct named *named = &file->named;
+    const struct named *named = file->source.named;
     struct pagelog_position known = higher_of(named->durable, named->place.archived);
     struct pagelog_lsn from = next_of(lsn_of(file, higher_of(known, named->place.base)));
     bool is_wanted = !file->options.reads_only && is_before(file->mark.lsn, plus(from, MOST_HELD));
@@ -53,13 +53,13 @@ static enum pagelog_outcome hold_newest(struct pagelog_file *file) {
 
 /* Takes the newest transaction that may be read, or the one of `at`. */
 static enum pagelog_outcome take_newest(struct pagelog_file *file) {
-    struct named *named = &file->named;
+    struct named *named = file->source.named;
     struct pagelog_reply status;
     struct pagelog_position at = {file->options.at};
     struct pagelog_lsn lsn = lsn_of(file, at);
     enum pagelog_outcome outcome = pagelog_status(file->log, PAGELOG_SECONDARY, &status);
     if (outcome != PAGELOG_DONE) return outcome;
-    if (is_none(at)) lsn = lower_of(hard_of(&status), pagelog_limit_of(file));
+    if (is_none(at)) lsn = lower_of(hard_of(&status), limit(file));
     if (!is_none(at) && is_before(at, named->place.base) && named->place.shift != 0)
         return pagelog_file_fail(file, PAGELOG_MALFORMED,
                                  "this position is before the base of the generation");
@@ -77,7 +77,7 @@ static enum pagelog_outcome ask_wherever(struct pagelog_file *file, enum pagelog
     return outcome;
 }
 
-enum pagelog_outcome pagelog_open_named(struct pagelog_file *file) {
+static enum pagelog_outcome open(struct pagelog_file *file) {
     uint64_t asked = pagelog_now();
     enum pagelog_outcome outcome = pagelog_move(file, PAGELOG_LOST);
     if (outcome == PAGELOG_DONE) outcome = pagelog_glance(file);
@@ -92,7 +92,7 @@ enum pagelog_outcome pagelog_open_named(struct pagelog_file *file) {
 /* A keeper that closes a generation begins an epoch of its own. The service may be there for a while yet, and
  * would show the past to a reader that has heard of no other. */
 static enum pagelog_outcome look_at_epoch(struct pagelog_file *file) {
-    struct named *named = &file->named;
+    struct named *named = file->source.named;
     struct pagelog_reply status;
     if (is_writer(file) || pagelog_epoch(file->log) == named->epoch) return PAGELOG_DONE;
     enum pagelog_outcome outcome = pagelog_status(file->log, PAGELOG_SECONDARY, &status);
@@ -104,7 +104,7 @@ static enum pagelog_outcome look_at_epoch(struct pagelog_file *file) {
 
 /* Whether a hand-over may be taken: nothing of this file is on its way, or between two generations. */
 static bool may_take_hand_over(const struct pagelog_file *file) {
-    const struct named *named = &file->named;
+    const struct named *named = file->source.named;
     bool may_write = !file->options.reads_only && !file->options.durable_only && file->options.has_operator;
     return may_write && !is_gone(file) && !named->is_closing && file->standing != BROKEN &&
            file->on_their_way == 0 && (pagelog_tail_is_empty(&named->tail) || is_settled_here(named));
@@ -121,42 +121,42 @@ static bool take_hand_over(struct pagelog_file *file, uint32_t epoch) {
     pagelog_become_follower(file);
     enum pagelog_outcome outcome = pagelog_hand_over(
         file->log, options->operator_principal, options->operator_token, epoch, file->next.number, &pulled);
+    if (outcome == PAGELOG_DONE) pagelog_hold_pulled(file, file->next, &pulled);
     if (outcome == PAGELOG_DONE) outcome = pagelog_take_pulled(file, &pulled);
     if (outcome != PAGELOG_DONE || !is_at(file->mark.lsn, end_of(file))) return false;
     pagelog_stand(file, WRITING);
-    file->named.is_doubted = false;
+    file->source.named->is_doubted = false;
     file->checked = asked;
     return file->is_checked = true;
 }
 
 void pagelog_file_hand_over(struct pagelog_file *file, uint32_t epoch, uint64_t generation) {
-    file->named.handed = generation == file->named.place.generation ? epoch : 0;
+    file->source.named->handed = generation == file->source.named->place.generation ? epoch : 0;
 }
 
-enum pagelog_outcome pagelog_begin_named(struct pagelog_file *file,
-                                         enum pagelog_outcome (*refresh)(struct pagelog_file *file)) {
-    uint64_t generation, first = file->named.place.generation;
-    uint32_t handed = file->named.handed;
+static enum pagelog_outcome begin(struct pagelog_file *file) {
+    uint64_t generation, first = file->source.named->place.generation;
+    uint32_t handed = file->source.named->handed;
     enum pagelog_outcome outcome;
-    file->named.handed = 0;
+    file->source.named->handed = 0;
     do {
-        generation = file->named.place.generation;
+        generation = file->source.named->place.generation;
         outcome = pagelog_arrive(file);
         if (outcome == PAGELOG_DONE) outcome = pagelog_glance(file);
-        bool is_handed =
-            outcome == PAGELOG_DONE && file->named.place.generation == first && take_hand_over(file, handed);
+        bool is_handed = outcome == PAGELOG_DONE && file->source.named->place.generation == first &&
+                         take_hand_over(file, handed);
         handed = 0;
         if (outcome == PAGELOG_DONE && !is_handed)
-            outcome = is_gone(file) ? take_newest(file) : refresh(file);
-        if (file->reading != OVER) outcome = ask_wherever(file, outcome, refresh);
+            outcome = is_gone(file) ? take_newest(file) : pagelog_refresh(file);
+        if (file->reading != OVER) outcome = ask_wherever(file, outcome, pagelog_refresh);
         if (outcome == PAGELOG_DONE) outcome = ask_wherever(file, look_at_epoch(file), look_at_epoch);
-        if (outcome == PAGELOG_DONE && file->named.is_closing) outcome = pagelog_glance(file);
-    } while (outcome == PAGELOG_DONE && file->named.place.generation != generation);
+        if (outcome == PAGELOG_DONE && file->source.named->is_closing) outcome = pagelog_glance(file);
+    } while (outcome == PAGELOG_DONE && file->source.named->place.generation != generation);
     return outcome;
 }
 
-enum pagelog_outcome pagelog_fetch_wherever(struct pagelog_file *file, struct pagelog_position position,
-                                            struct wanted wanted, uint8_t *out) {
+static enum pagelog_outcome get(struct pagelog_file *file, struct pagelog_position position,
+                                struct wanted wanted, uint8_t *out) {
     file->reason = NULL;
     bool was_gone = is_gone(file); /* a begin asks for the newest one then */
     enum pagelog_outcome outcome = pagelog_arrive(file);
@@ -172,9 +172,11 @@ enum pagelog_outcome pagelog_fetch_wherever(struct pagelog_file *file, struct pa
     return outcome;
 }
 
-enum pagelog_outcome pagelog_refuse_gone(struct pagelog_file *file) {
-    return pagelog_file_fail(file, PAGELOG_LOST,
-                             "the transaction that is read is not in this generation: begin again");
+static enum pagelog_outcome pull(struct pagelog_file *file, struct pagelog_lsn from,
+                                 struct pagelog_reply *pulled) {
+    enum pagelog_outcome outcome = pull_from(file, from, PAGELOG_PULL_BLOCKS, pulled);
+    if (outcome == PAGELOG_DONE) pagelog_hold_pulled(file, from, pulled);
+    return outcome;
 }
 
 /* ---- Becoming the writer ---- */
@@ -233,7 +235,7 @@ enum pagelog_outcome pagelog_file_move_on(struct pagelog_file *file) {
 }
 
 void pagelog_file_doubt(struct pagelog_file *file) {
-    file->named.is_doubted = true;
+    file->source.named->is_doubted = true;
     file->is_checked = false;
 }
 
@@ -248,17 +250,15 @@ static enum pagelog_outcome confirm_writer(struct pagelog_file *file) {
     return outcome;
 }
 
-enum pagelog_outcome pagelog_file_reserve(struct pagelog_file *file) {
-    file->reason = NULL;
-    if (!is_named(file)) return PAGELOG_DONE;
+static enum pagelog_outcome reserve(struct pagelog_file *file) {
     enum pagelog_outcome outcome = pagelog_refuse_to_go_on(file);
     if (outcome != PAGELOG_DONE) return outcome;
     if (file->options.reads_only) return pagelog_file_fail(file, PAGELOG_FENCED, "this file only reads");
     outcome = pagelog_arrive(file);
     if (outcome == PAGELOG_DONE && is_gone(file)) return pagelog_refuse_gone(file);
     if (outcome != PAGELOG_DONE) return outcome;
-    bool is_doubted = file->named.is_doubted;
-    file->named.is_doubted = false;
+    bool is_doubted = file->source.named->is_doubted;
+    file->source.named->is_doubted = false;
     if (is_doubted && file->on_their_way > 0) outcome = pagelog_file_settle(file); /* to ask */
     if (outcome != PAGELOG_DONE) return outcome;
     if (is_writer(file) && is_doubted && confirm_writer(file) == PAGELOG_FENCED && file->reason)
@@ -272,4 +272,112 @@ enum pagelog_outcome pagelog_file_reserve(struct pagelog_file *file) {
     }
     if (outcome != PAGELOG_DONE) pagelog_become_follower(file);
     return outcome;
+}
+
+/* In the name of the operator that it has. */
+static enum pagelog_outcome take_over(struct pagelog_file *file, uint32_t operator_principal,
+                                      const uint8_t operator_token[PAGELOG_TOKEN_BYTES]) {
+    (void)operator_principal, (void)operator_token;
+    return reserve(file);
+}
+
+static bool may_commit(const struct pagelog_file *file) {
+    return !file->options.reads_only;
+}
+
+/* ---- Writing ---- */
+
+/* Where what is held is not DONE nothing was sent: no move would make it done. */
+static enum pagelog_outcome append(struct pagelog_file *file) {
+    enum pagelog_outcome outcome = pagelog_hold_blocks(file);
+    return outcome == PAGELOG_DONE ? pagelog_end_append(file, pagelog_append_here(file)) : outcome;
+}
+
+/* A move has looked already. */
+static enum pagelog_outcome settle_doubt(struct pagelog_file *file, const struct mark *mark) {
+    (void)file, (void)mark;
+    return PAGELOG_IN_DOUBT;
+}
+
+static void fall_back(struct pagelog_file *file, enum pagelog_outcome outcome, bool may_be_there) {
+    (void)outcome, (void)may_be_there;
+    pagelog_become_follower(file);
+}
+
+/* ---- What is known ---- */
+
+static const struct pagelog_place *place(const struct pagelog_file *file) {
+    const struct named *named = file->source.named;
+    return named->has_place ? &named->place : NULL;
+}
+
+static void describe(const struct pagelog_file *file, struct pagelog_file_state *state) {
+    const struct named *named = file->source.named;
+    state->is_dropped = named->dropped != NULL;
+    state->durable = named->durable.number;
+    state->committed = named->own.number;
+    state->moves = named->moves;
+    state->resent = named->resent;
+}
+
+void pagelog_file_lend_token(const struct pagelog_file *file, struct pagelog_keepers *keepers) {
+    pagelog_keepers_prove(keepers, file->options.service.principal, file->source.named->token);
+}
+
+/* ---- Made and freed ---- */
+
+enum { DEFAULT_MOVE_MS = 30000, SERVICE_PATIENCE_MS = 200 };
+
+static void leave(struct pagelog_file *file) {
+    pagelog_keepers_abandon(file->source.named->keepers);
+    pagelog_copies_abandon(file->source.named->copies);
+}
+
+static void end(struct pagelog_file *file) {
+    struct named *named = file->source.named;
+    pagelog_keepers_free(named->keepers);
+    pagelog_copies_free(named->copies);
+    free(named->copied);
+    pagelog_held_free(&named->held);
+    pagelog_tail_free(&named->tail);
+    free(named);
+}
+
+static const struct source_calls by_name = {
+    .open = open,
+    .begin = begin,
+    .reserve = reserve,
+    .take_over = take_over,
+    .may_commit = may_commit,
+    .get = get,
+    .copied = pagelog_fetch_copied,
+    .pull = pull,
+    .limit = limit,
+    .note_pulled = pagelog_hold_transaction,
+    .append = append,
+    .settle_doubt = settle_doubt,
+    .fall_back = fall_back,
+    .place = place,
+    .describe = describe,
+    .set_waiting = pagelog_let_wait,
+    .abandon = leave,
+    .free = end,
+    .is_gone_after_loss = true,
+};
+
+bool pagelog_make_named(struct pagelog_file *file) {
+    struct pagelog_file_options *options = &file->options;
+    struct named *named = calloc(1, sizeof *named);
+    if (!named) return false;
+    file->source = (struct source){.calls = &by_name, .named = named};
+    named->keepers = pagelog_keepers_new(options->keepers, options->database_name, options->service.tls);
+    if (!named->keepers) return false;
+    file->source.name = pagelog_keepers_name(named->keepers);
+    if (options->move_ms == 0) options->move_ms = DEFAULT_MOVE_MS;
+    options->service.address = NULL;
+    options->service.patience_ms = SERVICE_PATIENCE_MS; /* the wait for a place is the file's */
+    memcpy(named->token, options->service.token, PAGELOG_TOKEN_BYTES);
+    pagelog_keepers_prove(named->keepers, options->service.principal, named->token);
+    memcpy(named->operator_token, options->operator_token, PAGELOG_TOKEN_BYTES);
+    return true;
 }

@@ -3,7 +3,7 @@
  * Page 0 has it behind the room of the name, as the text DATABASE/RUN after the seed of a session. That is
  * the code of the text by the seed, and stands in each mark: so no two runs have the same mark, and a mark
  * with another session is of an older client, which says nothing. */
-#include "pagelog_move.h"
+#include "pagelog_file_inside.h"
 #include "pagelog_sha256.h"
 
 #include <ctype.h>
@@ -26,10 +26,9 @@ static uint64_t session_of(const uint8_t *seed, const char *text, size_t length)
 
 /* What is written of the run that the file is in: nothing where it is in none. */
 static size_t text_of(const struct pagelog_file *file, char text[TEXT_BYTES]) {
-    const struct pagelog_place *place = &file->named.place;
+    const struct pagelog_place *place = pagelog_file_place(file);
     *text = 0;
-    return file->named.has_place ? (size_t)snprintf(text, TEXT_BYTES, "%s/%s", place->database, place->run)
-                                 : 0;
+    return place ? (size_t)snprintf(text, TEXT_BYTES, "%s/%s", place->database, place->run) : 0;
 }
 
 void pagelog_renew_session(struct pagelog_file *file) {
@@ -55,14 +54,14 @@ enum pagelog_outcome pagelog_add_origin(struct pagelog_file *file) {
 
 /* Whether the session is the code of an origin of so many bytes. */
 static bool is_session_of(struct pagelog_file *file, uint64_t session, const uint8_t *bytes, size_t length) {
-    const struct known_origin *known = file->named.known;
+    const struct known_origin *known = file->known;
     for (size_t i = 0; i < MOST_KNOWN; i++)
         if (known[i].session == session && known[i].length == length &&
             memcmp(known[i].bytes, bytes, length) == 0)
             return true;
     size_t text = SEED_BYTES + 1;
     if (session_of(bytes, (const char *)bytes + text, length - text) != session) return false;
-    struct known_origin *one = &file->named.known[file->named.next_known++ % MOST_KNOWN];
+    struct known_origin *one = &file->known[file->next_known++ % MOST_KNOWN];
     *one = (struct known_origin){.session = session, .length = length};
     memcpy(one->bytes, bytes, length);
     return true;
@@ -95,20 +94,19 @@ bool pagelog_has_origin(struct pagelog_file *file, const uint8_t *page, const st
  * refused by nobody. */
 static void note_run(struct pagelog_file *file, const struct origin *origin,
                      struct pagelog_position position) {
-    struct named *named = &file->named;
-    const struct pagelog_place *place = &named->place;
+    const struct pagelog_place *place = pagelog_file_place(file);
     bool is_explained = strcmp(origin->run, place->run) == 0 || !is_before(place->kept, position) ||
                         strcmp(origin->run, place->after) == 0;
-    if (!*place->after || is_explained || strcmp(origin->run, named->noted) == 0) return;
-    snprintf(named->noted, sizeof named->noted, "%s", origin->run);
-    named->has_note = true;
+    if (!*place->after || is_explained || strcmp(origin->run, file->noted) == 0) return;
+    snprintf(file->noted, sizeof file->noted, "%s", origin->run);
+    file->has_note = true;
 }
 
 static enum pagelog_outcome check(struct pagelog_file *file, const uint8_t *bytes, const struct mark *mark) {
-    const struct pagelog_place *place = &file->named.place;
+    const struct pagelog_place *place = pagelog_file_place(file);
     struct pagelog_position position = position_of(file, mark->lsn);
     struct origin origin;
-    if (!is_named(file) || !read_origin(file, bytes, mark, &origin)) return PAGELOG_DONE;
+    if (!place || !read_origin(file, bytes, mark, &origin)) return PAGELOG_DONE;
     if (strcmp(origin.database, place->database) == 0) {
         note_run(file, &origin, position);
         return PAGELOG_DONE;
@@ -153,14 +151,13 @@ enum pagelog_outcome pagelog_check_pending(struct pagelog_file *file, const stru
 }
 
 bool pagelog_file_take_note(struct pagelog_file *file, char *text, size_t room) {
-    const struct named *named = &file->named;
-    bool has_note = named->has_note;
-    file->named.has_note = false;
+    bool has_note = file->has_note;
+    file->has_note = false;
     if (has_note)
         snprintf(
             text, room,
             "the newest transaction was made for run %s, which is neither this run, %s, nor the one before",
-            named->noted, named->place.run);
+            file->noted, pagelog_file_place(file)->run);
     return has_note;
 }
 

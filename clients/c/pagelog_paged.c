@@ -48,7 +48,7 @@ static struct pagelog_place place_of(const struct pagelog_place *service,
 size_t pagelog_page_server_places(struct pagelog_file *file, const struct pagelog_place *service,
                                   struct pagelog_place found[PAGELOG_MOST_PAGE_SERVERS]) {
     struct pagelog_page_server servers[PAGELOG_MOST_PAGE_SERVERS];
-    struct named *named = &file->named;
+    struct named *named = file->source.named;
     struct pagelog_position position = position_read(file);
     size_t count, chosen = 0, last = PAGELOG_MOST_PAGE_SERVERS;
     if (!named->has_place) pagelog_keepers_are_of(named->keepers, service);
@@ -69,14 +69,14 @@ size_t pagelog_page_server_places(struct pagelog_file *file, const struct pagelo
 static bool is_alive(struct pagelog_file *file) {
     struct pagelog_page_server servers[PAGELOG_MOST_PAGE_SERVERS];
     size_t count;
-    if (pagelog_page_servers(file->named.keepers, servers, &count) != PAGELOG_DONE) return true;
+    if (pagelog_page_servers(file->source.named->keepers, servers, &count) != PAGELOG_DONE) return true;
     for (size_t i = 0; i < count; i++)
-        if (strcmp(servers[i].run, file->named.place.run) == 0) return true;
+        if (strcmp(servers[i].run, file->source.named->place.run) == 0) return true;
     return false;
 }
 
 enum pagelog_outcome pagelog_look_at_page_server(struct pagelog_file *file) {
-    struct named *named = &file->named;
+    struct named *named = file->source.named;
     uint64_t now = pagelog_now();
     bool stays = file->options.pages == PAGELOG_PAGES_ONLY || file->options.at > 0;
     named->is_suspect = false;
@@ -102,9 +102,9 @@ enum pagelog_outcome pagelog_reach_at_page_server(struct pagelog_file *file,
                                                   struct pagelog_position position) {
     struct pagelog_file_patience patience = pagelog_file_patience(file);
     enum pagelog_outcome outcome = pagelog_look_at_page_server(file);
-    if (outcome == PAGELOG_DONE && !file->named.place.is_page_server)
+    if (outcome == PAGELOG_DONE && !file->source.named->place.is_page_server)
         return pagelog_file_reach(file, position.number);
-    while (outcome == PAGELOG_DONE && file->named.place.is_page_server &&
+    while (outcome == PAGELOG_DONE && file->source.named->place.is_page_server &&
            has_position(file, position) != PAGELOG_DONE) {
         if (!pagelog_file_may_wait(file, &patience))
             return pagelog_file_fail(file, PAGELOG_LOST, "no page server has what was read before");
@@ -117,11 +117,11 @@ enum pagelog_outcome pagelog_reach_at_page_server(struct pagelog_file *file,
 
 /* Whether page servers are asked for pages of the transaction that is read. */
 static bool may_ask(const struct pagelog_file *file) {
-    const struct named *named = &file->named;
+    const struct named *named = file->source.named;
     bool is_wanted =
         file->options.pages == PAGELOG_PAGES_PREFERRED || file->options.pages == PAGELOG_PAGES_ONLY;
     bool is_here = named->has_place && !named->is_between && !is_gone(file) && !named->dropped;
-    return is_named(file) && file->options.reads_only && is_wanted && is_here && named->place.pages > 0 &&
+    return file->options.reads_only && is_wanted && is_here && named->place.pages > 0 &&
            !is_none(file->mark.lsn) && pagelog_is_own(file->log);
 }
 
@@ -132,7 +132,7 @@ static struct pagelog_held_mark held_mark(const struct pagelog_file *file, const
 
 /* Whether the last transaction that is held is this one, of the run that the file is in. */
 static bool is_held(const struct pagelog_file *file, const struct pagelog_held_mark *mark) {
-    const struct named *named = &file->named;
+    const struct named *named = file->source.named;
     const struct pagelog_held_mark *last = pagelog_held_last(&named->held);
     return last && strcmp(named->held_run, named->place.run) == 0 && is_at(last->position, mark->position) &&
            last->session == mark->session && last->transaction == mark->transaction;
@@ -141,13 +141,13 @@ static bool is_held(const struct pagelog_file *file, const struct pagelog_held_m
 void pagelog_hold_transaction(struct pagelog_file *file, const struct mark *mark) {
     struct pagelog_held_mark before = held_mark(file, &file->mark), next = held_mark(file, mark);
     if (is_held(file, &before))
-        pagelog_held_add(&file->named.held, &next, file->pending.bytes, file->pending.length);
+        pagelog_held_add(&file->source.named->held, &next, file->pending.bytes, file->pending.length);
 }
 
 /* Holds the transaction that is read. One run has one history: what was proved of page servers holds in it.
  */
 static void hold_read(struct pagelog_file *file) {
-    struct named *named = &file->named;
+    struct named *named = file->source.named;
     struct pagelog_held_mark mark = held_mark(file, &file->mark);
     if (is_held(file, &mark)) return;
     if (strcmp(named->held_run, named->place.run) != 0) pagelog_copies_doubt(named->copies);
@@ -156,12 +156,12 @@ static void hold_read(struct pagelog_file *file) {
 }
 
 void pagelog_file_hear_of_page_servers(struct pagelog_file *file, unsigned count) {
-    file->named.place.pages = count;
+    file->source.named->place.pages = count;
 }
 
 /* Asks which page servers there are, where that is due. */
 static void list_copies(struct pagelog_file *file) {
-    struct named *named = &file->named;
+    struct named *named = file->source.named;
     struct pagelog_page_server servers[PAGELOG_MOST_PAGE_SERVERS];
     size_t count;
     uint64_t now = pagelog_now();
@@ -172,7 +172,7 @@ static void list_copies(struct pagelog_file *file) {
 }
 
 const uint8_t *pagelog_fetch_copied(struct pagelog_file *file, const uint32_t *pages, size_t count) {
-    struct named *named = &file->named;
+    struct named *named = file->source.named;
     if (!may_ask(file)) return NULL;
     if (!named->copies) named->copies = pagelog_copies_new(&file->options.service);
     if (!named->copied) named->copied = malloc(PAGELOG_COPY_PAGES * PAGELOG_PAGE_BYTES);

@@ -1,6 +1,6 @@
 /* What became of blocks that have no end mark after them, or that are not whole: the repair undoes them, in a
  * transaction of its own. */
-#include "pagelog_move.h"
+#include "pagelog_file_inside.h"
 
 #include <stdlib.h>
 #include <string.h>
@@ -90,10 +90,9 @@ static enum pagelog_outcome touched_pages(struct pagelog_file *file, struct page
         struct pagelog_reply pulled;
         size_t at = 0, length;
         const uint8_t *block;
-        enum pagelog_outcome outcome = pull_from(file, next, PAGELOG_PULL_BLOCKS, &pulled);
+        enum pagelog_outcome outcome = file->source.calls->pull(file, next, &pulled);
         if (outcome == PAGELOG_DENIED) break;
         if (outcome != PAGELOG_DONE) return outcome;
-        pagelog_hold_pulled(file, next, &pulled);
         while ((block = pagelog_next_block(&pulled, &at, &length)))
             if (!add_touched(pages, block, last)) return out_of_memory(file);
         next = next_in(&pulled);
@@ -227,5 +226,13 @@ enum pagelog_outcome pagelog_take_whole(struct pagelog_file *file) {
             return pagelog_file_fail(file, PAGELOG_MALFORMED, "there are more end marks than were written");
         outcome = pagelog_take_mark(file, last_before(file->mark.lsn));
     }
+    return outcome;
+}
+
+enum pagelog_outcome pagelog_recover(struct pagelog_file *file) {
+    enum pagelog_outcome outcome = pagelog_take_whole(file);
+    if (outcome == PAGELOG_DONE && is_writer(file) && is_before(file->mark.lsn, end_of(file)))
+        outcome = pagelog_repair(file);
+    if (outcome == PAGELOG_DONE) file->torn = file->doubted = (struct pagelog_lsn){0};
     return outcome;
 }

@@ -1,5 +1,5 @@
 /* What is known of a file, and what is asked for it beside its transactions. */
-#include "pagelog_move.h"
+#include "pagelog_file_inside.h"
 
 #include <stdio.h>
 #include <string.h>
@@ -36,7 +36,7 @@ const struct pagelog_reply *pagelog_file_refused(const struct pagelog_file *file
 }
 
 bool pagelog_file_may_commit(const struct pagelog_file *file) {
-    return is_named(file) ? !file->options.reads_only : file->standing == WRITING;
+    return file->source.calls->may_commit(file);
 }
 
 void pagelog_file_set_sent(struct pagelog_file *file, void (*sent)(void *argument), void *argument) {
@@ -45,11 +45,11 @@ void pagelog_file_set_sent(struct pagelog_file *file, void (*sent)(void *argumen
 }
 
 bool pagelog_file_is_named(const struct pagelog_file *file) {
-    return is_named(file);
+    return file->source.name != NULL;
 }
 
 uint64_t pagelog_file_history(const struct pagelog_file *file) {
-    return file->losses + file->named.given_up;
+    return file->losses + file->given_up;
 }
 
 uint64_t pagelog_file_losses(const struct pagelog_file *file) {
@@ -57,15 +57,12 @@ uint64_t pagelog_file_losses(const struct pagelog_file *file) {
 }
 
 uint64_t pagelog_file_generation(const struct pagelog_file *file) {
-    return file->named.place.generation;
-}
-
-void pagelog_file_lend_token(const struct pagelog_file *file, struct pagelog_keepers *keepers) {
-    pagelog_keepers_prove(keepers, file->options.service.principal, file->named.token);
+    const struct pagelog_place *place = pagelog_file_place(file);
+    return place ? place->generation : 0;
 }
 
 const struct pagelog_place *pagelog_file_place(const struct pagelog_file *file) {
-    return file->named.has_place ? &file->named.place : NULL;
+    return file->source.calls->place(file);
 }
 
 uint64_t pagelog_file_lsn(const struct pagelog_file *file) {
@@ -84,26 +81,25 @@ void pagelog_file_set_spin(struct pagelog_file *file, unsigned spin_us) {
     pagelog_set_spin(file->log, spin_us);
 }
 
+void pagelog_file_set_waiting(struct pagelog_file *file, bool (*goes_on)(void *argument), void *argument) {
+    file->source.calls->set_waiting(file, goes_on, argument);
+}
+
 struct pagelog_file_state pagelog_file_state_of(const struct pagelog_file *file) {
-    return (struct pagelog_file_state){
+    bool is_named = pagelog_file_is_named(file), only_reads = file->options.reads_only && !is_named;
+    struct pagelog_file_state state = {
         .is_writer = is_writer(file),
-        .is_fenced =
-            !is_writer(file) && file->reading != CLOSED && !(file->options.reads_only && !is_named(file)),
+        .is_fenced = !is_writer(file) && file->reading != CLOSED && !only_reads,
         .is_broken = file->standing == BROKEN,
         .is_stale = file->is_stale,
         .is_restarted = pagelog_is_restarted(file->log),
         .is_foreign = file->is_foreign,
         .is_misnamed = file->is_misnamed,
         .is_over = file->reading == OVER,
-        .is_named = is_named(file),
+        .is_named = is_named,
         .is_gone = is_gone(file),
-        .is_dropped = file->named.dropped != NULL,
-        .generation = file->named.place.generation,
+        .generation = pagelog_file_generation(file),
         .position = is_none(file->mark.lsn) ? 0 : position_of(file, file->mark.lsn).number,
-        .durable = file->named.durable.number,
-        .committed = file->named.own.number,
-        .moves = file->named.moves,
-        .resent = file->named.resent,
         .lsn = file->mark.lsn.number,
         .end = pagelog_end(file->log),
         .size = file->mark.size,
@@ -124,6 +120,8 @@ struct pagelog_file_state pagelog_file_state_of(const struct pagelog_file *file)
         .blocks_written = file->blocks_written,
         .wire = pagelog_counts_of(file->log),
     };
+    file->source.calls->describe(file, &state);
+    return state;
 }
 
 /* What a denial by the table means. */

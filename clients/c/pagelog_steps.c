@@ -1,5 +1,5 @@
 /* The steps from one state of a file to the next, which pagelog_file_inside.h draws. */
-#include "pagelog_move.h"
+#include "pagelog_file_inside.h"
 
 /* To which others each state may go: a bit for each of them. */
 static const uint8_t standings[] = {
@@ -22,14 +22,19 @@ void pagelog_stand(struct pagelog_file *file, enum standing to) {
 
 void pagelog_have(struct pagelog_file *file, enum reading to) {
     pagelog_assert(readings[file->reading] >> to & 1);
-    pagelog_assert(to != GONE || is_named(file));
+    pagelog_assert(to != GONE || file->source.calls->is_gone_after_loss);
     file->reading = to;
 }
 
 enum pagelog_outcome pagelog_refuse_to_go_on(struct pagelog_file *file) {
-    const char *lost = file->named.lost;
     if (file->reading == GONE) return pagelog_refuse_gone(file);
     if (file->reading != OVER) return PAGELOG_DONE;
     return pagelog_file_fail(file, PAGELOG_CONFLICT,
-                             lost ? lost : "commits that nobody waited for were lost: begin again");
+                             file->lost ? file->lost
+                                        : "commits that nobody waited for were lost: begin again");
+}
+
+enum pagelog_outcome pagelog_refuse_gone(struct pagelog_file *file) {
+    return pagelog_file_fail(file, PAGELOG_LOST,
+                             "the transaction that is read is not in this generation: begin again");
 }

@@ -7,29 +7,26 @@
 enum { GLANCE_MS = 1000 };
 
 bool pagelog_file_is_overtaken(struct pagelog_file *file) {
-    struct named *named = &file->named;
+    struct named *named = file->source.named;
     struct pagelog_place place;
     uint64_t now = pagelog_now();
-    if (!named->has_place || named->place.is_page_server || now - named->waited < GLANCE_MS) return false;
+    if (!named || !named->has_place || named->place.is_page_server || now - named->waited < GLANCE_MS)
+        return false;
     named->waited = now;
     return pagelog_where(named->keepers, named->place.generation + 1, &place) == PAGELOG_DONE;
 }
 
 static bool waits_on(void *argument) {
     struct pagelog_file *file = argument;
-    struct named *named = &file->named;
+    struct named *named = file->source.named;
     if (named->goes_on && !named->goes_on(named->argument)) return false;
     if (named->wait == FOR_A_TIME) return true;
     named->wait = pagelog_file_is_overtaken(file) ? OVERTAKEN : FOR_A_REPLY;
     return named->wait == FOR_A_REPLY;
 }
 
-void pagelog_file_set_waiting(struct pagelog_file *file, bool (*goes_on)(void *argument), void *argument) {
-    struct named *named = &file->named;
-    if (!is_named(file)) {
-        pagelog_set_waiting(file->log, goes_on, argument);
-        return;
-    }
+void pagelog_let_wait(struct pagelog_file *file, bool (*goes_on)(void *argument), void *argument) {
+    struct named *named = file->source.named;
     named->goes_on = goes_on;
     named->argument = argument;
     named->wait = FOR_A_REPLY;
@@ -38,14 +35,14 @@ void pagelog_file_set_waiting(struct pagelog_file *file, bool (*goes_on)(void *a
 }
 
 void pagelog_wait_again(struct pagelog_file *file) {
-    struct named *named = &file->named;
+    struct named *named = file->source.named;
     if (named->wait != OVERTAKEN) return;
     named->wait = FOR_A_REPLY;
     pagelog_set_waiting(file->log, waits_on, file);
 }
 
 const char *pagelog_explain_wait(struct pagelog_file *file, const char *sentence, const char *otherwise) {
-    struct named *named = &file->named;
+    struct named *named = file->source.named;
     const char *why = pagelog_keepers_why(named->keepers);
     if (!*why) why = pagelog_tls_why(file->log);
     const char *between = *why ? ": " : "";
@@ -55,8 +52,8 @@ const char *pagelog_explain_wait(struct pagelog_file *file, const char *sentence
 
 bool pagelog_may_pause(struct pagelog_file *file) {
     pagelog_wait_again(file);
-    file->named.wait = FOR_A_TIME;
+    file->source.named->wait = FOR_A_TIME;
     bool may_pause = pagelog_goes_on(file->log);
-    file->named.wait = FOR_A_REPLY;
+    file->source.named->wait = FOR_A_REPLY;
     return may_pause;
 }
