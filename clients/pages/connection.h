@@ -27,6 +27,7 @@ struct connection {
     bool is_over;     /* it ends once its replies are sent */
     uint64_t wanted;  /* the position that its next request waits for; 0: it waits for none */
     int64_t deadline; /* of that, in ms of the system's steady clock */
+    int64_t heard;    /* when it sent or took something last, by that clock */
     uint32_t watched; /* the events that it is polled for */
     struct connection *before, *after;
 };

@@ -2,7 +2,7 @@
  *
  *   pagelog-pages --folder FOLDER --listen HOST:PORT [--secure HOST:PORT --tls FILE [--clients FILE
  *     --identity ID]] [--cache MIB] [--memtable MIB] [--workers N] [--readers N] [--connections N]
- *     [--wait MS] [--direct]
+ *     [--wait MS] [--silent S] [--direct]
  *   pagelog-pages --version
  *
  * At --secure it speaks TLS, with the certificate and the key of a file; with `--listen -` there alone. With
@@ -27,7 +27,7 @@
 /* That of the project, which scripts/version.py compares. */
 static const char VERSION[] = "0.2.0";
 
-enum { MIB = 1 << 20, BACKLOG = 128 };
+enum { MIB = 1 << 20, BACKLOG = 128, DAY = 86400 };
 
 struct settings {
     struct store_settings store;
@@ -68,6 +68,8 @@ static bool set_number(struct settings *settings, int option, unsigned long numb
         return settings->server.readers = (unsigned)number, number <= 64;
     case 't':
         return settings->server.wait_ms = (unsigned)number, number <= 60000;
+    case 'q':
+        return settings->server.silent_ms = (int64_t)number * 1000, number <= DAY;
     default:
         return false;
     }
@@ -113,6 +115,7 @@ static bool read_arguments(int count, char **words, struct settings *settings) {
         {"readers", required_argument, NULL, 'r'},
         {"connections", required_argument, NULL, 'n'},
         {"wait", required_argument, NULL, 't'},
+        {"silent", required_argument, NULL, 'q'},
         {"direct", no_argument, NULL, 'd'},
         {NULL, 0, NULL, 0},
     };
@@ -184,7 +187,7 @@ static const char *listen_everywhere(struct settings *settings) {
 int main(int count, char **words) {
     struct settings settings = {
         .store = {.cache = 256 * MIB, .memtable = 32 * MIB},
-        .server = {.workers = 8, .readers = 8, .connections = 1024, .wait_ms = 100},
+        .server = {.workers = 8, .readers = 8, .connections = 1024, .wait_ms = 100, .silent_ms = 60000},
     };
     char *why, why_not[PAGELOG_WHY_BYTES];
     if (count == 2 && strcmp(words[1], "--version") == 0)
@@ -193,7 +196,7 @@ int main(int count, char **words) {
         fputs("usage: pagelog-pages --folder FOLDER --listen HOST:PORT [--secure HOST:PORT --tls FILE\n"
               "                     [--clients FILE --identity ID]] [--cache MIB] [--memtable MIB] "
               "[--workers N] [--readers N]\n"
-              "                     [--connections N] [--wait MS] [--direct]\n"
+              "                     [--connections N] [--wait MS] [--silent S] [--direct]\n"
               "       pagelog-pages --version\n",
               stderr);
         return 2;

@@ -18,10 +18,11 @@
 
 enum { EVENTS = 64, OLD_TABLES = 16, LOOK_WAIT_US = 100, REST_MS = 1000 };
 
-/* A connection on its way to the worker that keeps it. */
+/* A connection on its way to the worker that keeps it; where there are as many as may be one of those ends
+ * for it. */
 struct arrival {
     int socket;
-    bool is_secure;
+    bool is_secure, needs_room;
 };
 
 struct worker {
@@ -31,8 +32,9 @@ struct worker {
     int inbox, its_inbox;  /* the two ends of a pipe of arrivals */
     _Atomic unsigned held; /* connections that are its own, or on their way */
     struct room room;
-    struct connection connections; /* a ring, of which this is no member */
+    struct connection connections; /* a ring, of which this is no member: who was silent longest is first */
     struct connection *next;       /* of a walk: what is closed is no member any more */
+    _Atomic int64_t first_heard;   /* when its first one was heard */
     unsigned era;
     _Atomic unsigned waiting;
     atomic_bool is_busy; /* it may read a table */
@@ -88,6 +90,43 @@ static void forget(struct worker *worker, struct connection *connection) {
     let_go(worker);
 }
 
+static void link_last(struct worker *worker, struct connection *connection) {
+    connection->before = worker->connections.before;
+    connection->after = &worker->connections;
+    connection->before->after = connection;
+    worker->connections.before = connection;
+}
+
+/* It has sent something, or taken something. */
+static void note_heard(struct worker *worker, struct connection *connection) {
+    connection->heard = worker->room.now;
+    connection->before->after = connection->after;
+    connection->after->before = connection->before;
+    link_last(worker, connection);
+}
+
+/* The connection that was silent longest of those that wait for nothing; NULL: there is none. */
+static struct connection *first_silent(struct worker *worker) {
+    struct connection *one = worker->connections.after;
+    while (one != &worker->connections && one->wanted)
+        one = one->after;
+    return one == &worker->connections ? NULL : one;
+}
+
+static void tell_first(struct worker *worker) {
+    const struct connection *first = first_silent(worker);
+    worker->first_heard = first ? first->heard : INT64_MAX;
+}
+
+/* False: none was silent for long enough. */
+static bool end_silent(struct worker *worker) {
+    struct connection *first = first_silent(worker);
+    if (!first || worker->room.now - first->heard < worker->server->settings.silent_ms) return false;
+    forget(worker, first);
+    tell_first(worker);
+    return true;
+}
+
 static void turn(struct worker *worker, struct connection *connection) {
     bool did_wait = connection->wanted != 0;
     if (!worker->room.table || !connection_turn(connection, &worker->room)) {
@@ -113,10 +152,11 @@ static struct connection *made_of(int socket, struct shown *shown) {
     return NULL;
 }
 
-/* Before there is a table a connection ends as it comes. */
+/* Before there is a table a connection ends as it comes, and where there is no room for it. */
 static void keep(struct worker *worker, struct arrival arrival) {
     struct shown *shown = arrival.is_secure ? worker->server->settings.shown : NULL;
-    struct connection *connection = worker->room.table ? made_of(arrival.socket, shown) : NULL;
+    bool has_room = worker->room.table && (!arrival.needs_room || end_silent(worker));
+    struct connection *connection = has_room ? made_of(arrival.socket, shown) : NULL;
     int one = 1;
     if (!connection) {
         close(arrival.socket);
@@ -124,10 +164,8 @@ static void keep(struct worker *worker, struct arrival arrival) {
         return;
     }
     setsockopt(arrival.socket, IPPROTO_TCP, TCP_NODELAY, &one, sizeof one);
-    connection->before = worker->connections.before;
-    connection->after = &worker->connections;
-    connection->before->after = connection;
-    worker->connections.before = connection;
+    connection->heard = worker->room.now;
+    link_last(worker, connection);
     watch(worker, connection, EPOLL_CTL_ADD);
 }
 
@@ -141,23 +179,28 @@ static struct worker *least_busy(struct worker *worker) {
     return least;
 }
 
-/* Above the bound, or before there is a table, a connection ends as it comes. */
+/* The one that has the connection that was silent longest. */
+static struct worker *most_silent(struct worker *worker) {
+    struct server *server = worker->server;
+    struct worker *most = worker;
+    for (unsigned n = 0; n < server->workers; n++) {
+        if (server->worker[n].first_heard < most->first_heard) most = &server->worker[n];
+    }
+    return most;
+}
+
 static void accept_one(struct worker *worker, int listener, bool is_secure) {
     struct server *server = worker->server;
-    struct arrival arrival = {accept4(listener, NULL, NULL, SOCK_NONBLOCK | SOCK_CLOEXEC), is_secure};
+    struct arrival arrival = {accept4(listener, NULL, NULL, SOCK_NONBLOCK | SOCK_CLOEXEC), is_secure, false};
     if (arrival.socket < 0) return;
-    if (server->open++ >= server->settings.connections || !worker->room.table) {
-        close(arrival.socket);
-        server->open--;
-        return;
-    }
-    struct worker *least = least_busy(worker);
-    least->held++;
-    if (least == worker) {
+    arrival.needs_room = server->open++ >= server->settings.connections;
+    struct worker *taker = arrival.needs_room ? most_silent(worker) : least_busy(worker);
+    taker->held++;
+    if (taker == worker) {
         keep(worker, arrival);
-    } else if (write(least->its_inbox, &arrival, sizeof arrival) != sizeof arrival) {
+    } else if (write(taker->its_inbox, &arrival, sizeof arrival) != sizeof arrival) {
         close(arrival.socket);
-        let_go(least);
+        let_go(taker);
     }
 }
 
@@ -218,8 +261,16 @@ static void hear(struct worker *worker, const struct epoll_event *event) {
     } else if (event->events & (EPOLLERR | EPOLLHUP)) {
         forget(worker, event->data.ptr);
     } else {
+        note_heard(worker, event->data.ptr);
         turn(worker, event->data.ptr);
     }
+}
+
+/* Whether a connection comes by it, for which another one may end: what was told of that is heard before. */
+static bool is_door(const struct worker *worker, const struct epoll_event *event) {
+    const struct server_settings *settings = &worker->server->settings;
+    const void *of = event->data.ptr;
+    return of == &worker->inbox || of == &settings->listener || of == &settings->secure_listener;
 }
 
 /* How long a worker may sleep, in milliseconds; -1: for ever. Where its view holds something that is a
@@ -241,10 +292,13 @@ static void *work(void *given) {
         worker->is_busy = true;
         if (look_around(worker)) count = 0; /* those that are left come again */
         for (int n = 0; n < count; n++)
-            hear(worker, &events[n]);
+            if (!is_door(worker, &events[n])) hear(worker, &events[n]);
+        for (int n = 0; n < count; n++)
+            if (is_door(worker, &events[n])) hear(worker, &events[n]);
         if (worker->waiting) turn_waiting(worker);
         deadline = worker->waiting ? first_deadline(worker) : -1;
         holds = store_view_rest(worker->room.view);
+        tell_first(worker);
         worker->is_busy = false;
     }
     end_all(worker);
@@ -274,6 +328,7 @@ static bool hear_at(const struct worker *worker, int *listener) {
 static bool start_worker(struct server *server, struct worker *worker) {
     int pipe[2] = {-1, -1};
     *worker = (struct worker){.server = server, .bell = eventfd(0, EFD_NONBLOCK | EFD_CLOEXEC)};
+    worker->first_heard = INT64_MAX;
     if (pipe2(pipe, O_NONBLOCK | O_CLOEXEC) != 0) pipe[0] = pipe[1] = -1;
     worker->inbox = pipe[0];
     worker->its_inbox = pipe[1];

@@ -46,6 +46,7 @@ from pagelog.pages.process import OtherChain, PagesProcess, StoreFailed
 from pagelog.pages.serving import PageServers
 from pagelog.pages.stores import MOST_ASIDE, SetAside, PageStore, asides_in
 from pagelog.place import BelowBase
+from pagelog.reply import State, decode_reply
 from pagelog.request import Role
 from pagelog.rules import AboveTheEnd, UnknownPrincipal
 from pagelog.objects.settings import StoreSettings
@@ -457,6 +458,43 @@ class Pages(Paged):
         with closing(socket.create_connection(self.split(pages.address))):
             pages.close_doors()
             eventually(lambda: pages.ask().connections == 0, "the end of all connections")
+
+    def test_where_there_is_no_room_who_was_silent_longest_ends_for_who_comes(self) -> None:
+        log = Log(5, 8)
+        pages = self.start("--connections", "3", "--silent", "1", "--workers", "2")
+        self.feed(pages, log, 5)
+        busy, first, last = (
+            self.enterContext(
+                closing(socket.create_connection(self.split(pages.address), PATIENCE))
+            )
+            for _ in range(3)
+        )
+        for line in (first, *[busy] * 100, last):  # not all within a millisecond
+            self.assertEqual(self.position_told(line), 5)
+
+        def has_room() -> bool:
+            self.assertEqual(self.position_told(busy), 5)
+            with closing(socket.create_connection(self.split(pages.address), PATIENCE)) as another:
+                return self.position_told(another) == 5
+
+        eventually(has_room, "that one ends for who comes")
+        self.assertIsNone(self.position_told(first))
+        self.assertEqual([self.position_told(line) for line in (busy, last)], [5, 5])
+
+    @staticmethod
+    def position_told(line: socket.socket) -> int | None:
+        """The end that a page server tells over a connection; None where it has ended that."""
+        body, found = struct.pack(">I16sBIIB", 3, bytes.fromhex(token(3)), 2, 0, 1, 7), b""
+        with suppress(ConnectionError):
+            line.sendall(len(body).to_bytes(4, "big") + body)
+            while len(found) < 4 or len(found) < 4 + int.from_bytes(found[:4], "big"):
+                if not (more := line.recv(4096)):
+                    return None
+                found += more
+            state = decode_reply(found[4:])
+            assert isinstance(state, State)
+            return state.hard
+        return None
 
     def test_silent_connections_leave_its_files_their_descriptors(self) -> None:
         soft, hard = resource.getrlimit(resource.RLIMIT_NOFILE)
