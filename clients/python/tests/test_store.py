@@ -354,6 +354,23 @@ class Moves(Stored):
         self.assertEqual(self.place(), (moved, moved))
         self.check()
 
+    def test_a_mover_that_has_nothing_to_do_writes_nothing(self) -> None:
+        def version() -> str:
+            [[xmin]] = self.referee._ask(
+                "SELECT xmin::text FROM pagelog_store WHERE log = %s", (self.row.id,)
+            )
+            return str(xmin)
+
+        self.write(20)
+        idle, patient = self.move(), self.move(age=3600.0, seal=1 << 20)
+        before = version()
+        self.assertFalse(idle.step())
+        self.write(1)
+        self.assertFalse(patient.step())  # too few, and too young
+        self.assertEqual(version(), before)
+        self.assertTrue(idle.step())
+        self.assertNotEqual(version(), before)
+
     def test_another_zstd_makes_other_bytes_which_have_another_key(self) -> None:
         self.write(100)
 

@@ -10,14 +10,13 @@ INSERT INTO pagelog_store (log, folder) SELECT id, %(folder)s FROM pagelog_log
 WHERE id = %(log)s AND identity = %(identity)s::uuid AND NOT dropped ON CONFLICT DO NOTHING RETURNING log
 """
 
-MOVED = """
-UPDATE pagelog_store s SET moved = s.moved FROM pagelog_log l
-WHERE s.log = %(log)s AND l.id = s.log AND l.identity = %(identity)s::uuid AND NOT l.dropped
-RETURNING s.folder, s.moved, s.cut, s.chain, l.archived, l.chain, l.generation,
-  (SELECT b.came IS NULL OR b.came < now() - make_interval(secs => %(age)s) FROM pagelog_block b WHERE b.log = s.log AND b.lsn = s.moved + 1)
-"""
-"""How far a database is moved, by a statement that writes: a server that was cut off says nothing. The last column is whether the next block
-is old enough; NULL where it is missing."""
+_OF_IT = "l.id = s.log AND s.log = %(log)s AND l.identity = %(identity)s::uuid AND NOT l.dropped"
+_HOW_FAR = """s.folder, s.moved, s.cut, s.chain, l.archived, l.chain, l.generation,
+  (SELECT b.came IS NULL OR b.came < now() - make_interval(secs => %(age)s) FROM pagelog_block b WHERE b.log = s.log AND b.lsn = s.moved + 1)"""
+"""How far a database is moved. The last column is whether the next block is old enough; NULL where it is missing."""
+SEEN = f"SELECT {_HOW_FAR} FROM pagelog_store s, pagelog_log l WHERE {_OF_IT}"
+MOVED = f"UPDATE pagelog_store s SET moved = s.moved FROM pagelog_log l WHERE {_OF_IT} RETURNING {_HOW_FAR}"
+"""The same by a statement that writes: what a server says that was cut off is not believed."""
 
 SKIP = """
 UPDATE pagelog_store s SET moved = b.base, cut = b.base, chain = b.chain

@@ -11,7 +11,7 @@ import struct
 import uuid
 import zlib
 from dataclasses import dataclass, field
-from typing import Any, Callable, Iterator
+from typing import Any, Callable, Iterator, Sequence
 
 from pagelog.objects.place import Store, StoreError
 from pagelog.objects.segment import (
@@ -146,20 +146,17 @@ class Mover:
     # Seal: a row says what is to be put. The blocks are in PostgreSQL.
 
     def _seal(self) -> bool:
+        seen = self._ask(tables.SEEN, age=self._settings.age)
+        if seen and not self._is_due(seen[0]):
+            return False  # an idle database's row is not written
         found = self._ask(tables.MOVED, age=self._settings.age)
         if not found:
             return bool(self._ask(tables.BEGIN, folder=self._folder))
-        folder, moved, cut, chain, archived, wanted, generation, is_due = found[0]
-        if moved >= archived:
+        if not self._is_due(found[0]):
             return False
-        if is_due is None:
+        folder, moved, cut, chain, archived, wanted, generation, is_old = found[0]
+        if is_old is None:
             return self._skip(moved, cut)
-        if (
-            not is_due
-            and (archived - moved) * self._each < self._settings.seal
-            and archived - moved < BLOCKS
-        ):
-            return False
         try:
             run = self._read(moved + 1, archived, bytes(chain))
         except BrokenArchive:
@@ -167,7 +164,7 @@ class Mover:
                 return True
             raise
         self._each = run.size / len(run.lengths)
-        if not is_due and not run.is_full:
+        if not is_old and not run.is_full:
             return False
         last = moved + len(run.lengths)
         if last == archived and run.chain != bytes(wanted):
@@ -182,6 +179,13 @@ class Mover:
         is_noted = self._note(segment, sealed)
         self._passing("sealed")
         return is_noted
+
+    def _is_due(self, row: Sequence[Any]) -> bool:
+        """Whether there is a block that is old enough, or missing, or probably as many as an object has."""
+        _, moved, _, _, archived, _, _, is_old = row
+        left = archived - moved
+        is_enough = left * self._each >= self._settings.seal or left >= BLOCKS
+        return left > 0 and (is_old is not False or is_enough)
 
     def _has_gone_on(self, moved: int) -> bool:
         """Whether another mover has moved what was to be read, and it was cut, or PostgreSQL went back."""
