@@ -20,14 +20,15 @@ sys.path[:0] = [str(HERE), str(HERE.parent / "src")]
 
 import psycopg  # noqa: E402
 
-from by_tls import trust  # noqa: E402
+from by_tls import VARIABLE, authority, trust  # noqa: E402
 from keepers import Keeping, new_url  # noqa: E402
 from long_runs import STOP, LongRun, is_client, text_of  # noqa: E402
 from pagelog import BelowBase, Block, PagelogError, Primary, Put, Reader  # noqa: E402
 from pagelog.referee.bases import Bases  # noqa: E402
 from pagelog.referee.referee import digest  # noqa: E402
 from pagelog.keeper.run import fronts_of  # noqa: E402
-from secured import SecureAlone  # noqa: E402
+from replicated import DATABASE, Server, Sessions, url_of  # noqa: E402
+from secured import Certificates, SecureAlone  # noqa: E402
 from service import PATIENCE, token  # noqa: E402
 
 TTL = 1.0
@@ -148,8 +149,9 @@ class Soak(LongRun):
             audit,
         )
         more = "trail = 1\n" * store
-        kind = SecureAlone if by_tls else Keeping
-        super().__init__(__file__, kind(ttl=TTL, audit=audit, url=new_url(), more=more))
+        kind, self.server = (SecureAlone, _secured_server()) if by_tls else (Keeping, None)
+        url = new_url() if self.server is None else url_of(self.server)
+        super().__init__(__file__, kind(ttl=TTL, audit=audit, url=url, more=more))
         self.folder = Path(tempfile.mkdtemp(prefix="pagelog-soak-")) if store else None
         if self.folder is not None:
             self.keeping.stores(self.folder, seal="64KiB", age="1s", tail="1s", grace="20s")
@@ -245,6 +247,8 @@ class Soak(LongRun):
         super().stop()
         if self.folder is not None:
             shutil.rmtree(self.folder, ignore_errors=True)
+        if self.server is not None:
+            self.server.stop()
 
     def run(self) -> int:
         keeping = self.keeping
@@ -278,9 +282,17 @@ class Soak(LongRun):
         violations = self.faults([self.ended(client, PATIENCE) for client in clients])
         for name in NAMES:
             violations += self.violations(name)
-        return self.report(violations + self.unbounded())
+        return self.report(violations + self.unbounded() + self.plain_sessions())
 
     # What has to hold.
+
+    def plain_sessions(self) -> list[str]:
+        """Those of PostgreSQL that came without TLS, where nobody is to."""
+        if self.server is None:
+            return []
+        sessions = Sessions()
+        sessions.add(self.server)
+        return sessions.told()
 
     def books(self, who: str) -> list[dict[str, Any]]:
         return [json.loads(line) for line in (self.keeping.folder / who).read_text().splitlines()]
@@ -397,6 +409,13 @@ class Soak(LongRun):
         return 1 if violations or not successions or not archived else 0
 
 
+def _secured_server() -> Server:
+    """A PostgreSQL that is reached by verify-full."""
+    made = Server(certificates=authority())
+    made.url(DATABASE)
+    return made
+
+
 def memory_of(pid: int) -> int:
     """Bytes that a process holds."""
     try:
@@ -461,6 +480,8 @@ def main(words: list[str]) -> int:
         return 0
     store, by_tls = STORE in words, BY_TLS in words
     words = [word for word in words if word not in (STORE, BY_TLS)]
+    if by_tls:
+        os.environ[VARIABLE] = str(Certificates().ca)
     numbers = [float(word) for word in words[:3]]
     soak = Soak(
         *(numbers[:1] or [60.0]),
