@@ -20,7 +20,7 @@ sys.path[:0] = [str(HERE), str(HERE.parent / "src")]
 
 import psycopg  # noqa: E402
 
-from by_tls import VARIABLE, authority, trust  # noqa: E402
+from by_tls import trust  # noqa: E402
 from keepers import Keeping, new_url  # noqa: E402
 from long_runs import STOP, LongRun, is_client, text_of  # noqa: E402
 from pagelog import BelowBase, Block, PagelogError, Primary, Put, Reader  # noqa: E402
@@ -411,7 +411,7 @@ class Soak(LongRun):
 
 def _secured_server() -> Server:
     """A PostgreSQL that is reached by verify-full."""
-    made = Server(certificates=authority())
+    made = Server(certificates=Certificates().folder)
     made.url(DATABASE)
     return made
 
@@ -480,8 +480,6 @@ def main(words: list[str]) -> int:
         return 0
     store, by_tls = STORE in words, BY_TLS in words
     words = [word for word in words if word not in (STORE, BY_TLS)]
-    if by_tls:
-        os.environ[VARIABLE] = str(Certificates().ca)
     numbers = [float(word) for word in words[:3]]
     soak = Soak(
         *(numbers[:1] or [60.0]),
