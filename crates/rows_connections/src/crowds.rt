@@ -60,9 +60,10 @@ fn is_done(stream: &mut TcpStream) -> Result<bool, Stop> {
     Ok(told == [0, 0, 0, 1, 0])
 }
 
-// Sends a request.
+// Sends a request, and one byte of another that never comes: the connection ends in a fault.
 fn asks(stream: &mut TcpStream) -> Result<(), Stop> {
-    stream.write_all(&report(2)).map_err(stop_of)
+    stream.write_all(&report(2)).map_err(stop_of)?;
+    stream.write_all(&[0]).map_err(stop_of)
 }
 
 // One connection, which is closed again. Whether it is answered.
@@ -159,7 +160,7 @@ fn serve_crowd<R: Net<Listener = TcpListener, Stream = TcpStream> + Threads + Wa
 ) -> Result<(), Stop> {
     let passes = passes_of(alloc)?;
     let room = Vec::with_capacity(alloc, AT_ONCE)?;
-    let counts = (CONNECTIONS, 0, WORKERS);
+    let counts = (CONNECTIONS, u64::from(CONNECTIONS), WORKERS);
     let (are_done, passes) = serve_while(
         rt,
         alloc,
@@ -173,7 +174,7 @@ fn serve_crowd<R: Net<Listener = TcpListener, Stream = TcpStream> + Threads + Wa
 }
 
 /// 300 connections with 64 workers: 64 that are open at the same time, so that each worker has one, and
-/// then those of four threads, one after the other in each.
+/// then those of four threads, one after the other in each. Each ends inside a frame, and all of these faults are counted.
 #[test]
 fn sixty_four_workers(rt: HostRuntime) {
     let mut done = serve_crowd(&rt, rt.alloc());

@@ -98,17 +98,45 @@ fn cut_after(alloc: Global, room: &mut Room, told: &Told, cut: usize) -> Result<
     went(alloc, &at.writer, done)
 }
 
+/// The longest frame.
+const LONGEST: &str = "1 11 operator 1 set_table spaces 65506 = Denied C7 3";
+
+/// How many bytes of it come at once.
+const AT_ONCE: usize = 181;
+
+// A frame comes so: with any number of such pieces unread the next one is read.
+fn comes_in_many_pieces(
+    alloc: Global,
+    at: &mut Talk<'_>,
+    room: &mut Room,
+    told: &Told,
+) -> Result<(), Stop>
+    requires has { HasDatabases at.old.pass }
+{
+    for _ in 0..told.requests.len() / AT_ONCE {
+        tells(alloc, at, room, AT_ONCE, &[])?;
+    }
+    tells(alloc, at, room, AT_ONCE, &told.replies)
+}
+
+fn longest_in_pieces(alloc: Global, room: &mut Room) -> Result<(), Stop> {
+    let told = told_by(alloc, LONGEST)?;
+    let mut at = talk_of(alloc, &told.requests, usize::MAX)?;
+    let done = comes_in_many_pieces(alloc, &mut at, room, &told);
+    went(alloc, &at.writer, done)
+}
+
 fn cut_anywhere(alloc: Global) -> Result<(), Stop> {
     let told = told_by(alloc, ALL_OPERATIONS)?;
     let mut room = Room::new(alloc)?;
     for cut in 0..longest_frame(&told.requests, told.count)? {
         cut_after(alloc, &mut room, &told, cut)?;
     }
-    Ok(())
+    longest_in_pieces(alloc, &mut room)
 }
 
-/// Each of the eleven operations, in two and in three pieces, cut at each byte: nothing is replied before the last piece, and the
-/// reply after it.
+/// Each of the eleven operations, in two and in three pieces, cut at each byte, and the longest frame in hundreds of pieces:
+/// nothing is replied before the last piece, and the reply after it.
 #[test]
 fn operations_cut_anywhere(rt: HostRuntime) {
     let mut done = cut_anywhere(rt.alloc());
@@ -264,12 +292,27 @@ fn ends_with(alloc: Global, at: &mut Talk<'_>, room: &mut Room, told: &[u8]) -> 
     check(rest == Rest::Over && at.writer.taken() == told)
 }
 
+// The writer takes nothing at first, so that all replies that may wait together do, and then it takes them all.
+fn waits_and_ends(
+    alloc: Global,
+    at: &mut Talk<'_>,
+    room: &mut Room,
+    told: &[u8],
+) -> Result<(), Stop>
+    requires has { HasDatabases at.old.pass }
+{
+    let rest = turns(at, room)?;
+    check(rest == Rest::Output && at.writer.taken().is_empty())?;
+    at.writer.room = usize::MAX;
+    ends_with(alloc, at, room, told)
+}
+
 // All frames are there, and the input is over: each has its reply.
 fn comes_at_once(alloc: Global, room: &mut Room, told: &Told) -> Result<(), Stop> {
-    let mut at = talk_of(alloc, &told.requests, usize::MAX)?;
+    let mut at = talk_of(alloc, &told.requests, 0)?;
     at.reader.come(usize::MAX);
     at.reader.is_over = true;
-    let done = ends_with(alloc, &mut at, room, &told.replies);
+    let done = waits_and_ends(alloc, &mut at, room, &told.replies);
     went(alloc, &at.writer, done)
 }
 
@@ -282,8 +325,8 @@ fn all_come_at_once(alloc: Global) -> Result<(), Stop> {
     Ok(())
 }
 
-/// A peer that closes its sending side behind 1,000 requests, and behind a burst of pulls: turns that do not write all that
-/// was read are followed by others.
+/// A peer that closes its sending side behind 1,000 requests, and behind a burst of pulls, and reads late: turns that do not
+/// write all that was read are followed by others.
 #[test]
 fn closed_behind_many_requests(rt: HostRuntime) {
     let mut done = all_come_at_once(rt.alloc());

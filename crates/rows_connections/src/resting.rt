@@ -60,7 +60,7 @@ pub(crate) struct Filling {
     /// What it took, and after it what it did not take of the write that failed.
     pub(crate) text: Vec<u8>,
     taken: usize,
-    room: usize,
+    pub(crate) room: usize,
     is_refused: bool,
     pub(crate) fails: bool,
 }

@@ -132,6 +132,8 @@ body 00000002 16*22 01 00000000 00000001 01 00 0000000000000001 0001 0000 0004 \
 body 00000002 16*22 01 00000000 00000001 01 00 0000000000000001 0001 0000 0004 \
  01 00000000 0000 2000 8192*aa 01 00000000 0000 2000 8192*aa 01 00000000 0000 2000 8192*aa \
  01 00000000 0000 1fcf 8143*aa = Malformed 15
+# A block of as many bytes, in an offer.
+2 22 primary 1 offer 2:8192*bb,8192*bb,8192*bb,8142*bb = Done
 # The longest body, a text that is no table.
 1 11 operator 1 set_table spaces 65506     = Denied C7 3
 # The bodies of the stored run without their last bytes.
@@ -143,10 +145,10 @@ body 00000002 16*22 01 00000000 00000001 03 00000000000000 = Malformed 4
 body 00000003 16*33 02 00000000 00000001 05 0000 ffff 0000000000000001 00 = Malformed 4
 1 11 operator 1 audit 1 16                 = \
  Entries 1/1/2/primary/1/write/1/0/allowed 2/1/2/primary/1/write/1/0/allowed \
- 3/1/1/operator/1/set_table/65506/0/C7:3
+ 3/1/2/primary/1/offer/2/0/allowed 4/1/1/operator/1/set_table/65506/0/C7:3
 ";
 
-/// The largest block and one byte more, the longest text, and bodies without their last byte.
+/// The largest block, one byte more, the largest block in an offer, the longest text, and bodies without their last byte.
 #[test]
 fn largest_block_and_text(rt: HostRuntime) {
     assert!(&rt; converses_as(rt, LARGEST_BLOCK_AND_TEXT, &PIECES));
