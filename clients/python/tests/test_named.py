@@ -326,6 +326,101 @@ class Closed(Named):
             self.assertEqual((writer.commit(), self.texts()), (1, [b"1"]))
 
 
+class Begun(Named):
+    """What comes between a writer's failover and its first question in the epoch of that: the epoch is over then."""
+
+    def setUp(self) -> None:
+        super().setUp()
+        self.services: list[Served] = []
+        self.serve()
+
+    def serve(self) -> None:
+        """The first generation, or the next one with what the one before has, as a keeper makes it."""
+        number = len(self.services) + 1
+        served = Served("shop", f"run{number}", WIDE_TABLE, b"s" * 16, timeout=PATIENCE)
+        folder = Path(self.enterContext(tempfile.TemporaryDirectory()))
+        served.start(Program(PROGRAM, "127.0.0.1", folder))
+        self.addCleanup(served.end)
+        kept = [block for service in self.services[-1:] for block in service.pulled(0)]
+        if kept:
+            served.fill([kept], len(kept), digest(b"", kept))
+        served.open()
+        self.services.append(served)
+        address = served.where.address
+        self.places.append(
+            Place(number, served.run, address, len(kept), "", 0, 0, len(kept), DATABASE)
+        )
+
+    def close_service(self) -> None:
+        self.services[-1].close()
+
+    def succeed(self) -> None:
+        self.close_service()
+        self.serve()
+
+    def give_up(self) -> None:
+        """A succession that was begun."""
+        self.close_service()
+        self.services[-1].open()
+
+    def come(self) -> None:
+        """Another writer, of the same principal."""
+        self.of_run(pagelog.Operator, 1).failover(2)
+        other = self.of_run(pagelog.Primary, 2)
+        other.append(put(0, b"other"))
+        other.commit()
+
+    def commit(self, writer: NamedPrimary, text: bytes, *events: Callable[[], None]) -> int:
+        """An event comes at each beginning, as long as there are any."""
+        begin, left = pagelog.Primary.begin, iter(events)
+
+        def begun(primary: pagelog.Primary) -> Any:
+            next(left, lambda: None)()
+            return begin(primary)
+
+        writer.append(put(0, text))
+        with patch.object(pagelog.Primary, "begin", begun):
+            return writer.commit()
+
+    def test_a_writer_goes_on_in_the_generation_that_its_keeper_makes(self) -> None:
+        writer = self.writer()
+        self.assertEqual(self.commit(writer, b"1", self.succeed, self.succeed), 1)
+        self.assertEqual(self.commit(writer, b"2"), 2)
+        self.succeed()
+        self.assertEqual(self.commit(writer, b"3", self.succeed, self.succeed), 3)
+        self.assertEqual((self.texts(), len(self.services)), ([b"1", b"2", b"3"], 6))
+
+    def test_a_writer_goes_on_where_its_keeper_opens_the_generation_again(self) -> None:
+        writer = self.writer()
+        self.assertEqual(self.commit(writer, b"1", self.give_up, self.give_up), 1)
+        self.give_up()
+        self.assertEqual(self.commit(writer, b"2", self.give_up, self.give_up), 2)
+        self.assertEqual(self.texts(), [b"1", b"2"])
+
+    def test_it_waits_no_longer_than_it_has_patience_and_may_be_called_again(self) -> None:
+        writer = self.writer()
+        self.keepers.patience = 0.0
+        self.assertRaises(pagelog.TimedOut, self.commit, writer, b"1", self.close_service)
+        self.assertRaises(pagelog.TimedOut, writer.commit)
+        self.services[-1].open()
+        self.assertEqual((writer.commit(), self.texts()), (1, [b"1"]))
+        self.close_service()
+        self.assertRaises(pagelog.TimedOut, self.commit, writer, b"2")
+        self.services[-1].open()
+        self.keepers.patience = PATIENCE
+        self.assertEqual((writer.commit(), self.texts()), (2, [b"1", b"2"]))
+
+    def test_one_that_another_writer_has_overtaken_is_told_so_and_fences_nobody(self) -> None:
+        for events in ([self.come], [self.give_up, self.come]):
+            with self.subTest(events=len(events)), self.writer() as writer:
+                operator, before = self.of_run(pagelog.Operator, 1), self.texts()
+                epoch = operator.status().epoch
+                self.assertRaises(pagelog.OlderEpoch, self.commit, writer, b"1", *events)
+                self.assertRaises(pagelog.OlderEpoch, writer.commit)
+                self.assertEqual(self.texts(), [*before, b"other"])
+                self.assertEqual(operator.status().epoch, epoch + 2 * len(events))
+
+
 class NarrowWriters(Named):
     table = NARROW_TABLE
 

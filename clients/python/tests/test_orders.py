@@ -19,7 +19,7 @@ from pagelog.run_tokens import KEEPER
 from pagelog.place import GenerationFate, Place
 from pagelog.reader import Span
 from pagelog.reply import State
-from pagelog.rules import Denial
+from pagelog.rules import Denial, TableRow
 from service import IS_LONG, put, token
 
 DATABASE = "11111111-2222-4333-8444-555555555555"
@@ -33,7 +33,7 @@ class Service:
 
     def __init__(self, run: str, log: Sequence[Block], images: int) -> None:
         self.run, self.log, self.images = run, list(log), images
-        self.epoch, self.primary, self.is_dead = 1, KEEPER, False
+        self.epoch, self.primary, self.is_dead, self.is_closed = 1, KEEPER, False, False
         self.written: list[tuple[Block, bool]] = []
 
     def fail_over(self, to: int) -> None:
@@ -101,7 +101,15 @@ class World:
         if self.left and self.chance.random() < self.often:
             self.left -= 1
             self.chance.choice(
-                [self.die, self.succeed, self.come, self.come, self.archive, self.go_back]
+                [
+                    self.die,
+                    self.succeed,
+                    self.close,
+                    self.come,
+                    self.come,
+                    self.archive,
+                    self.go_back,
+                ]
             )()
         if service.is_dead:
             raise ConnectionLost
@@ -115,11 +123,24 @@ class World:
         if len(self.archived) >= self.had:
             self.over()
 
+    def close(self) -> None:
+        """Its keeper: until it opens it again, or makes the next generation, nobody else begins an epoch."""
+        self.now.fail_over(KEEPER)
+        self.now.is_closed = True
+
     def succeed(self) -> None:
         """Its keeper closes it, and archives the rest."""
-        self.now.fail_over(KEEPER)
+        self.close()
         self.archive(all=True)
         self.over()
+
+    def open(self) -> None:
+        self.now.is_closed = False
+
+    def wait(self, *_: object) -> None:
+        """Somebody does, for the next place."""
+        if self.now.is_closed:
+            self.chance.choice([self.open, self.succeed])()
 
     def go_back(self) -> None:
         """PostgreSQL, to before this generation: its run continues under a later number, and is archived again."""
@@ -128,7 +149,9 @@ class World:
         self.services.append(self.now)
 
     def come(self) -> None:
-        """Another writer."""
+        """Another writer, where its keeper lets anybody in."""
+        if self.now.is_closed:
+            return
         self.now.fail_over(WRITER)
         self.others += 1
         self.now.log.append(
@@ -172,7 +195,7 @@ class World:
             after=place,
             fate=self.fate,
             block=self.block,
-            wait_for=nothing,
+            wait_for=self.wait,
             ring=nothing,
             full=nothing,
             is_of=nothing,
@@ -197,6 +220,11 @@ class Client:
     def close(self) -> None:
         pass
 
+    def see_table(self) -> None:
+        """A writer, or an operator."""
+        if self.service.is_closed:
+            raise TableRow(Section.B, 4, 0)
+
     def status(self) -> State:
         self.world.happen(self.service)
         return State(self.service.epoch, self.service.primary, len(self.service.log), 0, 0)
@@ -214,10 +242,16 @@ class Reader(Client):
 
 
 class Operator(Client):
+    def status(self) -> State:
+        state = super().status()
+        self.see_table()
+        return state
+
     def failover(self, to: int, *, epoch: int | None = None) -> int:
         self.world.happen(self.service)
         if epoch is not None and epoch != self.service.epoch:
             raise OlderEpoch(Section.A, 2, self.service.epoch)
+        self.see_table()
         self.service.fail_over(to)
         if self.world.chance.random() < 0.05:
             raise InDoubt("the reply was lost")
@@ -349,7 +383,9 @@ class Orders(unittest.TestCase):
                 told.lost(lost.position)
             except InDoubt:
                 break
-            except Denial:
+            except Denial as denial:
+                self.assertIsInstance(denial, OlderEpoch)
+                self.assertGreater(world.others, 0, "only another writer ends one")
                 told.never.add(text)
                 break
             if world.chance.random() < 0.4:

@@ -54,7 +54,8 @@ class NamedPrimary(Following):
     `commit` returns a position once the blocks are in the log of the service; a death of that service may still take them,
     until they are durable. They are kept here meanwhile, and written again into the next generation, at the same positions,
     if nobody else has written there: so what a living writer has committed survives the service. `Lost` is raised where
-    another has gone on. A denial as `OlderEpoch` is raised where another writer has begun an epoch, as of any `Primary`.
+    another has gone on. A denial as `OlderEpoch` is raised where another writer has begun an epoch, as of any `Primary`. After
+    an epoch of a keeper, which closes the generation, it begins again.
 
     A first call raises `NoKeeper`, `UnknownName`, `WrongToken` or a denial as `TableRow` at once where that is what bars it; it may be
     called again.
@@ -269,30 +270,29 @@ class NamedPrimary(Following):
 
     def _move_on(self, error: PagelogError | None) -> None:
         before = -1 if self.place is None else self.place.generation
-        deadline, waits, may_stay = (
-            time.monotonic() + self.keepers.patience,
-            Backoff(QUICKEST, SLOWEST),
-            not isinstance(error, _DENIED),
-        )
-        newest = before
+        deadline, waits = time.monotonic() + self.keepers.patience, Backoff(QUICKEST, SLOWEST)
+        denial = error if isinstance(error, _DENIED) else None
+        newest, may_stay = before, denial is None
         while True:
             place = self.keepers.place() if self.place is None else self.keepers.after(self.place)
             is_next = place.generation > before
-            if not is_next and isinstance(error, _DENIED) and self._is_anothers(place):
+            is_here = self.place is None or place.run == self.place.run
+            if denial is not None and is_here and not is_next and self._is_anothers(place):
                 self._leave()
-                return self._end_for(error)
+                return self._end_for(denial)
             # Where its keeper has closed it, the next generation comes; if it does not, the keeper was killed, and its next instance opens it.
-            if (
-                (is_next or (may_stay and before != self._over))
-                and not self._is_of_another_run(place)
-                and self._is_settled(place)
-            ):
-                return
+            may_begin = is_next or (may_stay and before != self._over)
+            if may_begin and not self._is_of_another_run(place):
+                denial = None  # the newest epoch may be its own, whose reply was lost
+                if self._is_settled(place):
+                    return
             may_stay = True
             if time.monotonic() > deadline:
-                raise error or TimedOut(
+                if error is not None and not isinstance(error, _DENIED):
+                    raise error
+                raise TimedOut(
                     f"in {self.keepers.patience} s no generation of {self.keepers.name} could be used{self._insecure}"
-                )
+                ) from error
             # Another keeper may have seen the take, and told of it, before the one that took has let anybody in.
             self.keepers.wait_for(
                 place.generation + 1, waits.next(), place if place.generation > newest else None
@@ -341,10 +341,10 @@ class NamedPrimary(Following):
             raise error
 
     def _is_anothers(self, place: Place) -> bool:
-        """Whether another client's failover is what denied; it may have been the keeper, who closes the generation. Another run that has
-        the number says nothing of it. A service that is being killed is not asked: it would be silent until all its memory is freed.
+        """Whether another client's failover is what denied; it may have been the keeper, who closes the generation. A service that is
+        being killed is not asked: it would be silent until all its memory is freed.
         """
-        if self.place is not None and place.run != self.place.run or self.keepers.has_left(place):
+        if self.keepers.has_left(place):
             return False
         try:
             with Operator(self._connection(place), self._operator.of(place)) as operator:
@@ -378,6 +378,8 @@ class NamedPrimary(Following):
         except _NotToBeKnown:
             raise
         except (OlderEpoch, OtherPrimary) as error:
+            if not self._is_anothers(place):
+                return False
             self._ended = error
             self._count_at(place)
             self._end_for(error)
