@@ -1,5 +1,6 @@
 /* The calls that are repeated after a lost connection, and the epochs of a writer. */
 #include "pagelog_inside.h"
+#include "pagelog_place.h"
 
 #include <string.h>
 
@@ -263,6 +264,11 @@ static bool is_epoch_told(const struct pagelog *log) {
  * its primary. */
 static bool may_be_ours(const struct pagelog *log, uint32_t expected) {
     return log->epoch > expected && log->epoch - expected <= log->lost_failovers;
+}
+
+bool pagelog_may_have_begun(const struct pagelog *log, const struct pagelog_reply *status) {
+    return status->primary == log->options.principal && status->epoch == log->epoch &&
+           may_be_ours(log, log->writing_epoch);
 }
 
 enum pagelog_outcome pagelog_take_over(struct pagelog *log, uint32_t operator_principal,

@@ -299,8 +299,9 @@ static enum pagelog_outcome send_rest(struct pagelog_file *file) {
 static enum pagelog_outcome send_again(struct pagelog_file *file, const struct pagelog_reply *status) {
     const struct pagelog_file_options *options = &file->options;
     uint32_t writing = pagelog_writing_epoch(file->log);
+    bool is_own = status->epoch == writing || pagelog_may_have_begun(file->log, status);
     bool is_anothers =
-        is_settled_here(file->source.named) && status->primary != PAGELOG_KEEPER && status->epoch != writing;
+        is_settled_here(file->source.named) && status->primary != PAGELOG_KEEPER && !is_own;
     if (is_anothers) return lose_from(file, next_of(position_of(file, hard_of(status))), PAGELOG_FENCED);
     enum pagelog_outcome outcome =
         pagelog_take_over(file->log, options->operator_principal, options->operator_token, status->epoch);

@@ -173,4 +173,7 @@ void pagelog_token_of_run(const struct pagelog_keepers *keepers, const uint8_t t
 enum pagelog_outcome pagelog_enter(struct pagelog *log, const char *address,
                                    const uint8_t token[PAGELOG_TOKEN_BYTES]);
 
+/* Whether the epoch of a status may be the object's own: it was begun by a failover whose reply was lost. */
+bool pagelog_may_have_begun(const struct pagelog *log, const struct pagelog_reply *status);
+
 #endif

@@ -16,7 +16,7 @@ import time
 from binding import DATABASE, DENIED, DONE, LOST, Keepers, Proof, Token, nonce_of
 from check import LONG, run, same, true
 from database import TOKENS, code_of, connect, named, numbers, one, sqlite_of, uri_of
-from service import CLIENT, Asker, Service, plain_environment, wire
+from service import CLIENT, Answer, Asker, Service, exchange, plain_environment, wire
 from stub_keeper import Before, StubKeeper, later, table_of, token_of
 from vfs_forks import in_child
 
@@ -1318,6 +1318,72 @@ def test_a_generation_that_is_closed_for_a_while():
             ([0, 1, 2], "ok"),
             (rows(connection), one(connection, "pragma integrity_check")),
         )
+
+
+def test_a_generation_that_is_closed_as_a_writer_begins():
+    """Right after its failover: it goes on in the next one, or where its keeper opens it again, and is not even busy."""
+    for then in (StubKeeper.succeed, lambda keeper: keeper.now.give_up()):
+        with StubKeeper() as keeper:
+            connection = named(keeper, busy=0)
+            for number in range(4):
+                keeper.rule = at_the_first_question_of_a_primary(keeper, lambda: then(keeper))
+                if number == 0:
+                    connection.execute("create table t(a, b)")
+                fill(connection, 1, first=number)
+                same("it came", None, keeper.rule)
+                keeper.succeed()
+            same(
+                "all of it",
+                ([0, 1, 2, 3], "ok"),
+                (rows(connection), one(connection, "pragma integrity_check")),
+            )
+
+
+def test_a_failover_whose_reply_is_lost_is_no_other_writer():
+    """Of a writer that sends again what was cut off, and then finds no service for a while."""
+    with StubKeeper() as keeper:
+        connection, asked, carried = named(keeper), [], []
+        connection.execute("create table t(a, b)")
+        connection.execute("pragma synchronous = normal")
+        fill(connection, 2)
+
+        def gone(frame):
+            """Till it asks where the database is: by a question more than a ring."""
+            asked.append(keeper.asked)
+            if keeper.asked > asked[0] + 1:
+                keeper.rule = carries_out
+                return carries_out(frame)
+            return None
+
+        def carries_out(frame):
+            if frame[33] != wire.FAILOVER:
+                return frame
+            with socket.create_connection(keeper.now.proxy.target) as server:
+                carried.append(exchange(server, frame))
+            asked.clear()
+            keeper.rule = gone if len(carried) == 1 else None
+            return None if len(carried) == 1 else Answer(carried[-1][4:])
+
+        keeper.rule = lambda frame: gone(frame) if frame[33] == wire.WRITE or asked else frame
+        fill(connection, 1, first=2)
+        same("its failovers", [b"\0\0\0\1\0"] * 2, carried)
+        same(
+            "all of it",
+            ([0, 1, 2], (0, 0)),
+            (rows(connection), numbers(connection, "moves", "losses")),
+        )
+
+
+def at_the_first_question_of_a_primary(keeper, event):
+    """A rule: an event comes before it."""
+
+    def rule(frame):
+        if (frame[24], frame[33]) == (wire.PRIMARY, wire.STATUS):
+            keeper.rule = None
+            event()
+        return frame
+
+    return rule
 
 
 def happens_at(keeper, operation, number, event):

@@ -118,6 +118,12 @@ class Generation:
             operator.set_table(table_of(self.keeper.name, self.run, is_open=False))
             operator.failover(KEEPER)
 
+    def give_up(self):
+        """Closes it, and opens it again, as where no succession comes of it."""
+        self.close()
+        with self.asker(wire.OPERATOR) as operator:
+            operator.set_table(table_of(self.keeper.name, self.run))
+
     def end(self):
         self.service.end()
         self.proxy.cut()
