@@ -94,8 +94,9 @@ static enum pagelog_outcome enter(struct pagelog_file *file, const struct pagelo
 
 /* ---- What the log has of the tail ---- */
 
-/* What has become durable in the generation that had the whole tail last, which is over. LOST: nobody can say
- * it now. */
+/* What has become durable in the generation that had the whole tail last, which is over. The keeper of the
+ * one that the file is in is asked first: that lives, and has writers wait while it is asked. LOST: nobody
+ * can say it now. */
 static enum pagelog_outcome learn_end(struct pagelog_file *file) {
     struct named *named = file->source.named;
     struct pagelog_fate fate;
@@ -103,7 +104,8 @@ static enum pagelog_outcome learn_end(struct pagelog_file *file) {
     /* Where all is durable, it may be lost. */
     struct pagelog_position last = is_empty ? named->own : last_before(named->tail.next);
     if (is_settled_here(named) || is_none(last)) return PAGELOG_DONE;
-    enum pagelog_outcome outcome = pagelog_fate_of(named->keepers, NULL, &named->settled, last, &fate);
+    enum pagelog_outcome outcome =
+        pagelog_fate_of(named->keepers, named->place.lines, &named->settled, last, &fate);
     if (outcome != PAGELOG_DONE) return outcome;
     bool is_lost =
         is_before(fate.end, named->durable) || (is_empty && fate.is_over && is_before(fate.end, last));
@@ -300,8 +302,7 @@ static enum pagelog_outcome send_again(struct pagelog_file *file, const struct p
     const struct pagelog_file_options *options = &file->options;
     uint32_t writing = pagelog_writing_epoch(file->log);
     bool is_own = status->epoch == writing || pagelog_may_have_begun(file->log, status);
-    bool is_anothers =
-        is_settled_here(file->source.named) && status->primary != PAGELOG_KEEPER && !is_own;
+    bool is_anothers = is_settled_here(file->source.named) && status->primary != PAGELOG_KEEPER && !is_own;
     if (is_anothers) return lose_from(file, next_of(position_of(file, hard_of(status))), PAGELOG_FENCED);
     enum pagelog_outcome outcome =
         pagelog_take_over(file->log, options->operator_principal, options->operator_token, status->epoch);

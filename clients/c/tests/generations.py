@@ -390,8 +390,8 @@ def test_keys_that_it_does_not_know_are_passed_over():
 
 
 @contextlib.contextmanager
-def silent_after_the_greeting():
-    """A keeper that answers nothing but the greeting; and its connections."""
+def silent_after_the_greeting(heard=None):
+    """A keeper that answers nothing but the greeting; and its connections. What it is asked comes into a list, if there is one."""
     lines = []
 
     def serve(line):
@@ -400,6 +400,8 @@ def silent_after_the_greeting():
             for text in line.makefile("rb"):
                 if text.startswith(b"hello"):
                     line.sendall(b"hello 2\n")
+                elif heard is not None:
+                    heard.append(text.decode().split())
 
     def accept():
         with contextlib.suppress(OSError):
@@ -1030,6 +1032,20 @@ def test_what_another_has_left_is_sent_again():
             (rows(connection), one(connection, "pragma integrity_check")),
         )
         same("sent again, and nothing lost", (21, 0), numbers(connection, "resent", "losses"))
+
+
+def test_what_became_of_a_generation_is_asked_of_who_has_the_next_one():
+    """Others wait there until this writer has sent what it lacks, and no longer: a keeper that is silent is not asked first."""
+    heard = []
+    with silent_after_the_greeting(heard) as (address, _), StubKeeper() as keeper:
+        connection = sqlite_of(f"{address},{keeper.address}", "shop", 2)
+        keeper.clients.add(connection)
+        connection.execute("create table t(a, b)")
+        connection.execute("pragma synchronous = normal")
+        fill(connection, 2)
+        keeper.die(lost=2)
+        same("it is sent again", [0, 1], rows(connection))
+        same("of it was asked", [], [words for words in heard if words[0] == "durable"])
 
 
 def test_a_move_that_is_cut_off():
