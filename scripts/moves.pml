@@ -287,7 +287,7 @@ inline lose_from(p, told_as) {
                     // ..
                     // struct pagelog_position last = is_empty ? named->own : last_before(named->tail.next);
                     // if (is_settled_here(named) || is_none(last)) return PAGELOG_DONE;
-                    // enum pagelog_outcome outcome = pagelog_fate_of(named->keepers, NULL, &named->settled, last, &fate);
+                    // enum pagelog_outcome outcome = pagelog_fate_of(named->keepers, named->place.lines, &named->settled, last, &fate);
                     // ..
                     // bool is_lost = is_before(fate.end, named->durable) || (is_empty && fate.is_over && is_before(fate.end, last));
                     // if (is_lost) fate.loss = PAGELOG_SUPERSEDED;

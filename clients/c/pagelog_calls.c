@@ -267,8 +267,9 @@ static bool may_be_ours(const struct pagelog *log, uint32_t expected) {
 }
 
 bool pagelog_may_have_begun(const struct pagelog *log, const struct pagelog_reply *status) {
-    return status->primary == log->options.principal && status->epoch == log->epoch &&
-           may_be_ours(log, log->writing_epoch);
+    /* However often it was asked for: in one epoch one failover begins the next. */
+    return status->primary == log->options.principal && status->epoch == log->writing_epoch + 1 &&
+           log->lost_failovers > 0;
 }
 
 enum pagelog_outcome pagelog_take_over(struct pagelog *log, uint32_t operator_principal,

@@ -137,6 +137,7 @@ static void turn(struct worker *worker, struct connection *connection) {
     }
     if (!did_wait && connection->wanted) worker->waiting++;
     if (did_wait && !connection->wanted) worker->waiting--;
+    if (did_wait) note_heard(worker, connection);
     watch(worker, connection, EPOLL_CTL_MOD);
 }
 
@@ -155,7 +156,8 @@ static struct connection *made_of(int socket, struct shown *shown) {
 /* Before there is a table a connection ends as it comes, and where there is no room for it. */
 static void keep(struct worker *worker, struct arrival arrival) {
     struct shown *shown = arrival.is_secure ? worker->server->settings.shown : NULL;
-    bool has_room = worker->room.table && (!arrival.needs_room || end_silent(worker));
+    bool is_full = arrival.needs_room && worker->server->open > worker->server->settings.connections;
+    bool has_room = worker->room.table && (!is_full || end_silent(worker));
     struct connection *connection = has_room ? made_of(arrival.socket, shown) : NULL;
     int one = 1;
     if (!connection) {

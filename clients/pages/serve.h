@@ -13,10 +13,9 @@ struct server_settings {
     int listener, secure_listener;
     struct shown *shown; /* to who comes by the secure one */
     unsigned workers, connections;
-    int64_t
-        silent_ms; /* of so many connections one that was silent for so long ends where another one comes */
-    unsigned readers; /* more threads, which read what connections ask for together */
-    unsigned wait_ms; /* how long a get waits for a position that is not there yet */
+    int64_t silent_ms; /* where all are taken, one that was silent for so long ends for a new one */
+    unsigned readers;  /* more threads, which read what connections ask for together */
+    unsigned wait_ms;  /* how long a get waits for a position that is not there yet */
 };
 
 struct server;

@@ -14,7 +14,7 @@ PLANTS = {
                                    "            return False\n", "named", "another_writer_has_overtaken"),
     "denied by its keeper, in time": Plant("../named", "                if error is not None and not isinstance(error, _DENIED):\n", "                if error is not None:\n",
                                            "named", "no_longer_than_it_has_patience"),
-    "orders, its own epoch": Plant("../named", "                denial = None  # the newest epoch may be its own, whose reply was lost\n", "", "orders", "told_holds"),
+    "orders, its own epoch": Plant("../named", "                    denial = None  # the newest epoch may be its own, whose reply was lost\n", "                    pass\n", "orders", "told_holds"),
     "orders, an epoch of its keeper": Plant("../named", "            if not self._is_anothers(place):\n                return False\n            self._ended = error\n",
                                             "            self._ended = error\n", "orders", "told_holds"),
     "overtaken, the images": Plant("../named", "            if self._lost_below(place) is not None:\n                return\n", "", "named",

@@ -420,6 +420,33 @@ class Begun(Named):
                 self.assertEqual(self.texts(), [*before, b"other"])
                 self.assertEqual(operator.status().epoch, epoch + 2 * len(events))
 
+    def test_nor_where_it_cannot_ask_at_first_who_has(self) -> None:
+        for cuts in (2, 3):
+            with self.subTest(cuts=cuts), self.writer() as writer:
+                self.commit(writer, b"1")
+                self.of_run(pagelog.Operator, 1).failover(2)
+                other = self.of_run(pagelog.Primary, 2)
+                other.status()
+                left = iter([pagelog.ConnectionLost("nothing was sent")] * cuts)
+
+                def cut(call: Callable[..., Any]) -> Callable[..., Any]:
+                    def called(*arguments: Any, **named: Any) -> Any:
+                        for error in left:
+                            raise error
+                        return call(*arguments, **named)
+
+                    return called
+
+                status, failover = pagelog.Operator.status, pagelog.Operator.failover
+                with (
+                    patch.object(pagelog.Operator, "status", cut(status)),
+                    patch.object(pagelog.Operator, "failover", cut(failover)),
+                ):
+                    self.assertRaises(pagelog.OlderEpoch, self.commit, writer, b"2")
+                self.assertIsNone(next(left, None))
+                other.append(put(0, b"other"))
+                other.commit()
+
 
 class NarrowWriters(Named):
     table = NARROW_TABLE

@@ -460,26 +460,33 @@ class Pages(Paged):
             eventually(lambda: pages.ask().connections == 0, "the end of all connections")
 
     def test_where_there_is_no_room_who_was_silent_longest_ends_for_who_comes(self) -> None:
-        log = Log(5, 8)
+        for number in range(3):  # of two threads one has two of the three
+            with self.subTest(number=number):
+                self.makes_room(number)
+
+    def makes_room(self, number: int) -> None:
         pages = self.start("--connections", "3", "--silent", "1", "--workers", "2")
-        self.feed(pages, log, 5)
-        busy, first, last = (
-            self.enterContext(
-                closing(socket.create_connection(self.split(pages.address), PATIENCE))
+        self.addCleanup(pages.end)
+        with ExitStack() as stack:
+            connected = (
+                socket.create_connection(self.split(pages.address), PATIENCE) for _ in range(3)
             )
-            for _ in range(3)
-        )
-        for line in (first, *[busy] * 100, last):  # not all within a millisecond
-            self.assertEqual(self.position_told(line), 5)
+            lines = [stack.enter_context(closing(line)) for line in connected]
+            for line in lines:
+                self.assertEqual(self.position_told(line), 0)
+            silent = lines.pop(number)
 
-        def has_room() -> bool:
-            self.assertEqual(self.position_told(busy), 5)
-            with closing(socket.create_connection(self.split(pages.address), PATIENCE)) as another:
-                return self.position_told(another) == 5
+            def has_room() -> bool:
+                for line in lines:
+                    self.assertEqual(self.position_told(line), 0)
+                another = socket.create_connection(self.split(pages.address), PATIENCE)
+                with closing(another):
+                    return self.position_told(another) == 0
 
-        eventually(has_room, "that one ends for who comes")
-        self.assertIsNone(self.position_told(first))
-        self.assertEqual([self.position_told(line) for line in (busy, last)], [5, 5])
+            eventually(has_room, "that one ends for who comes")
+            self.assertIsNone(self.position_told(silent))
+            self.assertEqual([self.position_told(line) for line in lines], [0, 0])
+        pages.end()
 
     @staticmethod
     def position_told(line: socket.socket) -> int | None:

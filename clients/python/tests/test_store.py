@@ -370,6 +370,12 @@ class Moves(Stored):
         self.assertEqual(version(), before)
         self.assertTrue(idle.step())
         self.assertNotEqual(version(), before)
+        while idle.step():
+            pass
+        before = version()
+        with patch("pagelog.store.mover.BELIEVED", 0.0):  # the server may have led long ago
+            self.assertFalse(idle.step())
+        self.assertNotEqual(version(), before)
 
     def test_another_zstd_makes_other_bytes_which_have_another_key(self) -> None:
         self.write(100)

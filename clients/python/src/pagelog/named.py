@@ -92,6 +92,8 @@ class NamedPrimary(Following):
         """Whether it may write pages of a SQLite database, or has written, and so seen that there is none."""
         self._primary: Primary | None = None
         self._epoch: int | None = None
+        self._may_have_begun = True
+        """Whether the newest epoch may be of a failover of its own whose reply was lost."""
         """The epoch that this writer has begun last, in the generation of its place; None once something was lost."""
         self._told = 0
         """The highest position that a commit has returned, if it is not known to be lost."""
@@ -273,6 +275,7 @@ class NamedPrimary(Following):
         deadline, waits = time.monotonic() + self.keepers.patience, Backoff(QUICKEST, SLOWEST)
         denial = error if isinstance(error, _DENIED) else None
         newest, may_stay = before, denial is None
+        self._may_have_begun = denial is None
         while True:
             place = self.keepers.place() if self.place is None else self.keepers.after(self.place)
             is_next = place.generation > before
@@ -283,9 +286,10 @@ class NamedPrimary(Following):
             # Where its keeper has closed it, the next generation comes; if it does not, the keeper was killed, and its next instance opens it.
             may_begin = is_next or (may_stay and before != self._over)
             if may_begin and not self._is_of_another_run(place):
-                denial = None  # the newest epoch may be its own, whose reply was lost
                 if self._is_settled(place):
                     return
+                if self._may_have_begun:
+                    denial = None  # the newest epoch may be its own, whose reply was lost
             may_stay = True
             if time.monotonic() > deadline:
                 if error is not None and not isinstance(error, _DENIED):
@@ -498,9 +502,15 @@ class NamedPrimary(Following):
             while True:
                 try:
                     self._epoch = operator.failover(credentials.id, epoch=known)
+                    self._may_have_begun = True
                     break
+                except InDoubt:
+                    self._may_have_begun = True
+                    raise
                 except OlderEpoch as error:
-                    if operator.status().primary not in (KEEPER, credentials.id):
+                    primary = operator.status().primary
+                    may_be_own = primary == credentials.id and self._may_have_begun
+                    if primary != KEEPER and not may_be_own:
                         raise
                     known = error.epoch
 

@@ -8,6 +8,7 @@ SHA-256, within the statement: a mover that stood still while PostgreSQL went ba
 from __future__ import annotations
 
 import struct
+import time
 import uuid
 import zlib
 from dataclasses import dataclass, field
@@ -33,6 +34,8 @@ BLOCKS = 131_072
 """Blocks of one object at most."""
 CLEARED = 300
 """Rows that one statement deletes, so that no commit waits for many."""
+BELIEVED = 60.0
+"""Seconds for which a server is believed that nothing is to be moved: one that leads no more may say so for ever, but cannot write."""
 _READ, _BYTES = 8192, 2 << 20
 """How many blocks are read at once, and how many bytes of them."""
 _RUN = f"""
@@ -110,6 +113,8 @@ class Mover:
         """What was encoded last: usually it is put next."""
         self._each = 1024.0
         """Bytes of a block, about."""
+        self._wrote = float("-inf")
+        """When a server last showed by a statement that writes how far the database is moved."""
         self.done = MoverTally()
         self.images = PackMover(self._ask, store, self._identity, passing, level)
 
@@ -146,10 +151,12 @@ class Mover:
     # Seal: a row says what is to be put. The blocks are in PostgreSQL.
 
     def _seal(self) -> bool:
-        seen = self._ask(tables.SEEN, age=self._settings.age)
+        is_believed = time.monotonic() - self._wrote < BELIEVED
+        seen = self._ask(tables.SEEN, age=self._settings.age) if is_believed else []
         if seen and not self._is_due(seen[0]):
             return False  # an idle database's row is not written
         found = self._ask(tables.MOVED, age=self._settings.age)
+        self._wrote = time.monotonic()
         if not found:
             return bool(self._ask(tables.BEGIN, folder=self._folder))
         if not self._is_due(found[0]):
