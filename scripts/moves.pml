@@ -159,28 +159,18 @@ end:
 
 /* ---- Positions ---- */
 
-// pagelog_move.c: carried
-                    // return is_none(lsn) ? lsn : pagelog_lsn_in(to, pagelog_position_in(from, lsn));
-// pagelog_move.c: carry
-                    // file->mark.lsn = carried(file->mark.lsn, from, to);
-                    // ..
 // pagelog_move.c: enter
                     // ..
-                    // carry(file, named->place.shift, place->shift);
+                    // pagelog_blocks_shift(file->blocks, named->place.shift - place->shift);
                     // ..
                     // named->place = *place;
+                    // file->source.shift = place->shift;
                     // ..
                     // named->has_place = named->is_between = true;
                     // ..
                     // pagelog_become_follower(file);
                     // ..
-#ifdef FORGETS_THE_SHIFT
-#define CARRIED(p) mark
-#else
-#define CARRIED(p) (mark == 0 || mark + shift[gen] < shift[p] -> 0 : mark + shift[gen] - shift[p])
-#endif
 inline enter(p) {
-    mark = CARRIED(p);
 #ifdef FORGETS_THE_TAIL
     first = next;
 #endif
@@ -188,8 +178,14 @@ inline enter(p) {
     is_writer = 0
 }
 
-/* The position of the transaction that is read. */
+/* The position of the transaction that is read, and what is kept of it. */
+#ifdef FORGETS_THE_SHIFT
 #define READ (mark + shift[gen])
+#define KEPT(p) ((p) - shift[gen])
+#else
+#define READ mark
+#define KEPT(p) (p)
+#endif
 #define IS_READABLE(g, p) ((p) > 0 && (p) <= hard[g] && ((p) >= base[g] || shift[g] == 0))
 
 /* ---- The tail: blocks at positions from `first` on, and before `next` ---- */
@@ -318,7 +314,7 @@ inline learn_end() {
 /* The first position of the tail that the log lacks or has another block at. */
 // pagelog_move.c: compare_with_base
                     // ..
-                    // return !is_none(own.lsn) && pagelog_is_same_mark(&own, &found) ? PAGELOG_DONE : PAGELOG_IN_DOUBT;
+                    // return !is_none(own.position) && pagelog_is_same_mark(&own, &found) ? PAGELOG_DONE : PAGELOG_IN_DOUBT;
 // pagelog_move.c: compare_tail
                     // ..
                     // *differs = first;
@@ -393,12 +389,12 @@ inline look_after_own() {
 
 // pagelog_move.c: find_transaction
                     // ..
-                    // struct pagelog_position position = position_of(file, file->mark.lsn);
-                    // bool is_below = is_before(position, named->place.base) && named->place.shift != 0;
-                    // if (is_none(file->mark.lsn) || is_before(hard, file->mark.lsn) || is_below)
+                    // bool is_below = is_before(file->mark.position, named->place.base) && named->place.shift != 0;
+                    // bool is_none_here = is_none(lsn_of(file, file->mark.position)) || is_below;
+                    // if (is_none_here || is_before(hard, file->mark.position))
                     // give_up_transaction(file);
                     // return PAGELOG_DONE;
-                    // enum pagelog_outcome outcome = mark_at(file, file->mark.lsn, &found);
+                    // enum pagelog_outcome outcome = mark_at(file, file->mark.position, &found);
                     // if (outcome == PAGELOG_DONE && !pagelog_is_same_mark(&found, &file->mark)) give_up_transaction(file);
                     // return outcome;
 inline find_transaction() {
@@ -413,7 +409,7 @@ inline find_transaction() {
 // pagelog_move.c: send_again
                     // ..
                     // pagelog_take_over(file->log, options->operator_principal, options->operator_token, status->epoch);
-                    // if (outcome == PAGELOG_DONE && !is_at(end_of(file), hard_of(status))) outcome = PAGELOG_LOST;
+                    // if (outcome == PAGELOG_DONE && !is_at(end_of(file), hard_of(file, status))) outcome = PAGELOG_LOST;
                     // if (outcome == PAGELOG_DONE) outcome = send_rest(file);
                     // if (outcome != PAGELOG_DONE) return outcome;
                     // if (!is_writer(file)) pagelog_stand(file, WRITING);
@@ -594,7 +590,7 @@ inline move(why) {
                     // return true;
 // pagelog_durable.c: pagelog_hold_pulled
                     // ..
-                    // bool is_held = !pagelog_tail_is_empty(tail) && is_before(position_of(file, lsn), tail->next);
+                    // bool is_held = !pagelog_tail_is_empty(tail) && is_before(now, tail->next);
                     // bool is_good = is_held || hold(
                     // ..
 inline follow() {
@@ -611,14 +607,14 @@ inline follow() {
     od;
     i = 0;
     is_writer = is_writer && owner[gen] == ME && hard[gen] == READ;
-    mark = hard[gen] - shift[gen]; read = AT(gen, hard[gen]);
+    mark = KEPT(hard[gen]); read = AT(gen, hard[gen]);
     is_gone = 0; is_over = 0
 }
 
 /* It looks at the end once more when it has begun the epoch. */
 // pagelog_named.c: become_writer
                     // ..
-                    // if (outcome == PAGELOG_DONE) outcome = compare_newest(file, PAGELOG_SECONDARY, hard_of(&status));
+                    // if (outcome == PAGELOG_DONE) outcome = compare_newest(file, PAGELOG_SECONDARY, hard_of(file, &status));
                     // bool is_let_in = outcome == PAGELOG_DONE;
                     // if (outcome == PAGELOG_DONE)
                     // outcome = pagelog_take_over(file->log, options->operator_principal, options->operator_token, 0);
@@ -631,10 +627,11 @@ inline follow() {
 // pagelog_named.c: take_hand_over
                     // ..
                     // pagelog_become_follower(file);
+                    // struct pagelog_position from = begin_of_pull(file, file->next);
                     // enum pagelog_outcome outcome = pagelog_hand_over(
                     // ..
                     // if (outcome == PAGELOG_DONE) outcome = pagelog_take_pulled(file, &pulled);
-                    // if (outcome != PAGELOG_DONE || !is_at(file->mark.lsn, end_of(file))) return false;
+                    // if (outcome != PAGELOG_DONE || !is_at(file->mark.position, end_of(file))) return false;
                     // pagelog_stand(file, WRITING);
                     // ..
 #ifdef TAKES_OVER_UNREAD
@@ -714,7 +711,7 @@ inline end_append() {
            settled = gen;
            told = (IS_EMPTY -> told : next - 1); own = (IS_EMPTY -> own : next - 1);
            acknowledged[made] = 1;
-           mark = place_of[made] - shift[gen]; read = made; is_gone = 0
+           mark = KEPT(place_of[made]); read = made; is_gone = 0
         :: outcome != DONE ->
 #ifndef KEEPS_WHAT_FAILED
            n = told + 1; tail_cut(n); n = 0;
@@ -922,7 +919,7 @@ end:
                     // return file->options.durable_only && !file->options.at ? hurry(file) : PAGELOG_DONE;
 // pagelog_named.c: limit
                     // ..
-                    // return file->options.durable_only ? lsn_of(file, file->source.named->durable) : no_limit;
+                    // return file->options.durable_only ? file->source.named->durable : no_limit;
 #ifdef SEES_WHAT_IS_NOT_DURABLE
 #define LIMIT LAST
 #else

@@ -670,10 +670,10 @@ inline take_over_any() {
                     // ..
                     // enum pagelog_outcome outcome = pagelog_take_mark(file, end_of(file));
                     // if (outcome == PAGELOG_DONE && !is_none(file->doubted)) outcome = look_for_doubted(file);
-                    // while (outcome == PAGELOG_DONE && !is_none(file->torn) && !is_before(file->mark.lsn, file->torn) &&
+                    // while (outcome == PAGELOG_DONE && !is_none(file->torn) && !is_before(file->mark.position, file->torn) &&
                     // file->mark.session == file->session)
                     // ..
-                    // outcome = pagelog_take_mark(file, last_before(file->mark.lsn));
+                    // outcome = pagelog_take_mark(file, last_before(file->mark.position));
                     // ..
 #ifdef FORGETS_WHAT_IS_TORN
 #define IS_NOT_WHOLE (!HAS_MARK(content[mark]))
@@ -686,9 +686,9 @@ inline take_over_any() {
 /* A page at an LSN of the log stays what it is. A writer that is fenced by this read goes on as a follower. */
 // pagelog_repair.c: pagelog_recover
                     // enum pagelog_outcome outcome = pagelog_take_whole(file);
-                    // if (outcome == PAGELOG_DONE && is_writer(file) && is_before(file->mark.lsn, end_of(file)))
+                    // if (outcome == PAGELOG_DONE && is_writer(file) && is_before(file->mark.position, end_of(file)))
                     // outcome = pagelog_repair(file);
-                    // if (outcome == PAGELOG_DONE) file->torn = file->doubted = (struct pagelog_lsn){0};
+                    // if (outcome == PAGELOG_DONE) file->torn = file->doubted = (struct pagelog_position){0};
                     // ..
 inline recover() {
     decide(_pid, mine);
@@ -767,7 +767,7 @@ inline renew() {
 // pagelog_file.c: check_epoch
                     // ..
                     // enum pagelog_outcome outcome = pagelog_status(file->log, PAGELOG_PRIMARY, &status);
-                    // if (outcome != PAGELOG_DONE || is_at(hard_of(&status), file->mark.lsn)) return outcome;
+                    // if (outcome != PAGELOG_DONE || is_at(hard_of(file, &status), file->mark.position)) return outcome;
                     // outcome = pagelog_recover(file);
                     // bool is_ended = !pagelog_is_stuck(file->log);
                     // if (!is_ended && is_writer(file)) pagelog_stand(file, BROKEN);
@@ -812,12 +812,12 @@ inline find_mark() {
                     // ..
                     // for (size_t i = 0; i < blocks && blocks > 1 && outcome == PAGELOG_DONE; i++)
                     // ..
-                    // outcome = compare_pages(file, role, lsn, pages.numbers + i, count);
+                    // outcome = compare_pages(file, role, position, pages.numbers + i, count);
                     // ..
-                    // if (outcome == PAGELOG_CONFLICT) file->torn = first_lsn_of(file->blocks);
+                    // if (outcome == PAGELOG_CONFLICT) file->torn = first_of_blocks(file);
                     // return outcome;
 // pagelog_addressed.c: settle_by_blocks
-                    // enum pagelog_outcome outcome = pagelog_find_blocks(file, role_of(file), mark->lsn);
+                    // enum pagelog_outcome outcome = pagelog_find_blocks(file, role_of(file), mark->position);
                     // if (outcome == PAGELOG_DONE) return outcome;
                     // if (outcome == PAGELOG_CONFLICT)
                     // return pagelog_file_fail(file, PAGELOG_IN_DOUBT
@@ -842,7 +842,7 @@ inline settle_by_blocks() {
 // pagelog_addressed.c: settle_doubt
                     // ..
                     // if (!options->has_operator) return PAGELOG_IN_DOUBT;
-                    // file->doubted = mark->lsn;
+                    // file->doubted = mark->position;
                     // enum pagelog_outcome outcome = pagelog_take_over(
                     // file->log, options->operator_principal, options->operator_token, pagelog_writing_epoch(file->log));
                     // bool is_fenced = outcome == PAGELOG_FENCED && !pagelog_is_restarted(file->log);
@@ -853,7 +853,7 @@ inline settle_by_blocks() {
                     // if (outcome == PAGELOG_DONE) outcome = settle_by_blocks(file, mark, &refused);
                     // if (outcome == PAGELOG_IN_DOUBT) return outcome;
                     // if (outcome == PAGELOG_DONE || outcome == PAGELOG_CONFLICT) file->doubted.number = 0;
-                    // bool has_gone_on = outcome == PAGELOG_DONE && !is_fenced && !is_at(end_of(file), mark->lsn);
+                    // bool has_gone_on = outcome == PAGELOG_DONE && !is_fenced && !is_at(end_of(file), mark->position);
                     // if (has_gone_on && is_writer(file)) pagelog_stand(file, BROKEN);
                     // if (outcome == PAGELOG_DONE) return PAGELOG_DONE;
                     // if (outcome != PAGELOG_CONFLICT) return pagelog_restore(file->log, PAGELOG_IN_DOUBT, &refused);
@@ -974,10 +974,9 @@ inline end_commit() {
 /* Undoes the block that has no end mark after it. If a begin has failed it begins again; if an open has, it stops. */
 // pagelog_repair.c: pagelog_repair
                     // ..
-                    // struct pagelog_lsn end = end_of(file);
-                    // struct pagelog_position position = position_of(file, end);
+                    // struct pagelog_position end = end_of(file);
                     // ..
-                    // restart_at(file->blocks, next_of(end));
+                    // restart_at(file, file->blocks, next_of(end));
                     // ..
                     // if (outcome == PAGELOG_DONE) outcome = pagelog_append_ended(file);
                     // if (outcome != PAGELOG_DONE) return outcome;

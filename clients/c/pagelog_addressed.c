@@ -15,9 +15,9 @@ static enum pagelog_outcome look_at_mark(struct pagelog_file *file) {
     if (!*file->name) return PAGELOG_DONE;
     enum pagelog_outcome outcome = pagelog_status(file->log, PAGELOG_SECONDARY, &status);
     if (outcome == PAGELOG_DONE)
-        outcome = get_at(file, PAGELOG_SECONDARY, hard_of(&status), &number, 1, page);
-    if (outcome == PAGELOG_DONE && pagelog_is_foreign(file, page, hard_of(&status)))
-        return pagelog_refuse_foreign(file, PAGELOG_SECONDARY, page, hard_of(&status));
+        outcome = get_at(file, PAGELOG_SECONDARY, hard_of(file, &status), &number, 1, page);
+    if (outcome == PAGELOG_DONE && pagelog_is_foreign(file, page, hard_of(file, &status)))
+        return pagelog_refuse_foreign(file, PAGELOG_SECONDARY, page, hard_of(file, &status));
     if (outcome == PAGELOG_DONE && pagelog_is_misnamed(file, page)) return pagelog_refuse_name(file, page);
     return outcome == PAGELOG_DENIED ? PAGELOG_DONE : outcome;
 }
@@ -44,8 +44,8 @@ static enum pagelog_outcome open_reader(struct pagelog_file *file) {
     if (outcome != PAGELOG_DONE) return outcome;
     file->checked = asked;
     file->is_checked = true;
-    struct pagelog_lsn at = {file->options.at};
-    return pagelog_take_mark(file, is_none(at) ? hard_of(&status) : at);
+    struct pagelog_position at = {file->options.at};
+    return pagelog_take_mark(file, is_none(at) ? hard_of(file, &status) : at);
 }
 
 /* Another writer has begun an epoch right after this one, or in its place: it opens all the same, as one that
@@ -97,7 +97,7 @@ static enum pagelog_outcome take_over(struct pagelog_file *file, uint32_t operat
 
 static enum pagelog_outcome get(struct pagelog_file *file, struct pagelog_position position,
                                 struct wanted wanted, uint8_t *out) {
-    return pagelog_fetch_here(file, lsn_of(file, position), wanted, out);
+    return pagelog_fetch_here(file, position, wanted, out);
 }
 
 static const uint8_t *copied(struct pagelog_file *file, const uint32_t *pages, size_t count) {
@@ -105,14 +105,14 @@ static const uint8_t *copied(struct pagelog_file *file, const uint32_t *pages, s
     return NULL;
 }
 
-static enum pagelog_outcome pull(struct pagelog_file *file, struct pagelog_lsn from,
+static enum pagelog_outcome pull(struct pagelog_file *file, struct pagelog_position from,
                                  struct pagelog_reply *pulled) {
     return pull_from(file, from, PAGELOG_PULL_BLOCKS, pulled);
 }
 
-static struct pagelog_lsn limit(const struct pagelog_file *file) {
+static struct pagelog_position limit(const struct pagelog_file *file) {
     (void)file;
-    return (struct pagelog_lsn){UINT64_MAX};
+    return (struct pagelog_position){UINT64_MAX};
 }
 
 static void note_pulled(struct pagelog_file *file, const struct mark *mark) {
@@ -128,7 +128,7 @@ static enum pagelog_outcome find_mark(struct pagelog_file *file, enum pagelog_ro
     uint8_t page[PAGELOG_PAGE_BYTES];
     const uint32_t number = MARK_PAGE;
     struct mark found;
-    enum pagelog_outcome outcome = get_at(file, role, mark->lsn, &number, 1, page);
+    enum pagelog_outcome outcome = get_at(file, role, mark->position, &number, 1, page);
     bool ends_before = outcome == PAGELOG_DENIED && pagelog_refused(file->log)->section == 3 &&
                        pagelog_refused(file->log)->row == 1 && !pagelog_is_restarted(file->log);
     if (ends_before) return PAGELOG_CONFLICT;
@@ -140,7 +140,7 @@ static enum pagelog_outcome find_mark(struct pagelog_file *file, enum pagelog_ro
 /* A commit in doubt whose end mark is in the log: it is done if all of its blocks are. */
 static enum pagelog_outcome settle_by_blocks(struct pagelog_file *file, const struct mark *mark,
                                              const struct pagelog_reply *refused) {
-    enum pagelog_outcome outcome = pagelog_find_blocks(file, role_of(file), mark->lsn);
+    enum pagelog_outcome outcome = pagelog_find_blocks(file, role_of(file), mark->position);
     if (outcome == PAGELOG_DONE) return outcome;
     if (outcome == PAGELOG_CONFLICT)
         return pagelog_file_fail(
@@ -156,7 +156,7 @@ static enum pagelog_outcome settle_doubt(struct pagelog_file *file, const struct
     struct pagelog_reply refused = *pagelog_refused(file->log);
     enum pagelog_outcome cause = pagelog_outcome_of(&refused);
     if (!options->has_operator) return PAGELOG_IN_DOUBT;
-    file->doubted = mark->lsn;
+    file->doubted = mark->position;
     enum pagelog_outcome outcome = pagelog_take_over(
         file->log, options->operator_principal, options->operator_token, pagelog_writing_epoch(file->log));
     bool is_fenced = outcome == PAGELOG_FENCED && !pagelog_is_restarted(file->log);
@@ -167,7 +167,7 @@ static enum pagelog_outcome settle_doubt(struct pagelog_file *file, const struct
     if (outcome == PAGELOG_IN_DOUBT) return outcome;
     if (outcome == PAGELOG_DONE || outcome == PAGELOG_CONFLICT) file->doubted.number = 0;
     /* Where a failover's reply was lost, another writer may have gone on from there before this epoch. */
-    bool has_gone_on = outcome == PAGELOG_DONE && !is_fenced && !is_at(end_of(file), mark->lsn);
+    bool has_gone_on = outcome == PAGELOG_DONE && !is_fenced && !is_at(end_of(file), mark->position);
     if (has_gone_on && is_writer(file)) pagelog_stand(file, BROKEN);
     if (outcome == PAGELOG_DONE) return PAGELOG_DONE;
     if (outcome != PAGELOG_CONFLICT) return pagelog_restore(file->log, PAGELOG_IN_DOUBT, &refused);

@@ -17,7 +17,7 @@ _Static_assert(1 << MOST_MISSES == MOST_AHEAD, "as many as there is room for");
 /* A page that was asked for ahead. It may have come late: after a commit, or where the file is shorter. */
 void pagelog_take_page(void *argument, uint64_t lsn, uint32_t page, const uint8_t *bytes) {
     struct pagelog_file *file = argument;
-    if (lsn != file->mark.lsn.number || page > pages_of(file->least)) return;
+    if (lsn != lsn_of(file, file->mark.position).number || page > pages_of(file->least)) return;
     struct pagelog_frame *frame = pagelog_cache_make(file->cache, page);
     if (!frame || frame->has_base) return;
     memcpy(frame->base, bytes, PAGELOG_PAGE_BYTES);
@@ -67,6 +67,11 @@ static size_t place_of(const struct expected *expected, uint32_t page) {
 
 /* ---- What is asked for ---- */
 
+/* Whether a page of the transaction that is read is on its way. */
+static bool is_on_its_way(const struct pagelog_file *file, uint32_t page) {
+    return pagelog_is_ahead(file->log, lsn_of(file, file->mark.position).number, page);
+}
+
 /* How many pages are asked for with one that is missing: more where page after page is. */
 static uint32_t pages_in_run(struct pagelog_file *file, bool follows) {
     size_t most = pagelog_cache_most(file->cache) / SHARE_AHEAD;
@@ -114,7 +119,7 @@ static uint32_t add_run(struct pagelog_file *file, uint32_t wanted, uint32_t loo
          looked--, file->next_run++) {
         bool is_there =
             page == pages[0] || page > pages_of(file->least) || pagelog_cache_has(file->cache, page);
-        if (!is_there && !pagelog_is_ahead(file->log, file->mark.lsn.number, page)) pages[count++] = page;
+        if (!is_there && !is_on_its_way(file, page)) pages[count++] = page;
     }
     return count;
 }
@@ -123,7 +128,7 @@ static uint32_t add_run(struct pagelog_file *file, uint32_t wanted, uint32_t loo
  * for alone, while half of what was asked for is still to come. */
 static uint32_t choose_pages(struct pagelog_file *file, uint32_t page, uint64_t now,
                              uint32_t pages[1 + MOST_AHEAD]) {
-    bool is_ahead = pagelog_is_ahead(file->log, file->mark.lsn.number, page);
+    bool is_ahead = is_on_its_way(file, page);
     pages[0] = page;
     if (is_ahead && 2 * pagelog_count_ahead(file->log) > file->asked) return 1;
     size_t place = place_of(&file->expected, page);
@@ -163,7 +168,7 @@ static enum pagelog_outcome keep_page(struct pagelog_file *file, uint32_t page, 
 static bool copy_pages(struct pagelog_file *file, const uint32_t *pages, size_t count, uint64_t began,
                        enum pagelog_outcome *outcome) {
     size_t asked = count < PAGELOG_COPY_PAGES ? count : PAGELOG_COPY_PAGES;
-    if (pagelog_is_ahead(file->log, file->mark.lsn.number, pages[0])) return false;
+    if (is_on_its_way(file, pages[0])) return false;
     const uint8_t *copied = file->source.calls->copied(file, pages, asked);
     if (!copied) return false;
     note_wait(file, pagelog_now_ns() - began, asked, asked);
@@ -184,7 +189,7 @@ enum pagelog_outcome pagelog_fetch_page(struct pagelog_file *file, uint32_t page
     wanted.ahead = choose_pages(file, page, began, pages) - 1;
     enum pagelog_outcome outcome;
     if (copy_pages(file, pages, 1 + wanted.ahead, began, &outcome)) return outcome;
-    outcome = pagelog_fetch(file, file->mark.lsn, wanted, bytes);
+    outcome = pagelog_fetch(file, file->mark.position, wanted, bytes);
     if (outcome != PAGELOG_DONE) return outcome;
     struct pagelog_counts after = pagelog_counts_of(file->log);
     note_wait(file, pagelog_now_ns() - began, after.requests - before.requests,

@@ -46,7 +46,7 @@ static enum pagelog_outcome fetch_bases(struct commit *commit, size_t first) {
     uint8_t *bytes = malloc(count * PAGELOG_PAGE_BYTES);
     if (!bytes) return out_of_memory(commit->file);
     struct wanted wanted = {.pages = pages, .count = count};
-    enum pagelog_outcome outcome = pagelog_fetch(commit->file, commit->file->mark.lsn, wanted, bytes);
+    enum pagelog_outcome outcome = pagelog_fetch(commit->file, commit->file->mark.position, wanted, bytes);
     for (size_t i = 0; i < count && outcome == PAGELOG_DONE; i++) {
         memcpy(frames[i]->base, bytes + i * PAGELOG_PAGE_BYTES, PAGELOG_PAGE_BYTES);
         frames[i]->has_base = true;
@@ -111,7 +111,7 @@ static void keep(struct pagelog_file *file, const struct mark *mark, bool is_unw
     file->told_session = mark->session;
     file->has_name = file->has_name || *file->name;
     file->least = file->size;
-    file->next = next_of(mark->lsn);
+    file->next = next_of(mark->position);
     file->commits++;
 }
 
@@ -121,7 +121,8 @@ static struct mark next_mark(const struct pagelog_file *file) {
 
 /* Whether nothing differs from what was committed, where the first `blocks_before` blocks are of commits on
  * their way. Blocks that were appended already count too. */
-static bool is_nothing(const struct pagelog_file *file, struct pagelog_lsn end_before, size_t blocks_before) {
+static bool is_nothing(const struct pagelog_file *file, struct pagelog_position end_before,
+                       size_t blocks_before) {
     return pagelog_blocks_is_fresh(file->blocks) && pagelog_blocks_count(file->blocks) == blocks_before &&
            is_at(end_of(file), end_before) && file->size == file->mark.size;
 }
@@ -154,8 +155,8 @@ static enum pagelog_outcome send_last_blocks(struct pagelog_file *file, enum fat
 static enum pagelog_outcome send_changes(struct commit *commit, struct mark *mark, enum fate *fate) {
     struct pagelog_file *file = commit->file;
     size_t next = 0;
-    struct pagelog_lsn end = end_of(file);
-    if (file->on_their_way == 0) restart_at(file->blocks, next_of(end));
+    struct pagelog_position end = end_of(file);
+    if (file->on_their_way == 0) restart_at(file, file->blocks, next_of(end));
     size_t blocks = pagelog_blocks_count(file->blocks);
     enum pagelog_outcome outcome = add_old_pages(commit, &next);
     if (outcome == PAGELOG_DONE) outcome = add_fresh_pages(commit, next);
@@ -163,14 +164,12 @@ static enum pagelog_outcome send_changes(struct commit *commit, struct mark *mar
     *fate = NOTHING_DIFFERS;
     if (is_nothing(file, end, blocks)) return PAGELOG_DONE;
     outcome = pagelog_add_mark(file, mark);
-    struct pagelog_position position = position_of(file, mark->lsn); /* the append may move the file */
-    if (outcome == PAGELOG_DONE) outcome = send_last_blocks(file, fate);
-    mark->lsn = lsn_of(file, position);
-    return outcome;
+    return outcome == PAGELOG_DONE ? send_last_blocks(file, fate) : outcome;
 }
 
 /* What an outcome leaves behind for the next transaction. */
-static void note_failure(struct pagelog_file *file, enum pagelog_outcome outcome, struct pagelog_lsn end) {
+static void note_failure(struct pagelog_file *file, enum pagelog_outcome outcome,
+                         struct pagelog_position end) {
     if (pagelog_in_flight(file->log) > 0) pagelog_disconnect(file->log); /* blocks without an end */
     bool is_untouched = is_at(end_of(file), end) && !pagelog_is_stuck(file->log);
     file->source.calls->fall_back(file, outcome, !is_untouched || outcome == PAGELOG_IN_DOUBT);
@@ -215,7 +214,7 @@ static enum pagelog_outcome commit_changes(struct commit *commit) {
     struct pagelog_file *file = commit->file;
     struct mark mark = next_mark(file);
     enum fate fate = IN_THE_LOG;
-    struct pagelog_lsn end = end_of(file);
+    struct pagelog_position end = end_of(file);
     enum pagelog_outcome outcome = send_changes(commit, &mark, &fate);
     if (outcome == PAGELOG_IN_DOUBT) outcome = file->source.calls->settle_doubt(file, &mark);
     if (outcome != PAGELOG_DONE && file->on_their_way > 0) return lose(file, outcome);

@@ -123,13 +123,12 @@ static enum pagelog_outcome hold_before(struct pagelog_file *file) {
     struct pagelog_position known = higher_of(named->durable, named->place.archived);
     size_t length;
     if (pagelog_blocks_count(file->blocks) == 0) return PAGELOG_DONE;
-    struct pagelog_lsn lsn = lsn_in(pagelog_blocks_at(file->blocks, 0, &length));
-    struct pagelog_position position = position_of(file, lsn);
+    struct pagelog_position position = position_of_block(file, pagelog_blocks_at(file->blocks, 0, &length));
     known = higher_of(known, named->place.base);
     if (is_at(position, named->tail.next) || !is_before(next_of(known), position)) return PAGELOG_DONE;
     struct pagelog_reply pulled;
-    enum pagelog_outcome outcome = pull_from(file, last_before(lsn), 1, &pulled);
-    if (outcome == PAGELOG_DONE) pagelog_hold_pulled(file, last_before(lsn), &pulled);
+    enum pagelog_outcome outcome = pull_from(file, last_before(position), 1, &pulled);
+    if (outcome == PAGELOG_DONE) pagelog_hold_pulled(file, last_before(position), &pulled);
     return outcome;
 }
 
@@ -144,7 +143,7 @@ enum pagelog_outcome pagelog_hold_blocks(struct pagelog_file *file) {
     if (outcome == PAGELOG_DONE) outcome = hold_before(file);
     for (size_t i = 0; i < pagelog_blocks_count(file->blocks) && outcome == PAGELOG_DONE; i++) {
         const uint8_t *block = pagelog_blocks_at(file->blocks, i, &length);
-        struct pagelog_position position = position_of(file, lsn_in(block));
+        struct pagelog_position position = position_of_block(file, block);
         if (!pagelog_tail_add(&named->tail, position, block, length))
             outcome = pagelog_file_fail(file, PAGELOG_NO_MEMORY, "this process has no memory left");
     }
@@ -164,18 +163,17 @@ static bool hold(struct pagelog_file *file, struct pagelog_position position, co
 
 /* What no pull has served is a block without records. What was not held before, and is not held now, is sent
  * again by nobody, or by its writer. */
-void pagelog_hold_pulled(struct pagelog_file *file, struct pagelog_lsn from,
+void pagelog_hold_pulled(struct pagelog_file *file, struct pagelog_position from,
                          const struct pagelog_reply *pulled) {
     struct pagelog_tail *tail = &file->source.named->tail;
     size_t at = 0, length = 0;
     const uint8_t *block = pagelog_next_block(pulled, &at, &length);
     if (file->options.reads_only) return;
-    for (struct pagelog_lsn lsn = from; is_before(lsn, next_in(pulled)); lsn = next_of(lsn)) {
+    for (struct pagelog_position now = from; is_before(now, next_in(file, pulled)); now = next_of(now)) {
         static const uint8_t none[HEAD_BYTES];
-        bool is_served = block && is_at(lsn_in(block), lsn);
-        bool is_held = !pagelog_tail_is_empty(tail) && is_before(position_of(file, lsn), tail->next);
-        bool is_good = is_held || hold(file, position_of(file, lsn), is_served ? block : none,
-                                       is_served ? length : HEAD_BYTES);
+        bool is_served = block && is_at(position_of_block(file, block), now);
+        bool is_held = !pagelog_tail_is_empty(tail) && is_before(now, tail->next);
+        bool is_good = is_held || hold(file, now, is_served ? block : none, is_served ? length : HEAD_BYTES);
         if (!is_good) pagelog_tail_drop(tail, tail->next);
         if (is_served) block = pagelog_next_block(pulled, &at, &length);
     }
@@ -203,7 +201,7 @@ static enum pagelog_outcome hurry(struct pagelog_file *file) {
     struct pagelog_fate fate;
     if (pagelog_now() < named->hurried || !is_settled_here(named)) return PAGELOG_DONE;
     if (pagelog_status(file->log, PAGELOG_SECONDARY, &status) != PAGELOG_DONE) return PAGELOG_DONE;
-    struct pagelog_position end = position_of(file, hard_of(&status));
+    struct pagelog_position end = hard_of(file, &status);
     if (!is_before(named->durable, end)) return PAGELOG_DONE;
     enum pagelog_outcome outcome = pagelog_fate_at_once(named->keepers, &place, end, AT_ONCE_MS, &fate);
     if (outcome == PAGELOG_DONE) {

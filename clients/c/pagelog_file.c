@@ -74,7 +74,7 @@ enum pagelog_outcome pagelog_file_open(struct pagelog_file *file) {
 void pagelog_become_follower(struct pagelog_file *file) {
     pagelog_stand(file, FOLLOWING);
     file->is_checked = false;
-    file->next = next_of(file->mark.lsn);
+    file->next = next_of(file->mark.position);
     file->pending.length = 0;
 }
 
@@ -107,7 +107,7 @@ static enum pagelog_outcome renew(struct pagelog_file *file) {
 static enum pagelog_outcome check_epoch(struct pagelog_file *file) {
     struct pagelog_reply status;
     enum pagelog_outcome outcome = pagelog_status(file->log, PAGELOG_PRIMARY, &status);
-    if (outcome != PAGELOG_DONE || is_at(hard_of(&status), file->mark.lsn)) return outcome;
+    if (outcome != PAGELOG_DONE || is_at(hard_of(file, &status), file->mark.position)) return outcome;
     outcome = pagelog_recover(file);
     bool is_ended = !pagelog_is_stuck(file->log); /* the repair */
     if (!is_ended && is_writer(file)) pagelog_stand(file, BROKEN);
@@ -115,7 +115,7 @@ static enum pagelog_outcome check_epoch(struct pagelog_file *file) {
 }
 
 bool pagelog_has_gone_on(const struct pagelog_file *file) {
-    return file->on_their_way == 0 && !is_at(end_of(file), file->mark.lsn);
+    return file->on_their_way == 0 && !is_at(end_of(file), file->mark.position);
 }
 
 static bool is_due(const struct pagelog_file *file, uint64_t now) {
@@ -172,9 +172,8 @@ static enum pagelog_outcome out_of_memory(struct pagelog_file *file) {
     return pagelog_file_fail(file, PAGELOG_NO_MEMORY, "this process has no memory left");
 }
 
-enum pagelog_outcome pagelog_fetch(struct pagelog_file *file, struct pagelog_lsn lsn, struct wanted wanted,
-                                   uint8_t *out) {
-    struct pagelog_position position = position_of(file, lsn); /* the settling may move the file */
+enum pagelog_outcome pagelog_fetch(struct pagelog_file *file, struct pagelog_position position,
+                                   struct wanted wanted, uint8_t *out) {
     if (file->on_their_way > 0) {
         enum pagelog_outcome settled = pagelog_file_settle(file);
         if (settled != PAGELOG_DONE) return settled;
@@ -182,21 +181,21 @@ enum pagelog_outcome pagelog_fetch(struct pagelog_file *file, struct pagelog_lsn
     return file->source.calls->get(file, position, wanted, out);
 }
 
-static enum pagelog_outcome get(struct pagelog_file *file, struct pagelog_lsn lsn, struct wanted wanted,
-                                uint8_t *out) {
+static enum pagelog_outcome get(struct pagelog_file *file, struct pagelog_position position,
+                                struct wanted wanted, uint8_t *out) {
     enum pagelog_role role = role_of(file);
     size_t all = wanted.count + wanted.ahead;
-    return wanted.count == 1 ? pagelog_get_ahead(file->log, role, lsn.number, wanted.pages, all, out)
-                             : get_at(file, role, lsn, wanted.pages, wanted.count, out);
+    if (wanted.count != 1) return get_at(file, role, position, wanted.pages, wanted.count, out);
+    return pagelog_get_ahead(file->log, role, lsn_of(file, position).number, wanted.pages, all, out);
 }
 
-enum pagelog_outcome pagelog_fetch_here(struct pagelog_file *file, struct pagelog_lsn lsn,
+enum pagelog_outcome pagelog_fetch_here(struct pagelog_file *file, struct pagelog_position position,
                                         struct wanted wanted, uint8_t *out) {
-    enum pagelog_outcome outcome = get(file, lsn, wanted, out);
+    enum pagelog_outcome outcome = get(file, position, wanted, out);
     if (outcome == PAGELOG_FENCED && is_writer(file) && !pagelog_is_restarted(file->log)) {
         pagelog_become_follower(file);
         wanted.ahead = 0;
-        outcome = get(file, lsn, wanted, out);
+        outcome = get(file, position, wanted, out);
     }
     if (outcome == PAGELOG_DONE) file->pages_fetched += wanted.count;
     return outcome;

@@ -58,10 +58,9 @@ enum { REASON_BYTES = 2 * PAGELOG_NAME_BYTES + 64 };
  * blocks. */
 enum { IMAGE_EACH = 256 };
 
-/* What page 0 says: numbers of 8 bytes, the high one first, after a magic one. The bytes have a position
- * where this has an LSN of the run that the file is in. */
+/* What page 0 says: numbers of 8 bytes, the high one first, after a magic one. */
 struct mark {
-    struct pagelog_lsn lsn;
+    struct pagelog_position position;
     uint64_t size, session, transaction;
 };
 
@@ -115,13 +114,13 @@ struct pagelog_file {
     char noted[PAGELOG_RUN_BYTES]; /* the last run whose mark is not explained; whether that was not said yet
                                     */
     bool has_note;
-    struct pagelog_lsn torn;    /* from it on transactions are not whole until they are undone; 0: all are */
-    struct pagelog_lsn doubted; /* of the mark of a commit whose blocks are still to be looked for; 0: none */
+    struct pagelog_position torn; /* from it on transactions are not whole, until that is undone; 0: none */
+    struct pagelog_position doubted; /* of a mark whose transaction's blocks are to be looked for; 0: none */
     bool is_stale, is_foreign, is_misnamed;
     char name[PAGELOG_NAME_BYTES + 1]; /* of the options; empty: any */
     bool has_name;        /* page 0 has that after the mark: its length in a byte, and its bytes */
     uint64_t size, least; /* of the transaction: the size, and the least that it was since the last commit */
-    struct pagelog_lsn next; /* of a follower: where the next pull begins */
+    struct pagelog_position next; /* of a follower: where the next pull begins */
     struct pending pending;
     bool is_far;      /* so much was pulled without an end mark that it was not kept aside */
     uint64_t begun;   /* when the last begin was asked for */
@@ -204,50 +203,61 @@ static inline uint32_t pages_of(uint64_t size) {
     return (uint32_t)((size + PAGELOG_PAGE_BYTES - 1) / PAGELOG_PAGE_BYTES);
 }
 
-/* The position of an LSN of the run that the file is in, and back: 0 where it is before this run. */
+/* ---- The log of the run that the file is in ----
+ *
+ * Here the LSNs of the wire become positions, and positions LSNs. */
+
 static inline struct pagelog_position position_of(const struct pagelog_file *file, struct pagelog_lsn lsn) {
     return pagelog_position_in(file->source.shift, lsn);
 }
 
+/* 0 where it is before this run. */
 static inline struct pagelog_lsn lsn_of(const struct pagelog_file *file, struct pagelog_position position) {
     return pagelog_lsn_in(file->source.shift, position);
 }
 
-/* ---- The log, by the LSNs of the run that the file is in ---- */
-
-/* Where it ends, as far as is known; and as a status has said. */
-static inline struct pagelog_lsn end_of(const struct pagelog_file *file) {
-    return (struct pagelog_lsn){pagelog_end(file->log)};
+/* Where the log ends, as far as is known; and as a status has said. */
+static inline struct pagelog_position end_of(const struct pagelog_file *file) {
+    return position_of(file, (struct pagelog_lsn){pagelog_end(file->log)});
 }
 
-static inline struct pagelog_lsn hard_of(const struct pagelog_reply *status) {
-    return (struct pagelog_lsn){status->hard};
+static inline struct pagelog_position hard_of(const struct pagelog_file *file,
+                                              const struct pagelog_reply *status) {
+    return position_of(file, (struct pagelog_lsn){status->hard});
 }
 
 /* Of a block. */
-static inline struct pagelog_lsn lsn_in(const uint8_t *block) {
-    return (struct pagelog_lsn){pagelog_read_number(block, 8)};
+static inline struct pagelog_position position_of_block(const struct pagelog_file *file,
+                                                        const uint8_t *block) {
+    return position_of(file, (struct pagelog_lsn){pagelog_read_number(block, 8)});
 }
 
 /* As pagelog_get, pagelog_pull and pagelog_blocks_restart. */
 static inline enum pagelog_outcome get_at(struct pagelog_file *file, enum pagelog_role role,
-                                          struct pagelog_lsn lsn, const uint32_t *pages, size_t count,
-                                          uint8_t *out) {
-    return pagelog_get(file->log, role, lsn.number, pages, count, out);
+                                          struct pagelog_position position, const uint32_t *pages,
+                                          size_t count, uint8_t *out) {
+    return pagelog_get(file->log, role, lsn_of(file, position).number, pages, count, out);
 }
 
-static inline enum pagelog_outcome pull_from(struct pagelog_file *file, struct pagelog_lsn from, unsigned max,
-                                             struct pagelog_reply *pulled) {
-    return pagelog_pull(file->log, from.number, max, pulled);
+static inline enum pagelog_outcome pull_from(struct pagelog_file *file, struct pagelog_position from,
+                                             unsigned max, struct pagelog_reply *pulled) {
+    return pagelog_pull(file->log, lsn_of(file, from).number, max, pulled);
 }
 
-/* Where the next pull goes on. */
-static inline struct pagelog_lsn next_in(const struct pagelog_reply *pulled) {
-    return (struct pagelog_lsn){pulled->next};
+/* Where the next pull goes on; and where one may begin: not before the first block of the run. */
+static inline struct pagelog_position next_in(const struct pagelog_file *file,
+                                              const struct pagelog_reply *pulled) {
+    return position_of(file, (struct pagelog_lsn){pulled->next});
 }
 
-static inline void restart_at(struct pagelog_blocks *blocks, struct pagelog_lsn first) {
-    pagelog_blocks_restart(blocks, first.number);
+static inline struct pagelog_position begin_of_pull(const struct pagelog_file *file,
+                                                    struct pagelog_position from) {
+    return is_none(lsn_of(file, from)) ? position_of(file, (struct pagelog_lsn){1}) : from;
+}
+
+static inline void restart_at(const struct pagelog_file *file, struct pagelog_blocks *blocks,
+                              struct pagelog_position first) {
+    pagelog_blocks_restart(blocks, lsn_of(file, first).number);
 }
 
 /* Reads page 0, 8,192 bytes: false where it is neither an end mark nor all zeros. */
@@ -265,13 +275,13 @@ struct wanted {
     size_t count, ahead; /* ahead: 0 but where count is 1 */
 };
 
-/* Pages at an LSN, as the role that the file has. A writer that is fenced by it goes on as a secondary. Those
- * ahead come into the cache later. */
-enum pagelog_outcome pagelog_fetch(struct pagelog_file *file, struct pagelog_lsn lsn, struct wanted wanted,
-                                   uint8_t *out);
+/* Pages at a position, as the role that the file has. A writer that is fenced by it goes on as a secondary.
+ * Those ahead come into the cache later. */
+enum pagelog_outcome pagelog_fetch(struct pagelog_file *file, struct pagelog_position position,
+                                   struct wanted wanted, uint8_t *out);
 
 /* The same, in the generation that the file is in, and with nothing on its way. */
-enum pagelog_outcome pagelog_fetch_here(struct pagelog_file *file, struct pagelog_lsn lsn,
+enum pagelog_outcome pagelog_fetch_here(struct pagelog_file *file, struct pagelog_position position,
                                         struct wanted wanted, uint8_t *out);
 
 /* Fetches a page of the transaction that is read into the cache, and asks for others that will probably be
@@ -287,16 +297,17 @@ bool pagelog_is_misnamed(const struct pagelog_file *file, const uint8_t *page);
 /* Notes that the database has another name, which page 0 says, and returns MALFORMED. */
 enum pagelog_outcome pagelog_refuse_name(struct pagelog_file *file, const uint8_t *page);
 
-/* Whether page 0 at an LSN has what no file has there. */
-bool pagelog_is_foreign(const struct pagelog_file *file, const uint8_t *page, struct pagelog_lsn lsn);
+/* Whether page 0 at a position has what no file has there. */
+bool pagelog_is_foreign(const struct pagelog_file *file, const uint8_t *page,
+                        struct pagelog_position position);
 
-/* Notes that, and at which LSN the file was there last, if that is to be known, and returns MALFORMED. */
+/* Notes that, and where the file was there last, if that is to be known, and returns MALFORMED. */
 enum pagelog_outcome pagelog_refuse_foreign(struct pagelog_file *file, enum pagelog_role role,
-                                            const uint8_t *page, struct pagelog_lsn lsn);
+                                            const uint8_t *page, struct pagelog_position position);
 
-/* Takes the newest transaction at an LSN of the log for the one that is read; what is in the cache stays only
+/* Takes the newest transaction at a position for the one that is read; what is in the cache stays only
  * where it is the same. */
-enum pagelog_outcome pagelog_take_mark(struct pagelog_file *file, struct pagelog_lsn lsn);
+enum pagelog_outcome pagelog_take_mark(struct pagelog_file *file, struct pagelog_position position);
 
 /* Appends the blocks that were ended, and forgets them. */
 enum pagelog_outcome pagelog_append_ended(struct pagelog_file *file);
@@ -309,14 +320,14 @@ enum pagelog_outcome pagelog_append_here(struct pagelog_file *file);
 enum pagelog_outcome pagelog_append_full_group(struct pagelog_file *file);
 
 /* Adds the end mark to the blocks that are being made, as the last record of the last of them. `*mark` is
- * given its LSN. */
+ * given its position. */
 enum pagelog_outcome pagelog_add_mark(struct pagelog_file *file, struct mark *mark);
 
-/* Whether the blocks that were to be appended last are in the log up to this LSN, where that has their end
- * mark: DONE, or CONFLICT, where another session that has joined the epoch has its own in place of some. By
- * the pages, which every role may get. */
+/* Whether the blocks that were to be appended last are in the log up to this position, where that has their
+ * end mark: DONE, or CONFLICT, where another session that has joined the epoch has its own in place of some.
+ * By the pages, which every role may get. */
 enum pagelog_outcome pagelog_find_blocks(struct pagelog_file *file, enum pagelog_role role,
-                                         struct pagelog_lsn lsn);
+                                         struct pagelog_position position);
 
 /* Takes the newest whole transaction for the one that is read. */
 enum pagelog_outcome pagelog_take_whole(struct pagelog_file *file);

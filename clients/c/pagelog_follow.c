@@ -59,7 +59,7 @@ static enum pagelog_outcome take_block(struct pagelog_file *file, const uint8_t 
     }
     if (!file->is_far && !keep_aside(&file->pending, block, length))
         return pagelog_file_fail(file, PAGELOG_NO_MEMORY, "this process has no memory left");
-    file->next = next_of(lsn_in(block));
+    file->next = next_of(position_of_block(file, block));
     if (!pagelog_has_mark(file, block, &mark)) return PAGELOG_DONE;
     enum pagelog_outcome outcome = pagelog_check_pending(file, &mark);
     if (outcome != PAGELOG_DONE) return outcome;
@@ -74,25 +74,25 @@ static enum pagelog_outcome take_block(struct pagelog_file *file, const uint8_t 
 
 /* Where the log has gone far ahead, takes its newest transaction at once, and what is in memory no more.
  * `*until` is the end of the log, up to which the rest is to be pulled; 0 where nothing is. */
-static enum pagelog_outcome leap(struct pagelog_file *file, struct pagelog_lsn *until) {
+static enum pagelog_outcome leap(struct pagelog_file *file, struct pagelog_position *until) {
     struct pagelog_reply status;
     enum pagelog_outcome outcome = pagelog_status(file->log, PAGELOG_SECONDARY, &status);
-    struct pagelog_lsn end = lower_of(hard_of(&status), file->source.calls->limit(file));
+    struct pagelog_position end = lower_of(hard_of(file, &status), file->source.calls->limit(file));
     bool is_far = outcome == PAGELOG_DONE && !is_before(end, plus(file->next, FAR_BEHIND));
-    *until = is_far ? (struct pagelog_lsn){0} : end;
+    *until = is_far ? (struct pagelog_position){0} : end;
     return is_far ? pagelog_take_mark(file, end) : outcome;
 }
 
 enum pagelog_outcome pagelog_take_pulled(struct pagelog_file *file, const struct pagelog_reply *pulled) {
-    struct pagelog_lsn limit = file->source.calls->limit(file);
+    struct pagelog_position limit = file->source.calls->limit(file);
     size_t at = 0, length;
     const uint8_t *block;
     while ((block = pagelog_next_block(pulled, &at, &length))) {
-        if (is_before(limit, lsn_in(block))) return PAGELOG_DONE;
+        if (is_before(limit, position_of_block(file, block))) return PAGELOG_DONE;
         enum pagelog_outcome outcome = take_block(file, block, length);
         if (outcome != PAGELOG_DONE) return outcome;
     }
-    file->next = next_in(pulled);
+    file->next = next_in(file, pulled);
     return PAGELOG_DONE;
 }
 
@@ -100,13 +100,13 @@ enum pagelog_outcome pagelog_take_pulled(struct pagelog_file *file, const struct
  * what was committed before the begin is there. After a leap nothing is pulled, however far the log is said
  * to go on from that transaction. */
 enum pagelog_outcome pagelog_follow(struct pagelog_file *file) {
-    struct pagelog_lsn until = {UINT64_MAX};
+    struct pagelog_position until = {UINT64_MAX};
     if (is_before(file->source.calls->limit(file), file->next)) return PAGELOG_DONE;
     for (bool may_leap = true;;) {
         struct pagelog_reply pulled;
         enum pagelog_outcome outcome = file->source.calls->pull(file, file->next, &pulled);
         if (outcome == PAGELOG_DONE) outcome = pagelog_take_pulled(file, &pulled);
-        bool is_all_taken = outcome == PAGELOG_DONE && is_at(file->next, next_in(&pulled));
+        bool is_all_taken = outcome == PAGELOG_DONE && is_at(file->next, next_in(file, &pulled));
         if (!is_all_taken) return outcome; /* or it is at the limit */
         if (pulled.hard != 0 || pulled.count == 0 || is_before(until, file->next)) return PAGELOG_DONE;
         if (may_leap) outcome = leap(file, &until);

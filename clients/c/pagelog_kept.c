@@ -7,7 +7,6 @@
 struct pagelog_kept {
     struct pagelog_cache *cache;
     struct mark mark;                      /* of the transaction that they are of */
-    struct pagelog_position position;      /* where that ended, in whatever generation */
     char database[PAGELOG_IDENTITY_BYTES]; /* of a named one; else empty */
 };
 
@@ -22,7 +21,7 @@ static const char *database_of(const struct pagelog_file *file) {
 /* Whether what is in memory is the transaction of the mark, and that is in the log as far as is known. */
 static bool is_of_mark(const struct pagelog_file *file) {
     bool is_lost = file->standing == BROKEN || pagelog_is_restarted(file->log);
-    return file->reading == OPEN && !is_lost && file->on_their_way == 0 && !is_none(file->mark.lsn) &&
+    return file->reading == OPEN && !is_lost && file->on_their_way == 0 && !is_none(file->mark.position) &&
            database_of(file);
 }
 
@@ -38,8 +37,7 @@ struct pagelog_kept *pagelog_file_keep(struct pagelog_file *file, size_t most) {
         pagelog_cache_free(empty);
         return NULL;
     }
-    *kept = (struct pagelog_kept){
-        .cache = file->cache, .mark = file->mark, .position = position_of(file, file->mark.lsn)};
+    *kept = (struct pagelog_kept){.cache = file->cache, .mark = file->mark};
     strcpy(kept->database, database_of(file));
     file->cache = empty;
     return kept;
@@ -63,13 +61,13 @@ static bool goes_back(struct pagelog_file *file, const struct mark *wanted) {
     uint8_t page[PAGELOG_PAGE_BYTES];
     struct mark found;
     bool follows = options->reads_only && !options->at && !options->may_be_stale;
-    bool is_near =
-        is_before(wanted->lsn, file->mark.lsn) && distance(wanted->lsn, file->mark.lsn) < FAR_BEHIND;
+    bool is_near = is_before(wanted->position, file->mark.position) &&
+                   distance(wanted->position, file->mark.position) < FAR_BEHIND;
     if (!follows || !is_near) return false;
-    if (get_at(file, PAGELOG_SECONDARY, wanted->lsn, &number, 1, page) != PAGELOG_DONE) return false;
+    if (get_at(file, PAGELOG_SECONDARY, wanted->position, &number, 1, page) != PAGELOG_DONE) return false;
     if (!pagelog_read_mark(file, page, &found) || !pagelog_is_same_mark(&found, wanted)) return false;
     file->mark = found;
-    file->next = next_of(found.lsn);
+    file->next = next_of(found.position);
     file->pending.length = 0;
     file->size = file->least = found.size;
     file->told_session = 0;
@@ -78,13 +76,12 @@ static bool goes_back(struct pagelog_file *file, const struct mark *wanted) {
 }
 
 void pagelog_file_adopt(struct pagelog_file *file, struct pagelog_kept *kept) {
-    struct mark mark = kept->mark;
+    const struct mark *mark = &kept->mark;
     const char *database = database_of(file);
     bool is_own = database && strcmp(kept->database, database) == 0 &&
                   pagelog_cache_most(kept->cache) == pagelog_cache_most(file->cache);
-    mark.lsn = lsn_of(file, kept->position);
-    if (is_own && !is_none(mark.lsn) &&
-        (pagelog_is_same_mark(&mark, &file->mark) || goes_back(file, &mark))) {
+    bool is_there = is_own && !is_none(lsn_of(file, mark->position));
+    if (is_there && (pagelog_is_same_mark(mark, &file->mark) || goes_back(file, mark))) {
         pagelog_cache_free(file->cache);
         file->cache = kept->cache;
         kept->cache = NULL;

@@ -11,7 +11,7 @@ static const uint8_t magic[8] = {'p', 'l', 'f', 'i', 'l', 'e', '0', '1'};
 enum { MOST_ZEROS = PAGELOG_BLOCK_BYTES / PAGELOG_ZERO_BYTES };
 
 /* What the mark of page 0 says where it is. */
-static struct pagelog_position position_in(const uint8_t *page) {
+static struct pagelog_position position_said(const uint8_t *page) {
     return (struct pagelog_position){pagelog_read_number(page + sizeof magic, 8)};
 }
 
@@ -20,24 +20,23 @@ bool pagelog_read_mark(const struct pagelog_file *file, const uint8_t *page, str
     memset(mark, 0, sizeof *mark);
     if (memcmp(page, zeros, MARK_BYTES) == 0) return true;
     if (memcmp(page, magic, sizeof magic) != 0) return false;
-    struct pagelog_position position = position_in(page);
-    mark->lsn = lsn_of(file, position);
+    mark->position = position_said(page);
     mark->size = pagelog_read_number(page + 16, 8);
     mark->session = pagelog_read_number(page + 24, 8);
     mark->transaction = pagelog_read_number(page + 32, 8);
     if (mark->size > PAGELOG_FILE_MOST) return false;
     uint64_t least = ((uint64_t)pages_of(mark->size) + MOST_ZEROS - 1) / MOST_ZEROS;
-    return !is_none(mark->lsn) && position.number >= least; /* a block at each position */
+    return !is_none(lsn_of(file, mark->position)) && mark->position.number >= least;
 }
 
 bool pagelog_is_same_mark(const struct mark *one, const struct mark *other) {
-    return is_at(one->lsn, other->lsn) && one->session == other->session &&
+    return is_at(one->position, other->position) && one->session == other->session &&
            one->transaction == other->transaction;
 }
 
-static void write_mark(const struct pagelog_file *file, uint8_t *bytes, const struct mark *mark) {
+static void write_mark(uint8_t *bytes, const struct mark *mark) {
     memcpy(bytes, magic, sizeof magic);
-    uint8_t *at = pagelog_write_number(bytes + sizeof magic, position_of(file, mark->lsn).number, 8);
+    uint8_t *at = pagelog_write_number(bytes + sizeof magic, mark->position.number, 8);
     at = pagelog_write_number(at, mark->size, 8);
     at = pagelog_write_number(at, mark->session, 8);
     pagelog_write_number(at, mark->transaction, 8);
@@ -50,7 +49,7 @@ bool pagelog_has_mark(const struct pagelog_file *file, const uint8_t *block, str
     while (pagelog_records_next(&records, &record))
         last = record;
     return last.page == MARK_PAGE && last.offset == 0 && last.length == MARK_BYTES &&
-           pagelog_read_mark(file, last.bytes, mark) && mark->lsn.number == records.lsn;
+           pagelog_read_mark(file, last.bytes, mark) && lsn_of(file, mark->position).number == records.lsn;
 }
 
 /* Bytes of a Put's head. */
@@ -90,7 +89,7 @@ bool pagelog_is_misnamed(const struct pagelog_file *file, const uint8_t *page) {
     const struct pagelog_place *place = pagelog_file_place(file);
     if (!*file->name || page[NAME_PLACE] == 0 || has_name(page, file->name)) return false;
     if (!place || strcmp(file->name, file->source.name) != 0) return true;
-    bool is_copied = !is_before(place->copied, position_in(page));
+    bool is_copied = !is_before(place->copied, position_said(page));
     return !is_copied && !has_name(page, place->ancestor);
 }
 
@@ -128,9 +127,10 @@ enum pagelog_outcome pagelog_add_mark(struct pagelog_file *file, struct mark *ma
          adds_origin = pagelog_file_place(file) && (is_image || file->told_session != file->session);
     size_t before = (size_t)PAGELOG_ZERO_BYTES + (adds_name ? NAME : 0) + (adds_origin ? ORIGIN : 0);
     enum pagelog_outcome outcome = PAGELOG_DONE;
-    mark->lsn.number = pagelog_blocks_room(file->blocks, MARK_PAGE, (uint16_t)(before + MARK_BYTES));
-    if (is_none(mark->lsn)) return PAGELOG_NO_MEMORY;
-    write_mark(file, bytes, mark);
+    struct pagelog_lsn lsn = {pagelog_blocks_room(file->blocks, MARK_PAGE, (uint16_t)(before + MARK_BYTES))};
+    if (is_none(lsn)) return PAGELOG_NO_MEMORY;
+    mark->position = position_of(file, lsn);
+    write_mark(bytes, mark);
     if (is_image) outcome = pagelog_blocks_zero(file->blocks, MARK_PAGE);
     if (outcome == PAGELOG_DONE && adds_name) outcome = add_name(file);
     if (outcome == PAGELOG_DONE && adds_origin) outcome = pagelog_add_origin(file);
@@ -143,38 +143,39 @@ static bool is_untouched(const uint8_t *page) {
     return page[0] == 0 && memcmp(page, page + 1, PAGELOG_PAGE_BYTES - 1) == 0;
 }
 
-/* Reads page 0 at an LSN: false where it is not what a file has there. */
-static bool read_mark_at(const struct pagelog_file *file, const uint8_t *page, struct pagelog_lsn lsn,
-                         struct mark *mark) {
-    return pagelog_read_mark(file, page, mark) && !is_before(lsn, mark->lsn) &&
-           (!is_none(mark->lsn) || is_untouched(page));
+/* Reads page 0 at a position: false where it is not what a file has there. */
+static bool read_mark_at(const struct pagelog_file *file, const uint8_t *page,
+                         struct pagelog_position position, struct mark *mark) {
+    return pagelog_read_mark(file, page, mark) && !is_before(position, mark->position) &&
+           (!is_none(mark->position) || is_untouched(page));
 }
 
-bool pagelog_is_foreign(const struct pagelog_file *file, const uint8_t *page, struct pagelog_lsn lsn) {
+bool pagelog_is_foreign(const struct pagelog_file *file, const uint8_t *page,
+                        struct pagelog_position position) {
     struct mark mark;
-    return !read_mark_at(file, page, lsn, &mark);
+    return !read_mark_at(file, page, position, &mark);
 }
 
-/* The LSN of the last end mark before page 0 was written by another; 0 where that is not known. What is left
+/* Where the last end mark was before page 0 was written by another; 0 where that is not known. What is left
  * of the mark may still say it: then it is there. */
-static struct pagelog_lsn find_last_mark(struct pagelog_file *file, enum pagelog_role role,
-                                         const uint8_t *page, struct pagelog_lsn lsn) {
+static struct pagelog_position find_last_mark(struct pagelog_file *file, enum pagelog_role role,
+                                              const uint8_t *page, struct pagelog_position position) {
     uint8_t before[PAGELOG_PAGE_BYTES];
     const uint32_t number = MARK_PAGE;
     struct mark mark;
-    struct pagelog_lsn left = lsn_of(file, position_in(page));
-    if (!is_none(left) && is_before(left, lsn) &&
+    struct pagelog_position left = position_said(page);
+    if (!is_none(lsn_of(file, left)) && is_before(left, position) &&
         get_at(file, role, left, &number, 1, before) == PAGELOG_DONE &&
-        read_mark_at(file, before, left, &mark) && is_at(mark.lsn, left))
+        read_mark_at(file, before, left, &mark) && is_at(mark.position, left))
         return left;
-    return file->mark.lsn;
+    return file->mark.position;
 }
 
 static void explain_foreign(struct pagelog_file *file, enum pagelog_role role, const uint8_t *page,
-                            struct pagelog_lsn lsn) {
-    struct pagelog_lsn last = find_last_mark(file, role, page, lsn);
+                            struct pagelog_position position) {
+    struct pagelog_position last = find_last_mark(file, role, page, position);
     char at[24] = "LSN";
-    if (!is_none(last)) snprintf(at, sizeof at, "%llu", (unsigned long long)position_of(file, last).number);
+    if (!is_none(lsn_of(file, last))) snprintf(at, sizeof at, "%llu", (unsigned long long)last.number);
     snprintf(file->words, sizeof file->words,
              "page 0 was written by another client: this is no SQLite database; at=%s still reads what was "
              "before",
@@ -182,39 +183,38 @@ static void explain_foreign(struct pagelog_file *file, enum pagelog_role role, c
 }
 
 enum pagelog_outcome pagelog_refuse_foreign(struct pagelog_file *file, enum pagelog_role role,
-                                            const uint8_t *page, struct pagelog_lsn lsn) {
+                                            const uint8_t *page, struct pagelog_position position) {
     struct mark mark;
     file->is_foreign = true;
-    if (pagelog_read_mark(file, page, &mark) && is_before(lsn, mark.lsn))
+    if (pagelog_read_mark(file, page, &mark) && is_before(position, mark.position))
         snprintf(
             file->words, sizeof file->words,
             "page 0 says that a SQLite database ends at LSN %llu, above LSN %llu: the log is not its own",
-            (unsigned long long)mark.lsn.number, (unsigned long long)lsn.number);
+            (unsigned long long)lsn_of(file, mark.position).number,
+            (unsigned long long)lsn_of(file, position).number);
     else
-        explain_foreign(file, role, page, lsn);
+        explain_foreign(file, role, page, position);
     return pagelog_file_fail(file, PAGELOG_MALFORMED, file->words);
 }
 
-enum pagelog_outcome pagelog_take_mark(struct pagelog_file *file, struct pagelog_lsn lsn) {
+enum pagelog_outcome pagelog_take_mark(struct pagelog_file *file, struct pagelog_position position) {
     uint8_t page[PAGELOG_PAGE_BYTES];
     const uint32_t number = MARK_PAGE;
     struct mark mark;
-    struct pagelog_position position = position_of(file, lsn); /* the fetch may move the file */
     bool was_gone = is_gone(file);
     enum pagelog_outcome outcome =
-        pagelog_fetch(file, lsn, (struct wanted){.pages = &number, .count = 1}, page);
+        pagelog_fetch(file, position, (struct wanted){.pages = &number, .count = 1}, page);
     bool is_gone_now = is_gone(file) && !was_gone;
-    lsn = lsn_of(file, position);
     /* What was read before is not there, and is not asked for: another look may be had. */
     if (outcome == PAGELOG_LOST && is_gone_now) file->reason = NULL;
     if (outcome != PAGELOG_DONE) return outcome;
-    file->is_foreign = !read_mark_at(file, page, lsn, &mark);
-    if (file->is_foreign) return pagelog_refuse_foreign(file, role_of(file), page, lsn);
+    file->is_foreign = !read_mark_at(file, page, position, &mark);
+    if (file->is_foreign) return pagelog_refuse_foreign(file, role_of(file), page, position);
     if (!pagelog_is_same_mark(&mark, &file->mark)) {
         pagelog_cache_clear(file->cache);
         file->pending.length = 0;
         file->is_far = false;
-        file->next = next_of(mark.lsn);
+        file->next = next_of(mark.position);
     }
     if (pagelog_is_misnamed(file, page)) return pagelog_refuse_name(file, page);
     outcome = pagelog_check_origin(file, page, &mark);
@@ -223,6 +223,6 @@ enum pagelog_outcome pagelog_take_mark(struct pagelog_file *file, struct pagelog
     file->told_session = pagelog_has_origin(file, page, &mark) ? mark.session : 0;
     file->mark = mark;
     if (file->reading == GONE) pagelog_have(file, OPEN);
-    pagelog_expect(file->log, lsn.number, MARK_PAGE, 0, page, MARK_BYTES);
+    pagelog_expect(file->log, lsn_of(file, position).number, MARK_PAGE, 0, page, MARK_BYTES);
     return PAGELOG_DONE;
 }

@@ -50,20 +50,6 @@ void pagelog_give_up_transaction(struct pagelog_file *file) {
     give_up_transaction(file);
 }
 
-/* An LSN of one run is the same position in another one; 0 where it is not there. */
-static struct pagelog_lsn carried(struct pagelog_lsn lsn, int64_t from, int64_t to) {
-    return is_none(lsn) ? lsn : pagelog_lsn_in(to, pagelog_position_in(from, lsn));
-}
-
-/* What the file has of LSNs becomes what it is in a run of another shift. */
-static void carry(struct pagelog_file *file, int64_t from, int64_t to) {
-    file->mark.lsn = carried(file->mark.lsn, from, to);
-    file->settled.lsn = carried(file->settled.lsn, from, to);
-    file->torn = carried(file->torn, from, to);
-    file->doubted = carried(file->doubted, from, to);
-    pagelog_blocks_shift(file->blocks, from - to);
-}
-
 /* Goes to the service of a place. */
 static enum pagelog_outcome enter(struct pagelog_file *file, const struct pagelog_place *place) {
     struct named *named = file->source.named;
@@ -73,7 +59,7 @@ static enum pagelog_outcome enter(struct pagelog_file *file, const struct pagelo
     if (outcome != PAGELOG_DONE) return outcome;
     pagelog_token_of_run(named->keepers, named->operator_token, place->run, file->options.operator_token);
     bool is_same_run = named->has_place && strcmp(named->place.run, place->run) == 0;
-    carry(file, named->place.shift, place->shift);
+    pagelog_blocks_shift(file->blocks, named->place.shift - place->shift);
     if (named->has_place) named->moves++;
     named->place = *place;
     file->source.shift = place->shift;
@@ -134,10 +120,10 @@ static bool compare_pulled(struct pagelog_file *file, const struct pagelog_reply
     const struct pagelog_tail *tail = &file->source.named->tail;
     size_t at = 0, length = 0, own_length;
     const uint8_t *block = pagelog_next_block(pulled, &at, &length), *own;
-    struct pagelog_position next = lower_of(position_of(file, next_in(pulled)), next_of(hard));
+    struct pagelog_position next = lower_of(next_in(file, pulled), next_of(hard));
     while (is_before(walk->position, next)) {
         struct pagelog_tail_walk here = *walk;
-        bool is_served = block && is_at(position_of(file, lsn_in(block)), here.position);
+        bool is_served = block && is_at(position_of_block(file, block), here.position);
         if (!(own = pagelog_tail_next(tail, walk, &own_length))) return true;
         if (!is_same_block(own, own_length, is_served ? block : NULL, length)) {
             *walk = here;
@@ -157,21 +143,22 @@ static enum pagelog_outcome compare(struct pagelog_file *file, struct pagelog_po
     bool is_same = true;
     while (is_same && !is_before(hard, walk.position) && is_before(walk.position, tail->next)) {
         struct pagelog_reply pulled;
-        struct pagelog_lsn at = lsn_of(file, walk.position);
+        struct pagelog_position at = walk.position;
         enum pagelog_outcome outcome = pull_from(file, at, PAGELOG_PULL_BLOCKS, &pulled);
         if (outcome != PAGELOG_DONE) return outcome;
-        if (is_at(next_in(&pulled), at)) break; /* the end of the log, whatever was told before */
+        if (is_at(next_in(file, &pulled), at)) break; /* the end of the log, whatever was told before */
         is_same = compare_pulled(file, &pulled, hard, &walk);
     }
     *differs = walk.position;
     return PAGELOG_DONE;
 }
 
-/* The newest end mark up to an LSN. */
-static enum pagelog_outcome mark_at(struct pagelog_file *file, struct pagelog_lsn lsn, struct mark *mark) {
+/* The newest end mark up to a position. */
+static enum pagelog_outcome mark_at(struct pagelog_file *file, struct pagelog_position position,
+                                    struct mark *mark) {
     uint8_t page[PAGELOG_PAGE_BYTES];
     const uint32_t number = MARK_PAGE;
-    enum pagelog_outcome outcome = get_at(file, PAGELOG_SECONDARY, lsn, &number, 1, page);
+    enum pagelog_outcome outcome = get_at(file, PAGELOG_SECONDARY, position, &number, 1, page);
     if (outcome == PAGELOG_DONE && !pagelog_read_mark(file, page, mark)) *mark = (struct mark){0};
     return outcome;
 }
@@ -198,9 +185,9 @@ static struct mark mark_of(const struct pagelog_file *file, struct pagelog_posit
 static enum pagelog_outcome compare_with_base(struct pagelog_file *file) {
     struct pagelog_position base = file->source.named->place.base;
     struct mark found, own = mark_of(file, base);
-    enum pagelog_outcome outcome = mark_at(file, lsn_of(file, base), &found);
+    enum pagelog_outcome outcome = mark_at(file, base, &found);
     if (outcome != PAGELOG_DONE) return outcome;
-    return !is_none(own.lsn) && pagelog_is_same_mark(&own, &found) ? PAGELOG_DONE : PAGELOG_IN_DOUBT;
+    return !is_none(own.position) && pagelog_is_same_mark(&own, &found) ? PAGELOG_DONE : PAGELOG_IN_DOUBT;
 }
 
 /* ---- Losing and sending again ---- */
@@ -279,14 +266,14 @@ enum pagelog_outcome pagelog_take_denial(struct pagelog_file *file) {
 /* Sends the tail from the end of the log on, in the epoch of this file. */
 static enum pagelog_outcome send_rest(struct pagelog_file *file) {
     struct named *named = file->source.named;
-    struct pagelog_tail_walk walk = pagelog_tail_at(&named->tail, next_of(position_of(file, end_of(file))));
+    struct pagelog_tail_walk walk = pagelog_tail_at(&named->tail, next_of(end_of(file)));
     struct pagelog_blocks *blocks = pagelog_blocks_new();
     enum pagelog_outcome outcome = blocks ? PAGELOG_DONE : PAGELOG_NO_MEMORY;
     named->is_sent_again = true;
     while (outcome == PAGELOG_DONE && is_before(walk.position, named->tail.next)) {
         const uint8_t *block;
         size_t length;
-        restart_at(blocks, next_of(end_of(file)));
+        restart_at(file, blocks, next_of(end_of(file)));
         while (outcome == PAGELOG_DONE && pagelog_blocks_count(blocks) < GROUP &&
                (block = pagelog_tail_next(&named->tail, &walk, &length)))
             outcome = pagelog_blocks_add(blocks, block, length);
@@ -303,10 +290,10 @@ static enum pagelog_outcome send_again(struct pagelog_file *file, const struct p
     uint32_t writing = pagelog_writing_epoch(file->log);
     bool is_own = status->epoch == writing || pagelog_may_have_begun(file->log, status);
     bool is_anothers = is_settled_here(file->source.named) && status->primary != PAGELOG_KEEPER && !is_own;
-    if (is_anothers) return lose_from(file, next_of(position_of(file, hard_of(status))), PAGELOG_FENCED);
+    if (is_anothers) return lose_from(file, next_of(hard_of(file, status)), PAGELOG_FENCED);
     enum pagelog_outcome outcome =
         pagelog_take_over(file->log, options->operator_principal, options->operator_token, status->epoch);
-    if (outcome == PAGELOG_DONE && !is_at(end_of(file), hard_of(status))) outcome = PAGELOG_LOST;
+    if (outcome == PAGELOG_DONE && !is_at(end_of(file), hard_of(file, status))) outcome = PAGELOG_LOST;
     if (outcome == PAGELOG_DONE) outcome = send_rest(file);
     if (outcome != PAGELOG_DONE) return outcome;
     if (!is_writer(file)) pagelog_stand(file, WRITING);
@@ -338,7 +325,7 @@ static bool is_upon_lost(const struct pagelog_file *file) {
 /* Sees to it that the log has the whole tail. */
 static enum pagelog_outcome settle_tail(struct pagelog_file *file, const struct pagelog_reply *status) {
     struct named *named = file->source.named;
-    struct pagelog_position hard = position_of(file, hard_of(status)), next = next_of(hard), differs;
+    struct pagelog_position hard = hard_of(file, status), next = next_of(hard), differs;
     if (pagelog_tail_is_empty(&named->tail)) return PAGELOG_DONE;
     bool is_next = is_at(next, named->tail.first);
     if (is_before(next, named->tail.first) || (is_next && is_upon_lost(file)))
@@ -352,20 +339,20 @@ static enum pagelog_outcome settle_tail(struct pagelog_file *file, const struct 
 /* ---- The transaction that is read ---- */
 
 /* Looks whether it is in this generation, where it is at the same position. */
-static enum pagelog_outcome find_transaction(struct pagelog_file *file, struct pagelog_lsn hard) {
+static enum pagelog_outcome find_transaction(struct pagelog_file *file, struct pagelog_position hard) {
     struct named *named = file->source.named;
     struct mark found;
-    file->next = next_of(file->mark.lsn);
+    file->next = next_of(file->mark.position);
     file->pending.length = 0;
     if (is_gone(file)) return PAGELOG_DONE;
     if (file->mark.transaction == 0 && is_none(named->place.base)) return PAGELOG_DONE; /* of an empty log */
-    struct pagelog_position position = position_of(file, file->mark.lsn);
-    bool is_below = is_before(position, named->place.base) && named->place.shift != 0;
-    if (is_none(file->mark.lsn) || is_before(hard, file->mark.lsn) || is_below) {
+    bool is_below = is_before(file->mark.position, named->place.base) && named->place.shift != 0;
+    bool is_none_here = is_none(lsn_of(file, file->mark.position)) || is_below;
+    if (is_none_here || is_before(hard, file->mark.position)) {
         give_up_transaction(file);
         return PAGELOG_DONE;
     }
-    enum pagelog_outcome outcome = mark_at(file, file->mark.lsn, &found);
+    enum pagelog_outcome outcome = mark_at(file, file->mark.position, &found);
     if (outcome == PAGELOG_DONE && !pagelog_is_same_mark(&found, &file->mark)) give_up_transaction(file);
     return outcome;
 }
@@ -392,11 +379,10 @@ static enum pagelog_outcome refuse_principal(struct pagelog_file *file) {
 }
 
 /* Whether the file is at a page server that has less than another one has shown. */
-static bool is_behind(const struct pagelog_file *file, struct pagelog_lsn end) {
+static bool is_behind(const struct pagelog_file *file, struct pagelog_position end) {
     const struct named *named = file->source.named;
-    bool lacks_transaction = !is_gone(file) && is_before(end, file->mark.lsn);
-    return named->place.is_page_server &&
-           (is_before(position_of(file, end), named->shown) || lacks_transaction);
+    bool lacks_transaction = !is_gone(file) && is_before(end, file->mark.position);
+    return named->place.is_page_server && (is_before(end, named->shown) || lacks_transaction);
 }
 
 /* Goes on in the generation that the file is in. What is LOST is tried again, there or in the next one. */
@@ -407,7 +393,7 @@ static enum pagelog_outcome go_on(struct pagelog_file *file) {
     if (outcome == PAGELOG_DENIED && pagelog_refused(file->log)->section == SECTION_B)
         return pagelog_file_fail(file, outcome, "the principal has to be allowed to read as a secondary");
     if (outcome == PAGELOG_DENIED && pagelog_is_unknown_principal(file)) return refuse_principal(file);
-    if (outcome == PAGELOG_DONE && is_behind(file, hard_of(&status))) return PAGELOG_LOST;
+    if (outcome == PAGELOG_DONE && is_behind(file, hard_of(file, &status))) return PAGELOG_LOST;
     if (outcome == PAGELOG_DONE) named->is_accepted = true;
     if (outcome == PAGELOG_DONE) outcome = learn_end(file);
     if (outcome == PAGELOG_DONE) outcome = settle_tail(file, &status);

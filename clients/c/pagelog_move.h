@@ -4,7 +4,6 @@
  *   - A file never goes to a lower generation than one that it has seen.
  *   - Who may write keeps its blocks, its tail, until they are durable, at most 16 MiB of them: then a commit
  * waits. A generation that lacks some gets them again, at their old positions, if nobody has written there.
- *   - Whatever a file has of LSNs is carried over, so that a position stays the same.
  *   - A file that moves follows. It becomes the writer of an epoch when something has to be written: to send
  * again, or by pagelog_file_reserve.
  *   - What a commit has been told as failed is in no tail any more, and never comes back.
@@ -142,9 +141,9 @@ void pagelog_give_up_transaction(struct pagelog_file *file);
  * where that cannot be had. After any outcome but DONE they are not in the tail, and must not be sent. */
 enum pagelog_outcome pagelog_hold_blocks(struct pagelog_file *file);
 
-/* Takes blocks of other writers that were pulled from an LSN on: this file may be the one that is left to
+/* Takes blocks of other writers that were pulled from a position on: this file may be the one that is left to
  * send them again. */
-void pagelog_hold_pulled(struct pagelog_file *file, struct pagelog_lsn from,
+void pagelog_hold_pulled(struct pagelog_file *file, struct pagelog_position from,
                          const struct pagelog_reply *pulled);
 
 /* After an append of the blocks that are held: moves where it was not DONE. DONE: they are in the log, and

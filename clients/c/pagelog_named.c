@@ -28,10 +28,10 @@ enum { MOST_HELD = 1024 };
 
 /* ---- What is read ---- */
 
-static struct pagelog_lsn limit(const struct pagelog_file *file) {
-    const struct pagelog_lsn no_limit = {UINT64_MAX};
+static struct pagelog_position limit(const struct pagelog_file *file) {
+    const struct pagelog_position no_limit = {UINT64_MAX};
     if (file->source.named->place.is_page_server) return no_limit; /* all that it has is durable */
-    return file->options.durable_only ? lsn_of(file, file->source.named->durable) : no_limit;
+    return file->options.durable_only ? file->source.named->durable : no_limit;
 }
 
 /* Holds what is in the log before the transaction that is read, and is not known to be archived. What is too
@@ -39,14 +39,14 @@ static struct pagelog_lsn limit(const struct pagelog_file *file) {
 static enum pagelog_outcome hold_newest(struct pagelog_file *file) {
     const struct named *named = file->source.named;
     struct pagelog_position known = higher_of(named->durable, named->place.archived);
-    struct pagelog_lsn from = next_of(lsn_of(file, higher_of(known, named->place.base)));
-    bool is_wanted = !file->options.reads_only && is_before(file->mark.lsn, plus(from, MOST_HELD));
-    while (is_wanted && !is_before(file->mark.lsn, from)) {
+    struct pagelog_position from = next_of(higher_of(known, named->place.base));
+    bool is_wanted = !file->options.reads_only && is_before(file->mark.position, plus(from, MOST_HELD));
+    while (is_wanted && !is_before(file->mark.position, from)) {
         struct pagelog_reply pulled;
         enum pagelog_outcome outcome = pull_from(file, from, PAGELOG_PULL_BLOCKS, &pulled);
-        if (outcome != PAGELOG_DONE || is_at(next_in(&pulled), from)) return outcome;
+        if (outcome != PAGELOG_DONE || is_at(next_in(file, &pulled), from)) return outcome;
         pagelog_hold_pulled(file, from, &pulled);
-        from = next_in(&pulled);
+        from = next_in(file, &pulled);
     }
     return PAGELOG_DONE;
 }
@@ -55,16 +55,14 @@ static enum pagelog_outcome hold_newest(struct pagelog_file *file) {
 static enum pagelog_outcome take_newest(struct pagelog_file *file) {
     struct named *named = file->source.named;
     struct pagelog_reply status;
-    struct pagelog_position at = {file->options.at};
-    struct pagelog_lsn lsn = lsn_of(file, at);
+    const struct pagelog_position at = {file->options.at};
     enum pagelog_outcome outcome = pagelog_status(file->log, PAGELOG_SECONDARY, &status);
     if (outcome != PAGELOG_DONE) return outcome;
-    if (is_none(at)) lsn = lower_of(hard_of(&status), limit(file));
     if (!is_none(at) && is_before(at, named->place.base) && named->place.shift != 0)
         return pagelog_file_fail(file, PAGELOG_MALFORMED,
                                  "this position is before the base of the generation");
     pagelog_cache_clear(file->cache);
-    outcome = pagelog_take_mark(file, lsn);
+    outcome = pagelog_take_mark(file, is_none(at) ? lower_of(hard_of(file, &status), limit(file)) : at);
     return outcome == PAGELOG_DONE ? hold_newest(file) : outcome;
 }
 
@@ -119,11 +117,13 @@ static bool take_hand_over(struct pagelog_file *file, uint32_t epoch) {
     bool is_own = is_writer(file) && epoch == pagelog_writing_epoch(file->log); /* nobody has written since */
     if (epoch == 0 || is_own || !may_take_hand_over(file)) return false;
     pagelog_become_follower(file);
-    enum pagelog_outcome outcome = pagelog_hand_over(
-        file->log, options->operator_principal, options->operator_token, epoch, file->next.number, &pulled);
-    if (outcome == PAGELOG_DONE) pagelog_hold_pulled(file, file->next, &pulled);
+    struct pagelog_position from = begin_of_pull(file, file->next);
+    enum pagelog_outcome outcome =
+        pagelog_hand_over(file->log, options->operator_principal, options->operator_token, epoch,
+                          lsn_of(file, from).number, &pulled);
+    if (outcome == PAGELOG_DONE) pagelog_hold_pulled(file, from, &pulled);
     if (outcome == PAGELOG_DONE) outcome = pagelog_take_pulled(file, &pulled);
-    if (outcome != PAGELOG_DONE || !is_at(file->mark.lsn, end_of(file))) return false;
+    if (outcome != PAGELOG_DONE || !is_at(file->mark.position, end_of(file))) return false;
     pagelog_stand(file, WRITING);
     file->source.named->is_doubted = false;
     file->checked = asked;
@@ -162,18 +162,19 @@ static enum pagelog_outcome get(struct pagelog_file *file, struct pagelog_positi
     enum pagelog_outcome outcome = pagelog_arrive(file);
     if (outcome != PAGELOG_DONE) return outcome;
     if (is_gone(file) && !was_gone) return pagelog_refuse_gone(file);
-    outcome = pagelog_fetch_here(file, lsn_of(file, position), wanted, out);
+    outcome = pagelog_fetch_here(file, position, wanted, out);
     wanted.ahead = 0;
     struct tries tries = {0};
     while (is_made_again(file, &outcome, &tries)) {
         if (is_gone(file)) return was_gone ? PAGELOG_LOST : pagelog_refuse_gone(file);
-        outcome = pagelog_fetch_here(file, lsn_of(file, position), wanted, out);
+        outcome = pagelog_fetch_here(file, position, wanted, out);
     }
     return outcome;
 }
 
-static enum pagelog_outcome pull(struct pagelog_file *file, struct pagelog_lsn from,
+static enum pagelog_outcome pull(struct pagelog_file *file, struct pagelog_position from,
                                  struct pagelog_reply *pulled) {
+    from = begin_of_pull(file, from);
     enum pagelog_outcome outcome = pull_from(file, from, PAGELOG_PULL_BLOCKS, pulled);
     if (outcome == PAGELOG_DONE) pagelog_hold_pulled(file, from, pulled);
     return outcome;
@@ -184,7 +185,7 @@ static enum pagelog_outcome pull(struct pagelog_file *file, struct pagelog_lsn f
 enum pagelog_outcome pagelog_write_on(struct pagelog_file *file) {
     const struct pagelog_file_options *options = &file->options;
     size_t length;
-    struct pagelog_lsn first = lsn_in(pagelog_blocks_at(file->blocks, 0, &length));
+    struct pagelog_position first = position_of_block(file, pagelog_blocks_at(file->blocks, 0, &length));
     enum pagelog_outcome outcome = PAGELOG_DONE;
     if (is_at(next_of(end_of(file)), first)) /* else it fences nobody */
         outcome = pagelog_take_over(file->log, options->operator_principal, options->operator_token, 0);
@@ -197,12 +198,12 @@ enum pagelog_outcome pagelog_write_on(struct pagelog_file *file) {
 
 /* Whether the newest transaction at an LSN is the one that is read: DONE, or FENCED. */
 static enum pagelog_outcome compare_newest(struct pagelog_file *file, enum pagelog_role role,
-                                           struct pagelog_lsn lsn) {
+                                           struct pagelog_position position) {
     uint8_t page[PAGELOG_PAGE_BYTES];
     const uint32_t number = MARK_PAGE;
     struct mark mark;
-    if (is_at(lsn, file->mark.lsn)) return PAGELOG_DONE;
-    enum pagelog_outcome outcome = get_at(file, role, lsn, &number, 1, page);
+    if (is_at(position, file->mark.position)) return PAGELOG_DONE;
+    enum pagelog_outcome outcome = get_at(file, role, position, &number, 1, page);
     if (outcome != PAGELOG_DONE) return outcome;
     if (pagelog_read_mark(file, page, &mark) && pagelog_is_same_mark(&mark, &file->mark)) return PAGELOG_DONE;
     return pagelog_file_fail(file, PAGELOG_FENCED, "another writer has gone on since: begin again");
@@ -214,7 +215,7 @@ static enum pagelog_outcome become_writer(struct pagelog_file *file) {
     struct pagelog_reply status;
     uint64_t asked = pagelog_now();
     enum pagelog_outcome outcome = pagelog_status(file->log, PAGELOG_SECONDARY, &status);
-    if (outcome == PAGELOG_DONE) outcome = compare_newest(file, PAGELOG_SECONDARY, hard_of(&status));
+    if (outcome == PAGELOG_DONE) outcome = compare_newest(file, PAGELOG_SECONDARY, hard_of(file, &status));
     bool is_let_in = outcome == PAGELOG_DONE;
     if (outcome == PAGELOG_DONE)
         outcome = pagelog_take_over(file->log, options->operator_principal, options->operator_token, 0);
@@ -225,7 +226,7 @@ static enum pagelog_outcome become_writer(struct pagelog_file *file) {
     pagelog_stand(file, WRITING);
     file->checked = asked;
     file->is_checked = true;
-    return is_before(file->mark.lsn, end_of(file)) ? pagelog_repair(file) : PAGELOG_DONE;
+    return is_before(file->mark.position, end_of(file)) ? pagelog_repair(file) : PAGELOG_DONE;
 }
 
 enum pagelog_outcome pagelog_file_move_on(struct pagelog_file *file) {
@@ -243,7 +244,7 @@ void pagelog_file_doubt(struct pagelog_file *file) {
 static enum pagelog_outcome confirm_writer(struct pagelog_file *file) {
     struct pagelog_reply status;
     enum pagelog_outcome outcome = pagelog_status(file->log, PAGELOG_PRIMARY, &status);
-    if (outcome == PAGELOG_DONE && is_at(hard_of(&status), file->mark.lsn)) return PAGELOG_DONE;
+    if (outcome == PAGELOG_DONE && is_at(hard_of(file, &status), file->mark.position)) return PAGELOG_DONE;
     if (outcome == PAGELOG_DONE)
         return pagelog_file_fail(file, PAGELOG_FENCED, "another writer has gone on since: begin again");
     if (outcome == PAGELOG_FENCED) pagelog_become_follower(file);

@@ -104,7 +104,7 @@ static void note_run(struct pagelog_file *file, const struct origin *origin,
 
 static enum pagelog_outcome check(struct pagelog_file *file, const uint8_t *bytes, const struct mark *mark) {
     const struct pagelog_place *place = pagelog_file_place(file);
-    struct pagelog_position position = position_of(file, mark->lsn);
+    struct pagelog_position position = mark->position;
     struct origin origin;
     if (!place || !read_origin(file, bytes, mark, &origin)) return PAGELOG_DONE;
     if (strcmp(origin.database, place->database) == 0) {
@@ -146,7 +146,7 @@ enum pagelog_outcome pagelog_check_pending(struct pagelog_file *file, const stru
     enum pagelog_outcome outcome = found ? check(file, found, mark) : PAGELOG_DONE;
     if (outcome == PAGELOG_DONE) return outcome;
     file->pending.length = 0; /* the next begin pulls it again, and is told again */
-    file->next = next_of(file->mark.lsn);
+    file->next = next_of(file->mark.position);
     return outcome;
 }
 
@@ -168,8 +168,8 @@ enum pagelog_outcome pagelog_file_origin(struct pagelog_file *file, char *text, 
     struct origin origin;
     *text = 0;
     struct wanted wanted = {.pages = &number, .count = 1};
-    bool has_one = !is_none(mark.lsn);
-    enum pagelog_outcome outcome = has_one ? pagelog_fetch(file, mark.lsn, wanted, page) : PAGELOG_DONE;
+    bool has_one = !is_none(lsn_of(file, mark.position));
+    enum pagelog_outcome outcome = has_one ? pagelog_fetch(file, mark.position, wanted, page) : PAGELOG_DONE;
     if (has_one && outcome == PAGELOG_DONE && read_origin(file, page + ORIGIN_PLACE, &mark, &origin))
         snprintf(text, room, "%s/%s", origin.database, origin.run);
     return outcome;

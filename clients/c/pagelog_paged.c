@@ -18,9 +18,9 @@ static bool is_below(struct pagelog_position position, const struct pagelog_plac
 /* The position that is read: of `at`, or of the transaction; 0: there is none yet. */
 static struct pagelog_position position_read(const struct pagelog_file *file) {
     const struct pagelog_position at = {file->options.at}, none = {0};
-    bool has_one = !is_none(file->mark.lsn) && !is_gone(file);
+    bool has_one = !is_none(file->mark.position) && !is_gone(file);
     if (!is_none(at)) return at;
-    return has_one ? position_of(file, file->mark.lsn) : none;
+    return has_one ? file->mark.position : none;
 }
 
 bool pagelog_wants_page_server(const struct pagelog_file *file, const struct pagelog_place *place) {
@@ -80,7 +80,7 @@ enum pagelog_outcome pagelog_look_at_page_server(struct pagelog_file *file) {
     uint64_t now = pagelog_now();
     bool stays = file->options.pages == PAGELOG_PAGES_ONLY || file->options.at > 0;
     named->is_suspect = false;
-    named->shown = higher_of(named->shown, position_of(file, file->mark.lsn));
+    named->shown = higher_of(named->shown, file->mark.position);
     if (!stays) { /* the transaction for which it came is over */
         pagelog_give_up_transaction(file);
         return pagelog_move(file, PAGELOG_LOST);
@@ -94,7 +94,7 @@ enum pagelog_outcome pagelog_look_at_page_server(struct pagelog_file *file) {
 static enum pagelog_outcome has_position(struct pagelog_file *file, struct pagelog_position position) {
     struct pagelog_reply status;
     enum pagelog_outcome outcome = pagelog_status(file->log, PAGELOG_SECONDARY, &status);
-    bool is_behind = outcome == PAGELOG_DONE && is_before(position_of(file, hard_of(&status)), position);
+    bool is_behind = outcome == PAGELOG_DONE && is_before(hard_of(file, &status), position);
     return is_behind ? PAGELOG_LOST : outcome;
 }
 
@@ -122,12 +122,12 @@ static bool may_ask(const struct pagelog_file *file) {
         file->options.pages == PAGELOG_PAGES_PREFERRED || file->options.pages == PAGELOG_PAGES_ONLY;
     bool is_here = named->has_place && !named->is_between && !is_gone(file) && !named->dropped;
     return file->options.reads_only && is_wanted && is_here && named->place.pages > 0 &&
-           !is_none(file->mark.lsn) && pagelog_is_own(file->log);
+           !is_none(file->mark.position) && pagelog_is_own(file->log);
 }
 
-static struct pagelog_held_mark held_mark(const struct pagelog_file *file, const struct mark *mark) {
+static struct pagelog_held_mark held_mark(const struct mark *mark) {
     return (struct pagelog_held_mark){
-        .position = position_of(file, mark->lsn), .session = mark->session, .transaction = mark->transaction};
+        .position = mark->position, .session = mark->session, .transaction = mark->transaction};
 }
 
 /* Whether the last transaction that is held is this one, of the run that the file is in. */
@@ -139,7 +139,7 @@ static bool is_held(const struct pagelog_file *file, const struct pagelog_held_m
 }
 
 void pagelog_hold_transaction(struct pagelog_file *file, const struct mark *mark) {
-    struct pagelog_held_mark before = held_mark(file, &file->mark), next = held_mark(file, mark);
+    struct pagelog_held_mark before = held_mark(&file->mark), next = held_mark(mark);
     if (is_held(file, &before))
         pagelog_held_add(&file->source.named->held, &next, file->pending.bytes, file->pending.length);
 }
@@ -148,7 +148,7 @@ void pagelog_hold_transaction(struct pagelog_file *file, const struct mark *mark
  */
 static void hold_read(struct pagelog_file *file) {
     struct named *named = file->source.named;
-    struct pagelog_held_mark mark = held_mark(file, &file->mark);
+    struct pagelog_held_mark mark = held_mark(&file->mark);
     if (is_held(file, &mark)) return;
     if (strcmp(named->held_run, named->place.run) != 0) pagelog_copies_doubt(named->copies);
     strcpy(named->held_run, named->place.run);

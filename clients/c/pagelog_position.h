@@ -21,10 +21,10 @@ struct pagelog_lsn {
     uint64_t number;
 };
 
-/* The LSN of a position; 0 where it is before the first one of the run. And back. */
+/* The LSN of a position; 0 of none, and where it is before the first one of the run. And back. */
 static inline struct pagelog_lsn pagelog_lsn_in(int64_t shift, struct pagelog_position position) {
     int64_t lsn = (int64_t)position.number - shift;
-    return (struct pagelog_lsn){lsn > 0 ? (uint64_t)lsn : 0};
+    return (struct pagelog_lsn){position.number > 0 && lsn > 0 ? (uint64_t)lsn : 0};
 }
 
 static inline struct pagelog_position pagelog_position_in(int64_t shift, struct pagelog_lsn lsn) {

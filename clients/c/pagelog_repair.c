@@ -81,11 +81,12 @@ static bool add_touched(struct pages *pages, const uint8_t *block, uint32_t last
 
 /* The pages of the file that the blocks after the end mark touch. All pages, of which there is no list, where
  * this principal may not pull, and where the blocks or the pages are so many that the file is the bound. */
-static enum pagelog_outcome touched_pages(struct pagelog_file *file, struct pagelog_lsn end,
+static enum pagelog_outcome touched_pages(struct pagelog_file *file, struct pagelog_position end,
                                           struct pages *pages) {
     uint32_t last = pages_of(file->mark.size);
-    bool is_near = distance(file->mark.lsn, end) <= MOST_BEHIND;
-    struct pagelog_lsn next = is_near ? next_of(file->mark.lsn) : (struct pagelog_lsn){UINT64_MAX};
+    bool is_near = distance(file->mark.position, end) <= MOST_BEHIND;
+    struct pagelog_position next =
+        is_near ? next_of(file->mark.position) : (struct pagelog_position){UINT64_MAX};
     while (!is_before(end, next) && pages->count <= MOST_PAGES) {
         struct pagelog_reply pulled;
         size_t at = 0, length;
@@ -95,7 +96,7 @@ static enum pagelog_outcome touched_pages(struct pagelog_file *file, struct page
         if (outcome != PAGELOG_DONE) return outcome;
         while ((block = pagelog_next_block(&pulled, &at, &length)))
             if (!add_touched(pages, block, last)) return out_of_memory(file);
-        next = next_in(&pulled);
+        next = next_in(file, &pulled);
         if (is_before(end, next)) {
             sort_once_each(pages);
             return PAGELOG_DONE;
@@ -106,15 +107,14 @@ static enum pagelog_outcome touched_pages(struct pagelog_file *file, struct page
     return PAGELOG_DONE;
 }
 
-/* Adds what makes up to 64 pages again what they were at the end mark. Each append may move the file. */
+/* Adds what makes up to 64 pages again what they were at the end mark. */
 static enum pagelog_outcome add_repairs(struct pagelog_file *file, struct pagelog_position end,
                                         const uint32_t *pages, size_t count) {
     uint8_t *old = malloc(2 * GROUP * PAGELOG_PAGE_BYTES);
     if (!old) return out_of_memory(file);
     uint8_t *now = old + GROUP * PAGELOG_PAGE_BYTES;
-    enum pagelog_outcome outcome = get_at(file, PAGELOG_PRIMARY, file->mark.lsn, pages, count, old);
-    if (outcome == PAGELOG_DONE)
-        outcome = get_at(file, PAGELOG_PRIMARY, lsn_of(file, end), pages, count, now);
+    enum pagelog_outcome outcome = get_at(file, PAGELOG_PRIMARY, file->mark.position, pages, count, old);
+    if (outcome == PAGELOG_DONE) outcome = get_at(file, PAGELOG_PRIMARY, end, pages, count, now);
     for (size_t i = 0; i < count && outcome == PAGELOG_DONE; i++) {
         size_t at = i * PAGELOG_PAGE_BYTES;
         outcome = pagelog_blocks_difference(file->blocks, pages[i], now + at, old + at);
@@ -126,34 +126,31 @@ static enum pagelog_outcome add_repairs(struct pagelog_file *file, struct pagelo
 
 enum pagelog_outcome pagelog_repair(struct pagelog_file *file) {
     struct pages pages = {0};
-    struct pagelog_lsn end = end_of(file);
-    struct pagelog_position position = position_of(file, end);
+    struct pagelog_position end = end_of(file);
     struct mark mark = {.size = file->mark.size, .transaction = file->mark.transaction + 1};
     enum pagelog_outcome outcome = touched_pages(file, end, &pages);
-    restart_at(file->blocks, next_of(end));
+    restart_at(file, file->blocks, next_of(end));
     for (size_t i = 0; i < pages.count && outcome == PAGELOG_DONE; i += GROUP) {
         uint32_t group[GROUP];
         size_t count = group_of(&pages, i, group);
-        outcome = add_repairs(file, position, group, count);
+        outcome = add_repairs(file, end, group, count);
     }
     free(pages.numbers);
     if (outcome == PAGELOG_DONE) outcome = pagelog_add_mark(file, &mark);
-    position = position_of(file, mark.lsn); /* the append may move the file */
     if (outcome == PAGELOG_DONE) outcome = pagelog_append_ended(file);
     if (outcome != PAGELOG_DONE) return outcome;
-    mark.lsn = lsn_of(file, position);
     file->mark = mark;
     file->told_session = mark.session;
-    file->next = next_of(mark.lsn);
+    file->next = next_of(mark.position);
     file->repairs++;
     return PAGELOG_DONE;
 }
 
 /* ---- Whether a transaction is whole ---- */
 
-static struct pagelog_lsn first_lsn_of(const struct pagelog_blocks *blocks) {
+static struct pagelog_position first_of_blocks(const struct pagelog_file *file) {
     size_t length;
-    return lsn_in(pagelog_blocks_at(blocks, 0, &length));
+    return position_of_block(file, pagelog_blocks_at(file->blocks, 0, &length));
 }
 
 /* Applies what a block has of these pages, `count` of them by rising number, to their bytes. */
@@ -171,14 +168,15 @@ static void apply_block(const uint8_t *block, const uint32_t *pages, size_t coun
 
 /* Whether up to 64 pages at an LSN are what the blocks make of what they were before: DONE or CONFLICT. */
 static enum pagelog_outcome compare_pages(struct pagelog_file *file, enum pagelog_role role,
-                                          struct pagelog_lsn lsn, const uint32_t *pages, size_t count) {
+                                          struct pagelog_position position, const uint32_t *pages,
+                                          size_t count) {
     size_t blocks = pagelog_blocks_count(file->blocks), length, bytes = count * PAGELOG_PAGE_BYTES;
     uint8_t *wanted = malloc(2 * GROUP * PAGELOG_PAGE_BYTES);
     if (!wanted) return out_of_memory(file);
     uint8_t *found = wanted + GROUP * PAGELOG_PAGE_BYTES;
-    struct pagelog_lsn before = last_before(first_lsn_of(file->blocks));
+    struct pagelog_position before = last_before(first_of_blocks(file));
     enum pagelog_outcome outcome = get_at(file, role, before, pages, count, wanted);
-    if (outcome == PAGELOG_DONE) outcome = get_at(file, role, lsn, pages, count, found);
+    if (outcome == PAGELOG_DONE) outcome = get_at(file, role, position, pages, count, found);
     for (size_t i = 0; i < blocks && outcome == PAGELOG_DONE; i++)
         apply_block(pagelog_blocks_at(file->blocks, i, &length), pages, count, wanted);
     if (outcome == PAGELOG_DONE && memcmp(wanted, found, bytes) != 0) outcome = PAGELOG_CONFLICT;
@@ -188,7 +186,7 @@ static enum pagelog_outcome compare_pages(struct pagelog_file *file, enum pagelo
 
 /* Only the last of the blocks has the end mark of the last transaction. So one block is whole where it is. */
 enum pagelog_outcome pagelog_find_blocks(struct pagelog_file *file, enum pagelog_role role,
-                                         struct pagelog_lsn lsn) {
+                                         struct pagelog_position position) {
     struct pages pages = {0};
     size_t blocks = pagelog_blocks_count(file->blocks), length;
     enum pagelog_outcome outcome = PAGELOG_DONE;
@@ -198,17 +196,17 @@ enum pagelog_outcome pagelog_find_blocks(struct pagelog_file *file, enum pagelog
     sort_once_each(&pages);
     for (size_t i = 0; i < pages.count && outcome == PAGELOG_DONE; i += GROUP) {
         size_t count = pages.count - i < GROUP ? pages.count - i : GROUP;
-        outcome = compare_pages(file, role, lsn, pages.numbers + i, count);
+        outcome = compare_pages(file, role, position, pages.numbers + i, count);
     }
     free(pages.numbers);
-    if (outcome == PAGELOG_CONFLICT) file->torn = first_lsn_of(file->blocks);
+    if (outcome == PAGELOG_CONFLICT) file->torn = first_of_blocks(file);
     return outcome;
 }
 
 /* Looks for the blocks of a commit that is still in doubt, where its end mark is the newest one. Nothing was
  * made since that is in their place. */
 static enum pagelog_outcome look_for_doubted(struct pagelog_file *file) {
-    bool is_newest = is_at(file->mark.lsn, file->doubted) && file->mark.session == file->session;
+    bool is_newest = is_at(file->mark.position, file->doubted) && file->mark.session == file->session;
     if (!is_newest || !is_none(file->torn)) return PAGELOG_DONE;
     enum pagelog_outcome outcome = pagelog_find_blocks(file, PAGELOG_PRIMARY, file->doubted);
     if (outcome != PAGELOG_DONE && outcome != PAGELOG_CONFLICT) return outcome;
@@ -220,19 +218,19 @@ enum pagelog_outcome pagelog_take_whole(struct pagelog_file *file) {
     unsigned marks = 0;
     enum pagelog_outcome outcome = pagelog_take_mark(file, end_of(file));
     if (outcome == PAGELOG_DONE && !is_none(file->doubted)) outcome = look_for_doubted(file);
-    while (outcome == PAGELOG_DONE && !is_none(file->torn) && !is_before(file->mark.lsn, file->torn) &&
+    while (outcome == PAGELOG_DONE && !is_none(file->torn) && !is_before(file->mark.position, file->torn) &&
            file->mark.session == file->session) {
         if (marks++ == MOST_MARKS)
             return pagelog_file_fail(file, PAGELOG_MALFORMED, "there are more end marks than were written");
-        outcome = pagelog_take_mark(file, last_before(file->mark.lsn));
+        outcome = pagelog_take_mark(file, last_before(file->mark.position));
     }
     return outcome;
 }
 
 enum pagelog_outcome pagelog_recover(struct pagelog_file *file) {
     enum pagelog_outcome outcome = pagelog_take_whole(file);
-    if (outcome == PAGELOG_DONE && is_writer(file) && is_before(file->mark.lsn, end_of(file)))
+    if (outcome == PAGELOG_DONE && is_writer(file) && is_before(file->mark.position, end_of(file)))
         outcome = pagelog_repair(file);
-    if (outcome == PAGELOG_DONE) file->torn = file->doubted = (struct pagelog_lsn){0};
+    if (outcome == PAGELOG_DONE) file->torn = file->doubted = (struct pagelog_position){0};
     return outcome;
 }

@@ -2,8 +2,8 @@
  * that name say it is by then (pagelog_move.h). The file asks by the table below, and of what a name needs it
  * knows nothing.
  *
- * A call of the second kind goes on in the next run of the database where the one that it was in is over, and
- * carries over what the file has of LSNs. What it finds there of the transaction that is read is a step of
+ * A call of the second kind goes on in the next run of the database where the one that it was in is over: a
+ * position stays what it is. What it finds there of the transaction that is read is a step of
  * the file: GONE where that is not there, OVER where commits are lost that were acknowledged. */
 #ifndef PAGELOG_SOURCE_H
 #define PAGELOG_SOURCE_H
@@ -37,10 +37,10 @@ struct source_calls {
      * file's until the next call. NULL: they are to be got. */
     const uint8_t *(*copied)(struct pagelog_file *file, const uint32_t *pages, size_t count);
 
-    /* Blocks from an LSN on, and up to which may be read; and that all up to this mark were pulled. */
-    enum pagelog_outcome (*pull)(struct pagelog_file *file, struct pagelog_lsn from,
+    /* Blocks from a position on, and up to which may be read; and that all up to this mark were pulled. */
+    enum pagelog_outcome (*pull)(struct pagelog_file *file, struct pagelog_position from,
                                  struct pagelog_reply *pulled);
-    struct pagelog_lsn (*limit)(const struct pagelog_file *file);
+    struct pagelog_position (*limit)(const struct pagelog_file *file);
     void (*note_pulled)(struct pagelog_file *file, const struct mark *mark);
 
     /* Appends the blocks that were ended. */

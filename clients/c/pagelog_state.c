@@ -31,6 +31,11 @@ enum pagelog_outcome pagelog_file_count_entries(struct pagelog_file *file, uint6
 
 /* ---- What is known ---- */
 
+/* Of the transaction that is read; 0 where it is not in this run. */
+static struct pagelog_lsn lsn_of_mark(const struct pagelog_file *file) {
+    return lsn_of(file, file->mark.position);
+}
+
 const struct pagelog_reply *pagelog_file_refused(const struct pagelog_file *file) {
     return pagelog_refused(file->log);
 }
@@ -66,7 +71,7 @@ const struct pagelog_place *pagelog_file_place(const struct pagelog_file *file) 
 }
 
 uint64_t pagelog_file_lsn(const struct pagelog_file *file) {
-    return file->mark.lsn.number;
+    return lsn_of_mark(file).number;
 }
 
 void pagelog_file_set_check(struct pagelog_file *file, unsigned check_ms) {
@@ -99,8 +104,8 @@ struct pagelog_file_state pagelog_file_state_of(const struct pagelog_file *file)
         .is_named = is_named,
         .is_gone = is_gone(file),
         .generation = pagelog_file_generation(file),
-        .position = is_none(file->mark.lsn) ? 0 : position_of(file, file->mark.lsn).number,
-        .lsn = file->mark.lsn.number,
+        .position = is_none(lsn_of_mark(file)) ? 0 : file->mark.position.number,
+        .lsn = lsn_of_mark(file).number,
         .end = pagelog_end(file->log),
         .size = file->mark.size,
         .transaction = file->mark.transaction,

@@ -24,7 +24,7 @@ PLANTS = {
     "turn, of a file that becomes shorter": Plant("c/pagelog_vfs_file.c", "connection && !becomes_shorter(database))", "connection)", "c/turns",
                                                   "may_be_written_on"),
     "turn, mine unread": Plant("c/pagelog_turn.c", "(turn->is_held && turn->has_newest)", "turn->is_held", "c/turns", "does_not_write_in_its_place"),
-    "turn, handed over unread": Plant("c/pagelog_named.c", "if (outcome != PAGELOG_DONE || !is_at(file->mark.lsn, end_of(file))) return false;",
+    "turn, handed over unread": Plant("c/pagelog_named.c", "if (outcome != PAGELOG_DONE || !is_at(file->mark.position, end_of(file))) return false;",
                                       "if (outcome != PAGELOG_DONE) return false;", "c/turns", "more_than_one_message"),
     "turn, handed over by six messages": Plant("c/pagelog_vfs_turn.c", "    if (outcome == PAGELOG_DONE) expect_hand_over(database);\n", "", "c/turns",
                                                "begins_by_one_message"),
