@@ -231,11 +231,11 @@ inline tell_durable(b) {
 
 /* ---- A move ---- */
 
-// pagelog_move.c: give_up_transaction
+// pagelog_settle.c: pagelog_give_up_transaction
                     // pagelog_cache_clear(file->cache);
                     // if (file->reading != OVER) pagelog_have(file, GONE);
                     // file->given_up++;
-// pagelog_move.c: lose_to
+// pagelog_settle.c: lose_to
                     // ..
                     // bool was_told = !is_before(named->own, position);
                     // pagelog_tail_cut(&named->tail, position);
@@ -244,7 +244,7 @@ inline tell_durable(b) {
                     // named->is_between = false;
                     // named->told = lower_of(named->told, last_before(position));
                     // pagelog_become_follower(file);
-                    // give_up_transaction(file);
+                    // pagelog_give_up_transaction(file);
                     // pagelog_begin_session(file);
                     // if (!was_told)
                     // ..
@@ -279,7 +279,7 @@ inline lose_from(p, told_as) {
     outcome = told_as
 }
 
-// pagelog_move.c: learn_end
+// pagelog_settle.c: pagelog_learn_end
                     // ..
                     // struct pagelog_position last = is_empty ? named->own : last_before(named->tail.next);
                     // if (is_settled_here(named) || is_none(last)) return PAGELOG_DONE;
@@ -312,10 +312,10 @@ inline learn_end() {
 }
 
 /* The first position of the tail that the log lacks or has another block at. */
-// pagelog_move.c: compare_with_base
+// pagelog_settle.c: compare_with_base
                     // ..
                     // return !is_none(own.position) && pagelog_is_same_mark(&own, &found) ? PAGELOG_DONE : PAGELOG_IN_DOUBT;
-// pagelog_move.c: compare_tail
+// pagelog_settle.c: compare_tail
                     // ..
                     // *differs = first;
                     // if (is_before(base, first) || named->place.shift == 0) outcome = compare(file, first, hard, differs);
@@ -347,7 +347,7 @@ inline compare_tail() {
 #endif
 }
 
-// pagelog_move.c: send_rest
+// pagelog_settle.c: send_rest
                     // ..
                     // named->is_sent_again = true;
                     // ..
@@ -387,15 +387,15 @@ inline look_after_own() {
     i = 0
 }
 
-// pagelog_move.c: find_transaction
+// pagelog_settle.c: pagelog_find_transaction
                     // ..
                     // bool is_below = is_before(file->mark.position, named->place.base) && named->place.shift != 0;
                     // bool is_none_here = is_none(lsn_of(file, file->mark.position)) || is_below;
                     // if (is_none_here || is_before(hard, file->mark.position))
-                    // give_up_transaction(file);
+                    // pagelog_give_up_transaction(file);
                     // return PAGELOG_DONE;
                     // enum pagelog_outcome outcome = mark_at(file, file->mark.position, &found);
-                    // if (outcome == PAGELOG_DONE && !pagelog_is_same_mark(&found, &file->mark)) give_up_transaction(file);
+                    // if (outcome == PAGELOG_DONE && !pagelog_is_same_mark(&found, &file->mark)) pagelog_give_up_transaction(file);
                     // return outcome;
 inline find_transaction() {
     if
@@ -406,7 +406,7 @@ inline find_transaction() {
     fi
 }
 
-// pagelog_move.c: send_again
+// pagelog_settle.c: send_again
                     // ..
                     // pagelog_take_over(file->log, options->operator_principal, options->operator_token, status->epoch);
                     // if (outcome == PAGELOG_DONE && !is_at(end_of(file), hard_of(file, status))) outcome = PAGELOG_LOST;
@@ -426,7 +426,7 @@ inline take_over() {
     outcome = (IS_STILL_THE_END -> DONE : LOST)
 }
 
-// pagelog_move.c: settle_tail
+// pagelog_settle.c: pagelog_settle_tail
                     // ..
                     // if (pagelog_tail_is_empty(&named->tail)) return PAGELOG_DONE;
                     // ..
@@ -454,12 +454,12 @@ inline settle_tail() {
                     // ..
                     // enum pagelog_outcome outcome = pagelog_status(file->log, PAGELOG_SECONDARY, &status);
                     // ..
-                    // if (outcome == PAGELOG_DONE) outcome = learn_end(file);
-                    // if (outcome == PAGELOG_DONE) outcome = settle_tail(file, &status);
+                    // if (outcome == PAGELOG_DONE) outcome = pagelog_learn_end(file);
+                    // if (outcome == PAGELOG_DONE) outcome = pagelog_settle_tail(file, &status);
                     // if (outcome != PAGELOG_DONE) return outcome;
                     // named->settled = named->place;
                     // ..
-                    // outcome = find_transaction(file, end_of(file));
+                    // outcome = pagelog_find_transaction(file, end_of(file));
                     // if (outcome == PAGELOG_DONE) named->is_between = false;
                     // return outcome;
 inline arrive() {

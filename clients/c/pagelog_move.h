@@ -137,6 +137,17 @@ void pagelog_hold_transaction(struct pagelog_file *file, const struct mark *mark
 /* The transaction that was read cannot be had any more. */
 void pagelog_give_up_transaction(struct pagelog_file *file);
 
+/* What has become durable in the generation that had the whole tail last, which is over. The keeper of the
+ * one that the file is in is asked first: that lives, and has writers wait while it is asked. LOST: nobody
+ * can say it now. */
+enum pagelog_outcome pagelog_learn_end(struct pagelog_file *file);
+
+/* Sees to it that the log has the whole tail. */
+enum pagelog_outcome pagelog_settle_tail(struct pagelog_file *file, const struct pagelog_reply *status);
+
+/* Looks whether the log, which ends there, has the transaction that is read, at the same position. */
+enum pagelog_outcome pagelog_find_transaction(struct pagelog_file *file, struct pagelog_position hard);
+
 /* Takes the blocks that were ended into the tail. Where that is full it waits until a part is durable; LOST
  * where that cannot be had. After any outcome but DONE they are not in the tail, and must not be sent. */
 enum pagelog_outcome pagelog_hold_blocks(struct pagelog_file *file);

@@ -2,11 +2,11 @@
 
 from plant import Plant
 
-_STEPS, _COMMIT, _FILE, _MOVE = (
+_STEPS, _COMMIT, _FILE, _SETTLE = (
     "c/pagelog_steps.c",
     "c/pagelog_commit.c",
     "c/pagelog_file.c",
-    "c/pagelog_move.c",
+    "c/pagelog_settle.c",
 )
 _NONE, _STATES, _LOSES, _MOVES = (
     "steps_that_are_none",
@@ -26,7 +26,7 @@ PLANTS = {
     "steps, broken for good": Plant(_FILE, "    if (outcome == PAGELOG_DONE && file->standing == BROKEN) pagelog_stand(file, WRITING);\n", "", "c/steps", _STATES),
     "steps, not over": Plant(_COMMIT, "    pagelog_have(file, OVER);\n", "", "c/steps", _LOSES),
     "steps, over for good": Plant(_FILE, "    if (file->reading == OVER) pagelog_have(file, file->source.calls->is_gone_after_loss ? GONE : OPEN);\n", "", "c/steps", _LOSES),
-    "steps, not gone": Plant(_MOVE, "    if (file->reading != OVER) pagelog_have(file, GONE);\n", "", "c/steps", _MOVES),
+    "steps, not gone": Plant(_SETTLE, "    if (file->reading != OVER) pagelog_have(file, GONE);\n", "", "c/steps", _MOVES),
     "steps, gone for good": Plant("c/pagelog_mark.c", "    if (file->reading == GONE) pagelog_have(file, OPEN);\n", "", "c/steps", _MOVES),
     "steps, no doubt": Plant("c/pagelog_vfs_durable.c", "    pagelog_end_with(connection, IN_DOUBT);\n", "", "c/generations", "wait_for_the_archive_ends"),
     "steps, words of a rollback": Plant("c/pagelog_vfs_file.c", "    bool is_rollback = connection->last == REFUSED;\n", "    bool is_rollback = false;\n", "c/vfs_settings", "words_of_a_commit_in_doubt"),

@@ -11,7 +11,7 @@ PLANTS = {
     "begun, whoever began it": Plant("../named", "                    may_be_own = primary == credentials.id and self._may_have_begun\n", "                    may_be_own = primary == credentials.id\n",
                                      "named", "cannot_ask_at_first"),
     "begun, before anything was sent": Plant("../named", "        self._may_have_begun = denial is None\n", "", "named", "cannot_ask_at_first"),
-    "begun, by a reply that was lost": Plant("c/pagelog_move.c", "status->epoch == writing || pagelog_may_have_begun(file->log, status);", "status->epoch == writing;",
+    "begun, by a reply that was lost": Plant("c/pagelog_settle.c", "status->epoch == writing || pagelog_may_have_begun(file->log, status);", "status->epoch == writing;",
                                              "c/generations", "reply_is_lost_is_no_other_writer"),
     "turn, after the archive": Plant("c/pagelog_vfs_file.c", "    if (code == SQLITE_OK) give_turn_before_wait(connection);\n", "", "c/turns",
                                      "next_commit_does_not_wait"),
@@ -79,5 +79,5 @@ PLANTS = {
                                    "    enum pagelog_outcome outcome = pagelog_append(file->log, file->blocks, file->options.written);\n    if (file->tell_sent) file->tell_sent(file->told_sent);\n    return outcome;\n", "c/generations", "while_the_service_has_it"),
     "ring, of each commit": Plant("c/pagelog_vfs_durable.c", "bool rings = database->is_named && connection->synchronous >= SYNCHRONOUS_FULL;", "bool rings = database->is_named;",
                                   "c/generations", "while_the_service_has_it"),
-    "tail, right behind another's": Plant("c/pagelog_move.c", "(is_next && is_upon_lost(file))", "(is_next && false && is_upon_lost(file))", "upon", "right_before"),
+    "tail, right behind another's": Plant("c/pagelog_settle.c", "(is_next && is_upon_lost(file))", "(is_next && false && is_upon_lost(file))", "upon", "right_before"),
 }  # fmt: skip
