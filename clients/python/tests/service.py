@@ -36,6 +36,12 @@ os.environ.pop("PYTHONDONTWRITEBYTECODE", None)
 os.environ.setdefault("PYTHONPYCACHEPREFIX", str(HERE.parent / "out" / "bytecode"))
 IS_LONG = os.environ.get("PAGELOG_TEST_LONG") == "1"
 
+
+def plain_environment(**more: str) -> dict[str, str]:
+    """That of this process, but for what is loaded before all else, as by scripts/slow: a program with sanitizers wants theirs there."""
+    return {name: value for name, value in os.environ.items() if name != "LD_PRELOAD"} | more
+
+
 # The start table with rights that a restore, a move and a new primary need: principal 2 is a secondary as well.
 WIDE_TABLE = TABLE.read_text() + '\n[[row]]\nverdict = "allow"\nwho = 2\nrole = "secondary"\n'
 

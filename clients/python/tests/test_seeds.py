@@ -2,11 +2,10 @@
 
 from __future__ import annotations
 
-import os
 import subprocess
 import unittest
 
-from service import PATIENCE, TOP
+from service import PATIENCE, TOP, plain_environment
 
 C, PYTHON = TOP / "clients" / "c", TOP / "clients" / "python"
 BUILT = PYTHON / "out" / "seeds_"
@@ -34,7 +33,7 @@ class Seeds(unittest.TestCase):
         files = sorted((C / "tests" / "seeds" / (seeds or target)).iterdir())
         done = subprocess.run(
             [f"{BUILT}{target}", *files],
-            env={**os.environ, "ASAN_OPTIONS": "detect_leaks=1"},
+            env=plain_environment(ASAN_OPTIONS="detect_leaks=1"),
             stdout=subprocess.PIPE,
             stderr=subprocess.STDOUT,
             timeout=PATIENCE,
