@@ -50,7 +50,7 @@ from pagelog.reply import State, decode_reply
 from pagelog.request import Role
 from pagelog.rules import AboveTheEnd, UnknownPrincipal
 from pagelog.objects.settings import StoreSettings
-from service import PATIENCE, TABLE, WIDE_TABLE, Service, token
+from service import PATIENCE, TABLE, WIDE_TABLE, Service, plain_environment, token
 from test_set_back import SetBack
 
 PAGES = (0, 1, 2, 3, 5, 8, 65536, 65537)
@@ -652,7 +652,11 @@ class Pages(Paged):
 
     def test_the_program_says_its_version(self) -> None:
         said = subprocess.run(
-            [pages_program.program(), "--version"], capture_output=True, text=True, check=True
+            [pages_program.program(), "--version"],
+            capture_output=True,
+            text=True,
+            check=True,
+            env=plain_environment(),
         ).stdout
         wanted = f"pagelog-pages, version {pagelog.__version__}, from a source tree\n"
         self.assertEqual(said, wanted)
@@ -792,6 +796,7 @@ class Stored(Served):
         """Archives, some before a base and some behind it, until PostgreSQL has nothing of it."""
         with self.keeping.primary() as primary:
             positions = [self.commit(primary, n) for n in range(10)]
+            eventually(lambda: self.here()[2] == positions[-1], "objects that end before the base")
             self.keeping.word("rollover", "shop")
             eventually(lambda: self.keeping.row().images > 0, "a base")
             positions += [self.commit(primary, n) for n in range(10, 20)]
