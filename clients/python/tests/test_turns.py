@@ -437,6 +437,21 @@ class Rules(unittest.TestCase):
                     (["turn shop other"], ["busy shop"], []),
                 )
 
+    def test_who_asks_for_now_while_it_is_early_is_told_that_the_turn_is_kept(self) -> None:
+        """By one that may not use it: who was told nothing would take the keeper for gone, and write without a turn."""
+        self.turns = Turns("shop", 2, self.clock)
+        self.slice(self.b)
+        self.ask(self.a, now=True, heartbeat=True)
+        self.ask(self.c, now=True)
+        self.assertEqual((self.a.lines, self.b.lines, self.c.lines), ([], [], []))
+        self.clock.end()
+        self.assertEqual(
+            (self.a.lines, self.b.lines, self.c.lines),
+            (["soon shop"], ["turn shop other kept slice=10"], ["busy shop"]),
+        )
+        self.back(self.b)
+        self.assertEqual(self.a.last(), "turn shop other")
+
     def test_who_had_the_turn_before_comes_first(self) -> None:
         self.turns = Turns("shop", 2, self.clock)
         self.ask(self.a)

@@ -134,6 +134,22 @@ static void refuse_hurried(struct turns *turns) {
     }
 }
 
+/* It is early no more, and another keeps the turn, and may not use it: who has asked for it at once hears that now. */
+static void tell_hurried(struct turns *turns) {
+    for (struct seat *seat = turns->first, *behind; seat != NULL; seat = behind) {
+        behind = seat->behind;
+        if (!seat->is_hurried) {
+            continue;
+        }
+        if (seat->has_heartbeat) {
+            tell(turns, seat, "soon", "");
+        } else {
+            wait_no_more(turns, seat);
+            tell(turns, seat, "busy", "");
+        }
+    }
+}
+
 /* The turn. */
 
 static void give(struct turns *turns, struct seat *seat, int64_t now) {
@@ -392,6 +408,7 @@ int64_t turns_see_clock(struct turns *turns, int64_t now) {
         turns->early = 0;
         turns->is_early = false;
         go_on(turns, now);
+        tell_hurried(turns);
     }
     if (is_due(turns->slice, now)) {
         end_slice(turns, now);

@@ -187,6 +187,16 @@ class Turns:
             line.say("busy", self.name)
         self._hurried.clear()
 
+    def _tell_hurried(self) -> None:
+        """It is early no more, and another keeps the turn, and may not use it: who has asked for it at once hears that now."""
+        for line in list(self._hurried):
+            if line in self._beating:
+                line.say("soon", self.name)
+            else:
+                self._waiting.remove(line)
+                self._hurried.discard(line)
+                line.say("busy", self.name)
+
     def back(self, line: Line, epoch: int | None = None) -> None:
         """Who has the turn gives it back; who waits for it waits no more."""
         if line in self._waiting:
@@ -235,6 +245,7 @@ class Turns:
         """Who had the turn before has come by now, or had no transaction."""
         self._is_early = False
         self._next()
+        self._tell_hurried()
 
     def _next(self) -> None:
         if self._is_early:
