@@ -1,5 +1,6 @@
 """Writers of several processes that take turns, at real keepers: two and eight forked processes, each with a hundred requests of three
-statements, as a web server's workers have them. No error, and no update is lost.
+statements, as a web server's workers have them. No error, and no update is lost. Where no keeper has answered for a while others write
+without a turn: a request that is SQLITE_BUSY_SNAPSHOT then is begun again, as nothing of it is there.
 
 Usage: kept_turns.py [REQUESTS] [LEVEL] [faults] [PROCESSES ..]     (while services are killed, and the database changes hands and
 generations; so many processes, such as sixteen)
@@ -8,6 +9,7 @@ generations; so many processes, such as sixteen)
 import json
 import os
 import signal
+import sqlite3
 import sys
 import threading
 import time
@@ -40,8 +42,25 @@ def worker(addresses, who, requests, level):
         if connection is None or who % 2:
             connection = sqlite_of(addresses, NAME, 2, busy=120)
             connection.execute(f"pragma synchronous = {level}")
-        seen.append(request(connection, who, number))
+        seen.append(request_again(connection, who, number))
     return seen
+
+
+def request_again(connection, who, number):
+    """Until it is there. What ends a worker it tells with all that is known of it."""
+    since = time.monotonic()
+    while True:
+        try:
+            return request(connection, who, number)
+        except sqlite3.Error as error:
+            why = one(connection, "pragma pagelog_error")
+            if connection.in_transaction:
+                connection.execute("rollback")
+            if getattr(error, "sqlite_errorname", "") != "SQLITE_BUSY_SNAPSHOT":
+                error.add_note(
+                    f"{why}, in request {number}, after {time.monotonic() - since:.1f} s, at {time.monotonic():.1f}"
+                )
+                raise
 
 
 def in_child(action):
@@ -50,7 +69,8 @@ def in_child(action):
         try:
             said = json.dumps(action())
         except BaseException as error:  # noqa: BLE001
-            said = json.dumps(f"{getattr(error, 'sqlite_errorname', '')} {error!r}")
+            notes = " ".join(getattr(error, "__notes__", ()))
+            said = json.dumps(f"{getattr(error, 'sqlite_errorname', '')} {error!r} {notes}")
         os.write(writing, said.encode())
         os._exit(0)
     os.close(writing)
@@ -68,7 +88,7 @@ class Faults:
     """What happens to the database while its writers work: one after the other, each once they have gone on for some commits."""
 
     def __init__(self, keeping):
-        self.keeping, self.happened = keeping, Counter()
+        self.keeping, self.happened, self.times = keeping, Counter(), []
 
     def happen(self, is_over):
         events = [self.die, self.succeed, self.switch_over, self.take_over]
@@ -85,6 +105,7 @@ class Faults:
                 time.sleep(0.01)
             if is_over():
                 return
+            self.times.append(f"{event.__name__} at {time.monotonic():.1f}")
             try:
                 event()
                 self.keeping.place(NAME, generation + 1)
@@ -156,6 +177,8 @@ def main(requests, level, with_faults, counts):
                 faults.happen(lambda: not waits.is_alive())
                 print(f"turns: {dict(faults.happened)}")
             waits.join()
+            if any(isinstance(each, str) for each in said):
+                print(f"turns: {faults.times}")
             look(
                 keeping,
                 f"{level}, faults" if with_faults else level,

@@ -150,6 +150,9 @@ class Replying(Line):
 class Keeping:
     """Keepers of one referee, as processes, and the clients of their database. All of it ends with the `with`."""
 
+    lines_host = "127.0.0.1"
+    """Where keepers listen."""
+
     def __init__(
         self,
         *,
@@ -275,7 +278,7 @@ class Keeping:
                 "--name",
                 self.names.get(name, name),
                 self.listens[0],
-                f"127.0.0.1:{self.ports[name]}",
+                f"{self.lines_host}:{self.ports[name]}",
                 self.listens[1],
                 self.host,
                 "--folder",
@@ -298,7 +301,7 @@ class Keeping:
 
     def lines_of(self, name: str) -> str:
         """Where a keeper says that it listens."""
-        return f"127.0.0.1:{self.ports[name]}"
+        return f"{self.lines_host}:{self.ports[name]}"
 
     def file_of(self, name: str) -> Path:
         """The credentials of a keeper."""

@@ -25,6 +25,8 @@ MOUNTS = "PAGELOG_TORTURE_MOUNTS"
 """In the environment where what is mounted ends with the space of processes."""
 DATABASE = "postgres"
 """The program whose processes end each other, by signals too."""
+LOOKS = "ldconfig"
+"""What Python asks for the names of libraries: it ends by SIGPIPE where who asked was killed."""
 PIDFD_GETFD = 438
 """The number of this call of Linux, which Python does not have."""
 _OWN = "setpriv --pdeathsig KILL unshare --mount --propagation private --pid --fork --mount-proc --kill-child"
@@ -54,7 +56,8 @@ def end_of(status: int) -> str:
 
 def is_expected(name: str, status: int) -> bool:
     """Whether a torture does that itself: all that it kills it kills by SIGKILL."""
-    return status >= 0 or -status == signal.SIGKILL or name == DATABASE
+    is_left = (name, -status) == (LOOKS, signal.SIGPIPE)
+    return status >= 0 or -status == signal.SIGKILL or name == DATABASE or is_left
 
 
 # The first process.
