@@ -115,6 +115,10 @@ uint64_t pagelog_file_generation(const struct pagelog_file *file);
 /* Whether the keepers know of a later generation than the one that the file is in: asked once a second. */
 bool pagelog_file_is_overtaken(struct pagelog_file *file);
 
+/* The same, asked now: of who writes without asking anybody else. Where keepers are silent it is asked half
+ * of the time. */
+bool pagelog_file_is_superseded(struct pagelog_file *file);
+
 /* As pagelog_set_waiting. */
 void pagelog_file_set_waiting(struct pagelog_file *file, bool (*goes_on)(void *argument), void *argument);
 

@@ -104,7 +104,7 @@ struct pagelog_file {
     uint64_t sent;         /* when the last of them was sent */
     uint64_t tidied;       /* how many bytes had been sent when the service was asked to tidy up */
     uint64_t losses;       /* how often some of them were lost */
-    const char *lost;      /* why, until a begin; NULL: nobody waited for them, or another has gone on */
+    const char *lost;      /* why, until a begin; NULL: nobody has waited for them */
     uint64_t given_up;     /* how often the transaction that is read could not be had any more */
     uint64_t session;      /* of the writer in this run, by a random seed: no other has it */
     uint8_t seed[SEED_BYTES];

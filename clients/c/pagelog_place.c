@@ -108,6 +108,10 @@ bool pagelog_keepers_wait_on(struct pagelog_keepers *keepers) {
     return pagelog_waits_on(&keepers->waiter);
 }
 
+void pagelog_keepers_wait_again(struct pagelog_keepers *keepers) {
+    keepers->waiter.is_given_up = false;
+}
+
 void pagelog_keepers_are_of(struct pagelog_keepers *keepers, const struct pagelog_place *place) {
     keepers->own = *place;
     keepers->has_own = true;

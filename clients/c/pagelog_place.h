@@ -87,6 +87,9 @@ void pagelog_keepers_set_waiting(struct pagelog_keepers *keepers, bool (*goes_on
 /* Whether who waits goes on with it: as of a wait that began when the first one did since that was set. */
 bool pagelog_keepers_wait_on(struct pagelog_keepers *keepers);
 
+/* After a question that who waits has ended: the same wait goes on, with another one. */
+void pagelog_keepers_wait_again(struct pagelog_keepers *keepers);
+
 /* For a child of fork(): closes the descriptors there, and nothing else. */
 void pagelog_keepers_abandon(struct pagelog_keepers *keepers);
 

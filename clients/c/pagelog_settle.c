@@ -140,6 +140,7 @@ static enum pagelog_outcome lose_to(struct pagelog_file *file, struct pagelog_po
     pagelog_begin_session(file); /* what comes at the positions of its commits is something else */
     if (!was_told) return pagelog_file_fail(file, outcome, why);
     named->own = last_before(position);
+    file->lost = why;
     file->on_their_way = 0;
     file->losses++;
     pagelog_have(file, OVER);

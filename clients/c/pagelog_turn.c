@@ -10,6 +10,9 @@
 
 enum { ANSWER_MS = 1000, SHUNNED_MS = 1000, PATIENT_MS = 3000, FRESH_MS = 10, MOST_READS = 128 };
 
+/* For so long after the first loss who dies again and again is waited for each time. */
+enum { MOST_PATIENT_MS = 10000 };
+
 /* So soon after a place has become known a keeper that lives may wait for who wrote last in the generation
  * before, and answers nobody else for a second. */
 enum { YOUNG_MS = 2000 };
@@ -45,7 +48,16 @@ static enum pagelog_outcome lose(struct pagelog_turn *turn) {
     pagelog_turn_leave(turn);
     turn->shunned = pagelog_after(SHUNNED_MS);
     if (turn->patient == 0) turn->patient = pagelog_after(PATIENT_MS);
+    if (turn->most_patient == 0) turn->most_patient = pagelog_after(MOST_PATIENT_MS);
     return PAGELOG_LOST;
+}
+
+/* Its connection has ended. A keeper that had it wait, or was still to answer, has lived until now: another
+ * one may have it from now on. */
+static enum pagelog_outcome lose_line(struct pagelog_turn *turn) {
+    bool has_lived = turn->is_asked && turn->line.version > 0;
+    if (has_lived && pagelog_now() < turn->most_patient) turn->patient = 0;
+    return lose(turn);
 }
 
 /* The number of a key, where that is said and below `most`; 0: it is not. */
@@ -66,7 +78,7 @@ static bool take(struct pagelog_turn *turn, char *text) {
     } else if (strcmp(word, "turn") == 0) {
         turn->is_asked = turn->is_soon = turn->is_wanted = turn->is_unheard = turn->is_mine = false;
         turn->is_held = true;
-        turn->patient = 0;
+        turn->patient = turn->most_patient = 0;
         turn->is_same = turn->has_newest = strcmp(how, "same") == 0;
         turn->is_kept = strcmp(kept, "kept") == 0;
         turn->epoch = read_key(text, " epoch=", UINT32_MAX);
@@ -90,7 +102,7 @@ enum pagelog_outcome pagelog_turn_look(struct pagelog_turn *turn) {
         while (pagelog_line_take(&turn->line, text))
             if (!take(turn, text)) return lose(turn);
     }
-    if (!is_good) return lose(turn);
+    if (!is_good) return lose_line(turn);
     return turn->is_held ? PAGELOG_DONE : PAGELOG_CONFLICT;
 }
 
@@ -160,7 +172,7 @@ static bool lead_to(struct pagelog_turn *turn, const struct pagelog_place *place
     turn->line.proof = turn->proof.is_there ? &turn->proof : NULL;
     turn->generation = place->generation;
     turn->led = pagelog_now();
-    turn->shunned = turn->patient = 0;
+    turn->shunned = turn->patient = turn->most_patient = 0;
     return true;
 }
 

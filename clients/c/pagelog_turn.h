@@ -25,19 +25,20 @@ struct pagelog_turn {
     bool is_used;    /* it was asked for, and not given back since */
     bool has_newest; /* its holder has all that was written before */
     bool is_mine; /* such a one was held when its line or its generation ended: whoever had it comes first */
-    uint64_t mine_in;   /* in this generation alone; 0: in the next one that it is asked for in */
-    bool is_same;       /* the turn before was this one's too: nobody has written since */
-    bool is_kept;       /* it may be used again */
-    bool is_wanted;     /* another waits for it */
-    bool is_unheard;    /* that was said, and is not answered yet */
-    bool has_heartbeat; /* it is answered at any time, by pagelog_turn_heartbeat */
-    bool takes_slices;  /* who asks now writes one transaction after the other */
-    uint64_t slice;     /* until when the one that is held is used without a word; 0: it is no slice */
-    uint64_t given;     /* when it was given back last, or would have been; 0: it was asked for since */
-    unsigned gaps;      /* how often in a row it was asked for right after that */
-    uint64_t led;       /* when this place was asked for first */
-    uint64_t shunned;   /* until when a keeper that has not answered is left alone */
-    uint64_t patient;   /* until when another keeper may have it, since it was lost here; 0: it was not */
+    uint64_t mine_in;      /* in this generation alone; 0: in the next one that it is asked for in */
+    bool is_same;          /* the turn before was this one's too: nobody has written since */
+    bool is_kept;          /* it may be used again */
+    bool is_wanted;        /* another waits for it */
+    bool is_unheard;       /* that was said, and is not answered yet */
+    bool has_heartbeat;    /* it is answered at any time, by pagelog_turn_heartbeat */
+    bool takes_slices;     /* who asks now writes one transaction after the other */
+    uint64_t slice;        /* until when the one that is held is used without a word; 0: it is no slice */
+    uint64_t given;        /* when it was given back last, or would have been; 0: it was asked for since */
+    unsigned gaps;         /* how often in a row it was asked for right after that */
+    uint64_t led;          /* when this place was asked for first */
+    uint64_t shunned;      /* until when a keeper that has not answered is left alone */
+    uint64_t patient;      /* until when another keeper may have it, since it was lost here; 0: it was not */
+    uint64_t most_patient; /* and until when that may begin anew */
 };
 
 /* A turn that was not asked for yet; its line is by this TLS, or without where it is NULL. */

@@ -19,7 +19,21 @@ struct wait_of {
     struct connection *connection;
     bool is_commit;
     uint64_t losses;
+    uint64_t generation; /* that is asked about, while others are let in; 0: nobody is asked */
+    uint64_t left;       /* the last one whose question was ended since it is over */
 };
+
+/* A keeper may stand still, or its machine be gone, and nobody says over its line that another has the
+ * database. Others write there once they have waited a while for what is to be sent again: so its question
+ * ends. */
+static bool waits_on(void *argument) {
+    struct wait_of *wait = argument;
+    if (!pagelog_connection_waits_on(wait->connection)) return false;
+    if (wait->generation <= wait->left) return true;
+    bool is_past = pagelog_poll_is_past(wait->connection->database, wait->generation);
+    if (is_past) wait->left = wait->generation;
+    return !is_past;
+}
 
 /* What is lost meanwhile the next statement tells, where this call does not. */
 static void note_losses(const struct wait_of *wait) {
@@ -33,6 +47,7 @@ static void let_in(void *argument) {
     struct database *database = wait->connection->database;
     note_losses(wait);
     database->durable_waits += wait->is_commit;
+    wait->generation = pagelog_file_generation(database->file);
     sqlite3_mutex_leave(database->mutex);
 }
 
@@ -40,6 +55,8 @@ static void go_on(void *argument) {
     struct wait_of *wait = argument;
     struct database *database = wait->connection->database;
     sqlite3_mutex_enter(database->mutex);
+    if (wait->left == wait->generation) pagelog_keepers_wait_again(wait->connection->keepers);
+    wait->generation = 0;
     database->durable_waits -= wait->is_commit;
     pagelog_file_set_waiting(database->file, pagelog_connection_waits_on, wait->connection);
     wait->losses = pagelog_file_losses(database->file);
@@ -77,8 +94,9 @@ static enum pagelog_outcome wait_for(struct connection *connection, uint64_t pos
     struct pagelog_asking asking = {
         .keepers = keepers_of(connection), .let_in = let_in, .go_on = go_on, .argument = &wait};
     if (!asking.keepers) return PAGELOG_LOST;
-    pagelog_keepers_set_waiting(asking.keepers, pagelog_connection_waits_on, connection);
+    pagelog_keepers_set_waiting(asking.keepers, waits_on, &wait);
     enum pagelog_outcome outcome = pagelog_file_await(database->file, position, &asking);
+    pagelog_keepers_set_waiting(asking.keepers, NULL, NULL);
     note_losses(&wait);
     return outcome;
 }

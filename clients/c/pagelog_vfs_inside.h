@@ -57,6 +57,7 @@ struct database {
     bool has_heartbeat;
     struct connection *turn_of;       /* who has it, or waits for it; NULL: nobody */
     unsigned turn_writes;             /* in the transaction that has it */
+    uint64_t wrote_in;                /* the generation in which it was the writer last; 0: in none */
     unsigned contended;               /* turns to come that are asked for before a begin, as others write */
     struct connection *first_waiting; /* of this process, for the write lock, in the order of asking */
     unsigned
@@ -286,6 +287,10 @@ void pagelog_wait_before_close(struct connection *connection);
 
 /* Before a begin: has that ask where the database is, if keepers say that its run was superseded. */
 void pagelog_poll_holder(struct database *database);
+
+/* While a commit waits, without the mutex: whether keepers say that a generation later than this one is
+ * there. They are asked twice a second. */
+bool pagelog_poll_is_past(struct database *database, uint64_t generation);
 
 /* After a begin of a reader of what is durable; and after the open of one, which waits until it can read what
  * others of this process have read. As pagelog_file_reach. */

@@ -12,6 +12,7 @@
 
 enum {
     EACH_MS = 1000,    /* between two questions, as long as there are begins */
+    OFTEN_MS = 500,    /* the same, where a commit waits until it is durable */
     SLOWEST_MS = 8000, /* the same, where no keeper answers: each pause is twice the one before */
     IDLE_MS = 2000,    /* after so long without a begin one waits for the answers, */
     ANSWER_MS = 1000,  /* at most so long */
@@ -27,7 +28,7 @@ struct holder_poll {
     struct pagelog_keepers *keepers;
     struct pagelog_told told; /* the last answers */
     uint64_t begun;           /* when there was a begin last, */
-    uint64_t due;             /* and when the next question is */
+    uint64_t ended;           /* and when the last question has ended: the next one comes that pause later */
     unsigned pause_ms;
     bool is_asked;     /* a question is on its way */
     uint64_t rounds;   /* answers that have come, and questions that none came to */
@@ -122,22 +123,27 @@ void pagelog_abandon_polls(void) {
     polls = NULL;
 }
 
-/* Takes answers, and asks where that is due. */
-static void ask(struct holder_poll *poll) {
-    uint64_t now = now_ms();
-    bool was_idle = now - poll->begun > IDLE_MS;
-    poll->begun = now;
-    if (!was_idle && !poll->is_asked && now < poll->due) return;
-    if (was_idle || !poll->is_asked) pagelog_where_begin(poll->keepers);
+/* Takes answers, or waits for them, and asks so long after the last question. */
+static void ask(struct holder_poll *poll, unsigned pause_ms, uint64_t wait_ms) {
+    if (wait_ms == 0 && !poll->is_asked && now_ms() - poll->ended < pause_ms) return;
+    if (wait_ms > 0 || !poll->is_asked) pagelog_where_begin(poll->keepers);
     struct pagelog_told told;
-    poll->is_asked = !pagelog_where_take(poll->keepers, was_idle ? ANSWER_MS : 0, &told);
+    poll->is_asked = !pagelog_where_take(poll->keepers, wait_ms, &told);
     bool is_said = told.generation > 0 || told.is_doubtful;
     if (is_said) poll->told = told;
     if (poll->is_asked) return;
     poll->rounds++;
     poll->pause_ms = is_said || poll->pause_ms == 0 ? EACH_MS : 2 * poll->pause_ms;
     if (poll->pause_ms > SLOWEST_MS) poll->pause_ms = SLOWEST_MS;
-    poll->due = now_ms() + poll->pause_ms;
+    poll->ended = now_ms();
+}
+
+/* At a begin. */
+static void ask_at_begin(struct holder_poll *poll) {
+    uint64_t now = now_ms();
+    bool was_idle = now - poll->begun > IDLE_MS;
+    poll->begun = now;
+    ask(poll, poll->pause_ms, was_idle ? ANSWER_MS : 0);
 }
 
 /* Whether the run is a later one than that of the file, or another one of its number. */
@@ -150,13 +156,23 @@ void pagelog_poll_holder(struct database *database) {
     struct holder_poll *poll = database->follows_holder ? poll_of(database) : NULL;
     if (!poll) return;
     sqlite3_mutex_enter(poll->mutex);
-    ask(poll);
+    ask_at_begin(poll);
     bool is_left = is_another(&poll->told, pagelog_file_place(database->file)) || poll->told.is_doubtful;
     bool is_told = is_left && database->polled != poll->rounds;
     if (is_told) database->polled = poll->rounds;
     if (poll->told.generation > 0) pagelog_file_hear_of_page_servers(database->file, poll->told.pages);
     sqlite3_mutex_leave(poll->mutex);
     if (is_told) pagelog_file_suspect(database->file);
+}
+
+bool pagelog_poll_is_past(struct database *database, uint64_t generation) {
+    struct holder_poll *poll = database->poll; /* which a begin has made, before a commit waits */
+    if (!poll || !database->follows_holder) return false;
+    sqlite3_mutex_enter(poll->mutex);
+    ask(poll, OFTEN_MS, 0);
+    bool is_past = poll->told.generation > generation;
+    sqlite3_mutex_leave(poll->mutex);
+    return is_past;
 }
 
 void pagelog_note_durable_read(struct database *database) {

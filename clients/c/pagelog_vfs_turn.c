@@ -242,10 +242,10 @@ static bool comes_later(struct connection *connection, enum pagelog_outcome *out
     struct database *database = connection->database;
     struct pagelog_file *file = database->file;
     bool is_kept = *outcome == PAGELOG_CONFLICT && database->turn.is_soon;
-    bool may_come = *outcome == PAGELOG_LOST && connection->busy && pagelog_turn_may_come(&database->turn) &&
-                    is_upgrade(connection);
-    if (!is_kept && !may_come) return false;
-    if (pagelog_file_is_overtaken(file)) {
+    bool is_lost = *outcome == PAGELOG_LOST && connection->busy && is_upgrade(connection);
+    bool may_come = is_lost && pagelog_turn_may_come(&database->turn);
+    if (!is_kept && !is_lost) return false;
+    if (is_lost && !may_come ? pagelog_file_is_superseded(file) : pagelog_file_is_overtaken(file)) {
         if (!is_upgrade(connection)) return false;
         *moved = pagelog_file_move_on(file);
         if (*moved != PAGELOG_DONE) return false;
@@ -253,7 +253,7 @@ static bool comes_later(struct connection *connection, enum pagelog_outcome *out
         if (!wait_for_kept(connection, *until)) return false;
         *outcome = look(database);
         return true;
-    } else if (!waits_on(connection, -1)) {
+    } else if (!may_come || !waits_on(connection, -1)) {
         return false;
     }
     *outcome = ask(connection, true);
@@ -281,7 +281,10 @@ static int have_turn(struct connection *connection) {
     bool may_come = outcome == PAGELOG_LOST && connection->busy && pagelog_turn_may_come(&database->turn);
     connection->wants_turn = outcome == PAGELOG_CONFLICT;
     if (connection->wants_turn) database->contended = MANY_TURNS;
-    if (connection->wants_turn || may_come) {
+    /* Who is to write without a turn writes not where another has superseded the generation. */
+    bool is_left = outcome == PAGELOG_LOST && !may_come && pagelog_file_is_superseded(database->file);
+    if (is_left) pagelog_file_suspect(database->file);
+    if (connection->wants_turn || may_come || is_left) {
         pagelog_give_turn(connection);
         return SQLITE_BUSY;
     }
@@ -289,11 +292,15 @@ static int have_turn(struct connection *connection) {
     return SQLITE_OK;
 }
 
-/* The file is the writer, and has read all that was written before. */
-static void note_newest(struct database *database) {
+/* The file is the writer, and has read all that was written before. Where it was that in this generation, and
+ * has become it once more, another has written meanwhile, and this process is not the one that wrote last. */
+static void note_newest(struct database *database, bool has_become) {
+    uint64_t generation = pagelog_file_generation(database->file);
     pthread_mutex_lock(&database->turn_guard);
     database->turn.has_newest = database->turn.is_held;
+    if (has_become && database->wrote_in == generation) database->turn.is_mine = false;
     pthread_mutex_unlock(&database->turn_guard);
+    database->wrote_in = generation;
 }
 
 /* A file that has moved meanwhile needs a turn there. */
@@ -302,18 +309,19 @@ int pagelog_reserve_database(struct connection *connection) {
     enum pagelog_outcome outcome;
     uint64_t generation;
     if (!database->is_named) return SQLITE_OK;
+    struct pagelog_file_state before = pagelog_file_state_of(database->file);
     do {
         generation = pagelog_file_generation(database->file);
         int code = have_turn(connection);
         if (code != SQLITE_OK) return code;
         outcome = pagelog_file_reserve(database->file);
     } while (outcome == PAGELOG_DONE && pagelog_file_generation(database->file) != generation);
+    struct pagelog_file_state state = pagelog_file_state_of(database->file);
     if (outcome == PAGELOG_DONE) {
-        note_newest(database);
+        note_newest(database, !before.is_writer || before.writing_epoch != state.writing_epoch);
         return SQLITE_OK;
     }
     pagelog_give_turn(connection);
-    struct pagelog_file_state state = pagelog_file_state_of(database->file);
     connection->wants_turn = outcome == PAGELOG_FENCED && !state.is_over && !state.is_gone;
     return connection->wants_turn ? SQLITE_BUSY : pagelog_result_of_begin(database, outcome);
 }

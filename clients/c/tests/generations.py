@@ -1048,6 +1048,38 @@ def test_what_became_of_a_generation_is_asked_of_who_has_the_next_one():
         same("of it was asked", [], [words for words in heard if words[0] == "durable"])
 
 
+def test_a_commit_that_waits_at_a_silent_keeper_hears_that_another_has_the_next_generation():
+    """It sends there what it lacks as soon as others say so: the silent one is waited for no longer, nor asked first, nor is anybody else
+    asked what is durable before it has come there."""
+    heard, told, asked = [], [], []
+    with silent_after_the_greeting(heard) as (address, _), StubKeeper() as keeper:
+        first = named(keeper)
+        first.execute("create table t(a, b)")
+        first.close()
+        keeper.told_lines, durable = address, keeper.durable
+        connection = named(keeper)
+
+        def noted(*words):
+            asked.append(("durable", words[1]))
+            return durable(*words)
+
+        def rule(frame):
+            asked.append(("service", keeper.now.number))
+            return frame
+
+        thread = threading.Thread(target=lambda: told.append(code_of(lambda: fill(connection, 1))))
+        keeper.is_archiving = False
+        thread.start()
+        until(lambda: any(words[0] == "durable" for words in heard), "it waits at the silent one")
+        keeper.told_lines, keeper.durable = keeper.address, noted
+        keeper.die(lost=1)
+        keeper.rule, keeper.is_archiving = rule, True
+        thread.join()
+        same("told", [None], told)
+        same("it came there first", ("service", 2), asked[0])
+        same("it is there", [0], rows(connection))
+
+
 def test_a_move_that_is_cut_off():
     """Once a reader has come to a generation, and before it has looked what is there of what it read: then it looks when it begins again."""
     with StubKeeper() as keeper:
@@ -1236,6 +1268,8 @@ def test_full_is_told_what_was_lost():
         keeper.is_archiving = True
         thread.join()
         same("told", ["SQLITE_IOERR_FSYNC"], told)
+        why = one(connection, "pragma pagelog_error")
+        true(f"why: {why}", why.endswith("are lost: another writer has gone on"))
         same(
             "not there",
             ([100], "ok"),

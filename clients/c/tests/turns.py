@@ -271,6 +271,80 @@ def test_turns_of_a_keeper_that_is_gone():
         same("both", [0, 1], waits())
 
 
+def test_a_keeper_that_dies_again_and_again_is_waited_for_each_time():
+    """While it lives it has who asks wait: three seconds after the first time are none in which no keeper has answered."""
+    with StubKeeper() as keeper:
+        connection = amid_a_transaction(keeper)
+        before = len(keeper.lines)
+        waits = waits_for_a_turn(keeper)
+        for _ in range(5):
+            until(lambda: keeper.turns._waiting, "it waits")
+            for each in keeper.lines[before:]:
+                with contextlib.suppress(OSError):
+                    each.shutdown(socket.SHUT_RDWR)
+            until(lambda: not keeper.turns._waiting, "its line has ended")
+        until(lambda: keeper.turns._waiting, "it waits again")
+        same("nobody has written meanwhile", None, code_of(lambda: connection.execute("commit")))
+        same("both", (None, [0, 1]), waits())
+
+
+def test_who_had_the_turn_before_another_wrote_without_one_is_not_the_one_who_had_it():
+    """No keeper has answered for a while, and both write on. In the next generation it waits as others do, so that they bring what they
+    have written."""
+    for writes in (False, True):
+        with StubKeeper() as keeper:
+            connection, heard, turn = keep_the_turn(keeper, busy=60), [], keeper.turn
+            count = len(rows(connection))
+
+            def ends(line, words):
+                raise OSError("the line ends")
+
+            keeper.turn = ends
+            keeper.cut_lines()
+            time.sleep(0.05)  # what was looked after a moment ago is used without a look
+            if writes:
+                other = opened_in(keeper.now)
+                fill(other, 1, first=100)
+                other.close()
+            fill(connection, 1, first=200)
+
+            def noted(line, words):
+                heard.append(words)
+                turn(line, words)
+
+            keeper.turn = noted
+            keeper.succeed()
+            fill(connection, 1, first=201)
+            same("all of it", count + 2 + writes, len(rows(connection)))
+            [words, *_] = [words for words in heard if words[0] == "turn"]
+            same(f"it says that it had it: {not writes}", not writes, "mine" in words)
+
+
+def test_who_writes_without_a_turn_writes_nothing_into_a_generation_that_is_over():
+    """Though its service lives: before that it asks whether another is there. A transaction that has read goes on there."""
+    for is_upgrade in (False, True):
+        with StubKeeper() as keeper:
+            connection = keep_the_turn(keeper, busy=60)
+
+            def ends(line, words):
+                raise OSError("the line ends")
+
+            connection.execute("begin" if is_upgrade else "select 1")
+            same("before", 30, len(rows(connection)))
+            keeper.turn = ends
+            keeper.cut_lines()
+            time.sleep(0.05)  # what was looked after a moment ago is used without a look
+            keeper.archive_now()
+            old, before = keeper.now, end_of(keeper)
+            keeper.switch(keeper.next(images=False))
+            fill(connection, 1, first=200)
+            if is_upgrade:
+                connection.execute("commit")
+            with old.asker(wire.SECONDARY) as asker:
+                same(f"{is_upgrade=}: the one that is over", before, asker.status()[2])
+            same("it is in the next one", 31, len(rows(connection)))
+
+
 @contextlib.contextmanager
 def signals_for_ever():
     """They interrupt each call of the system that waits."""
