@@ -201,6 +201,17 @@ static int drop_write(const struct connection *connection) {
     return connection->last == IN_DOUBT ? SQLITE_OK : SQLITE_IOERR;
 }
 
+/* The result of what SQLite does to end a transaction. After a commit that was refused that is its rollback:
+ * where it is refused too, `PRAGMA pagelog_error` still reports why the commit was. */
+static int result_at_end(const struct connection *connection, enum pagelog_outcome outcome) {
+    struct database *database = connection->database;
+    char error[ERROR_BYTES];
+    memcpy(error, database->error, sizeof error);
+    int code = pagelog_result(database, outcome);
+    if (connection->last == REFUSED) memcpy(database->error, error, sizeof error);
+    return code;
+}
+
 static int file_write(sqlite3_file *file, const void *bytes, int length, sqlite3_int64 offset) {
     struct connection *connection = (struct connection *)file;
     struct database *database = enter(file);
@@ -209,8 +220,8 @@ static int file_write(sqlite3_file *file, const void *bytes, int length, sqlite3
     pagelog_hold_turn(connection);
     if (connection->last == COMMITTED) pagelog_end_with(connection, PENDING);
     forget_wal(connection, bytes, length, offset);
-    int code =
-        pagelog_result(database, pagelog_file_write(database->file, (uint64_t)offset, bytes, (size_t)length));
+    int code = result_at_end(connection,
+                             pagelog_file_write(database->file, (uint64_t)offset, bytes, (size_t)length));
     return leave(database, note_error(file, as_io_error(code)));
 }
 
@@ -218,11 +229,12 @@ static int file_write(sqlite3_file *file, const void *bytes, int length, sqlite3
  * The file stays longer then, as by a crash at that moment: SQLite goes by the number of pages in its first
  * one. Only where the file has lost commits that nobody waited for it is told. */
 static int file_truncate(sqlite3_file *file, sqlite3_int64 size) {
-    bool is_committed = ((struct connection *)file)->last == COMMITTED;
+    struct connection *connection = (struct connection *)file;
+    bool is_committed = connection->last == COMMITTED;
     struct database *database = enter(file);
-    int decided = drop_write((struct connection *)file);
+    int decided = drop_write(connection);
     if (decided != SQLITE_NOTFOUND) return leave(database, decided);
-    int code = pagelog_result(database, pagelog_file_resize(database->file, (uint64_t)size));
+    int code = result_at_end(connection, pagelog_file_resize(database->file, (uint64_t)size));
     if (is_committed && !pagelog_file_state_of(database->file).is_over) code = SQLITE_OK;
     return leave(database, note_error(file, as_io_error(code)));
 }
@@ -282,22 +294,17 @@ static int file_device_characteristics(sqlite3_file *file) {
     return CHARACTERISTICS;
 }
 
-/* A commit, or the end of a rollback, after which nothing differs. Where that is refused too, `PRAGMA
- * pagelog_error` still reports why the commit was. */
+/* A commit, or the end of a rollback, after which nothing differs. */
 static int commit(struct connection *connection) {
     struct database *database = connection->database;
     if (is_in_doubt(connection)) {
         pagelog_end_with(connection, ROLLED_BACK);
         return SQLITE_OK;
     }
-    char error[ERROR_BYTES];
-    bool is_rollback = connection->last == REFUSED;
     uint64_t lsn = pagelog_file_lsn(database->file);
-    memcpy(error, database->error, sizeof error);
     pagelog_ring_once_sent(connection);
-    int code = note_refusal(connection, pagelog_result(database, pagelog_file_commit(database->file)));
+    int code = note_refusal(connection, result_at_end(connection, pagelog_file_commit(database->file)));
     pagelog_file_set_sent(database->file, NULL, NULL);
-    if (is_rollback) memcpy(database->error, error, sizeof error);
     if (code == SQLITE_OK && pagelog_file_lsn(database->file) != lsn) pagelog_note_commit(connection);
     return code;
 }

@@ -1188,6 +1188,11 @@ def test_a_commit_that_is_overtaken():
 
         keeper.rule = Before(1, lambda: keeper.die(others=overtaking))
         same("told", "SQLITE_BUSY_SNAPSHOT", code_of(lambda: connection.execute("commit")))
+        same(
+            "why, after its rollback too",
+            "fenced: another writer has gone on: it is not in the database",
+            one(connection, "pragma pagelog_error"),
+        )
         same("it is over", False, connection.in_transaction)
         same(
             "nothing of it is there",

@@ -29,7 +29,7 @@ PLANTS = {
     "steps, not gone": Plant(_SETTLE, "    if (file->reading != OVER) pagelog_have(file, GONE);\n", "", "c/steps", _MOVES),
     "steps, gone for good": Plant("c/pagelog_mark.c", "    if (file->reading == GONE) pagelog_have(file, OPEN);\n", "", "c/steps", _MOVES),
     "steps, no doubt": Plant("c/pagelog_vfs_durable.c", "    pagelog_end_with(connection, IN_DOUBT);\n", "", "c/generations", "wait_for_the_archive_ends"),
-    "steps, words of a rollback": Plant("c/pagelog_vfs_file.c", "    bool is_rollback = connection->last == REFUSED;\n", "    bool is_rollback = false;\n", "c/vfs_settings", "words_of_a_commit_in_doubt"),
+    "steps, words of a rollback": Plant("c/pagelog_vfs_file.c", "    if (connection->last == REFUSED) memcpy(database->error, error, sizeof error);\n", "", "c/generations", "a_commit_that_is_overtaken"),
     "waits, without a pause": Plant("c/pagelog_durable.c", "        if (!goes_on || !pagelog_file_may_wait(file, &patience)) return outcome;\n", "        if (!goes_on) return outcome;\n", "c/generations", "asks_more_and_more"),
     "waits, on a line that has ended": Plant("c/pagelog_line.c", "    if (!was_refused && !was_believed) return;\n", "    (void)was_believed;\n    if (!was_refused) return;\n", "c/generations", "right_after_an_answer"),
     "waits, asked for ever": Plant("c/pagelog_line.c", " = line->awaits_shake = line->is_believed = false;\n", " = line->awaits_shake = false;\n", "c/generations", "right_after_an_answer"),
