@@ -2,7 +2,10 @@
 SQLite over a database of keepers (check=50), with synchronous=full and normal, beside PostgreSQL by psycopg, MariaDB by mysqlclient where both
 are installed (python3-mysqldb, mariadb-server), and stock SQLite in WAL, in one run and in turns. Of each it prints the commits a second, what a commit takes, the least and most commits of a process, and the load.
 
-Usage: python3 -B bench/writers.py [--seconds S] [--rounds N] [PROCESSES ..]     (1.5 seconds, 3 rounds; 1, 2 and 8 processes)
+Usage: python3 -B bench/writers.py [--accounts] [--seconds S] [--rounds N] [PROCESSES ..]     (1.5 seconds, 3 rounds; 1, 2 and 8 processes)
+
+With --accounts a transaction is one as of TPC-B: three updates, of an account, a teller and the branch, a select of the balance, and an insert
+into the history, each commit waits for the disk, or for PostgreSQL, and each rate is compared with that of stock SQLite.
 
 The service is crates/pagelog/out/pagelog, or the program that PAGELOG names. PostgreSQL is the one of the keepers, with fsync, on the disk of
 TMPDIR, where stock SQLite's file is too; what an fdatasync of 8 KiB takes there is printed first."""
@@ -12,6 +15,7 @@ import contextlib
 import multiprocessing
 import os
 import pathlib
+import random
 import shutil
 import sqlite3
 import statistics
@@ -26,13 +30,68 @@ os.environ.setdefault("PAGELOG_EXTENSION", str(ROOT / "clients" / "c" / "pagelog
 sys.path[:0] = [str(ROOT / "clients" / "c" / "tests"), str(ROOT / "clients" / "python" / "src")]
 TABLE = "create table w(id {}, who integer, text text)"
 TEXT = "x" * 100
+ACCOUNTS, TELLERS, MOST = 10_000, 10, 5_000
+STOCK = "stock SQLite, WAL, full"
+
+
+class Inserts:
+    """A row of a hundred bytes."""
+
+    is_full_alone = False
+
+    def make(self, connection, system):
+        connection.execute(TABLE.format(system.key))
+
+    def write(self, connection, mark, who, chance):
+        connection.execute(f"insert into w(who, text) values ({mark}, {mark})", (who, TEXT))
+
+
+class Accounts:
+    """One branch, as each writer of TPC-B has it to do with."""
+
+    is_full_alone = True
+
+    def make(self, connection, system):
+        for name, more in (("accounts", ", teller integer"), ("tellers", ""), ("branches", "")):
+            connection.execute(
+                f"create table {name}(id integer primary key, balance integer{more}, filler char(80))"
+            )
+        connection.execute(
+            "create table history(teller integer, branch integer, account integer, delta integer, filler char(22))"
+        )
+        mark = system.mark
+        connection.execute("begin")
+        for account in range(1, ACCOUNTS + 1):
+            connection.execute(
+                f"insert into accounts values ({mark}, 0, {mark}, {mark})",
+                (account, 1 + account % TELLERS, TEXT[:80]),
+            )
+        for name, count in (("tellers", TELLERS), ("branches", 1)):
+            for number in range(1, count + 1):
+                connection.execute(
+                    f"insert into {name} values ({mark}, 0, {mark})", (number, TEXT[:80])
+                )
+        connection.execute("commit")
+
+    def write(self, connection, mark, who, chance):
+        account, teller = chance.randint(1, ACCOUNTS), chance.randint(1, TELLERS)
+        delta = chance.randint(-MOST, MOST)
+        update = f"update {{}} set balance = balance + {mark} where id = {mark}"
+        connection.execute(update.format("accounts"), (delta, account))
+        connection.execute(f"select balance from accounts where id = {mark}", (account,)).fetchone()
+        connection.execute(update.format("tellers"), (delta, teller))
+        connection.execute(update.format("branches"), (delta, 1))
+        connection.execute(
+            f"insert into history values ({mark}, 1, {mark}, {mark}, {mark})",
+            (teller, account, delta, TEXT[:22]),
+        )
 
 
 class System:
-    """What is written to: how a process opens it, how its transactions begin, and its mark for a value."""
+    """What is written to: how a process opens it, how its transactions begin, its mark for a value, and what each of them does."""
 
-    def __init__(self, name, opened, begin="begin immediate", mark="?"):
-        self.name, self.opened, self.begin, self.mark = name, opened, begin, mark
+    def __init__(self, name, opened, load, begin="begin immediate", mark="?"):
+        self.name, self.opened, self.begin, self.mark, self.load = name, opened, begin, mark, load
         self.rounds = []
 
     @property
@@ -46,14 +105,13 @@ class System:
 
     def write(self, who, seconds, start, told):
         """A process: how long each commit took. An error ends its transaction, and is counted."""
-        insert = f"insert into w(who, text) values ({self.mark}, {self.mark})"
-        connection, taken, errors = self.opened(), [], 0
+        connection, taken, errors, chance = self.opened(), [], 0, random.Random(who)
         start.wait()
         end = time.perf_counter() + seconds
         while (since := time.perf_counter()) < end:
             try:
                 connection.execute(self.begin)
-                connection.execute(insert, (who, TEXT))
+                self.load.write(connection, self.mark, who, chance)
                 connection.execute("commit")
                 taken.append(time.perf_counter() - since)
             except Exception as error:  # noqa: BLE001
@@ -79,6 +137,11 @@ class System:
         for each in made:
             each.join()
         self.rounds.append((said, seconds))
+
+    def rate(self):
+        """Transactions a second, of the rounds that are not shown yet."""
+        rates = [sum(len(one) for one, _ in said) / seconds for said, seconds in self.rounds]
+        return statistics.median(rates) if rates else 0
 
     def show(self, processes):
         rates, least, most, errors = [], [], [], 0
@@ -181,7 +244,7 @@ def plain(path, level):
 
 
 @contextlib.contextmanager
-def systems(folder):
+def systems(folder, load):
     from database import sqlite_of
 
     del sys.modules["service"]  # the tests of the keepers have one of their own
@@ -202,34 +265,35 @@ def systems(folder):
         connection.execute(f"pragma synchronous = {level}")
         return connection
 
+    levels = ("full",) if load.is_full_alone else ("full", "normal")
     with Keeping(ttl=3.0) as keeping, mariadb(folder) as maria:
-        for name in ("full", "normal"):
+        for name in levels:
             keeping.referee.create(
                 name, (ROOT / "clients" / "c" / "table.toml").read_text(), b"s" * 16
             )
         keeping.start("a")
         addresses = ",".join(keeping.addresses)
         made = []
-        for name in ("full", "normal"):
+        for name in levels:
             keeping.place(name)
-            made.append(System(f"keepers, synchronous={name}", lambda name=name: kept(name, name)))
-        made.append(
-            System(
-                "PostgreSQL", lambda: psycopg.connect(keeping.url, autocommit=True), "begin", "%s"
+            made.append(
+                System(f"keepers, synchronous={name}", lambda name=name: kept(name, name), load)
             )
-        )
+        postgresql = lambda: psycopg.connect(keeping.url, autocommit=True)  # noqa: E731
+        made.append(System("PostgreSQL", postgresql, load, "begin", "%s"))
         if maria:
-            made.append(System("MariaDB", maria, "begin", "%s"))
-        for level in ("full", "normal"):
+            made.append(System("MariaDB", maria, load, "begin", "%s"))
+        for level in levels:
             made.append(
                 System(
                     f"stock SQLite, WAL, {level}",
                     lambda level=level: plain(folder / f"{level}.db", level),
+                    load,
                 )
             )
         for each in made:
             connection = each.opened()
-            connection.execute(TABLE.format(each.key))
+            load.make(connection, each)
             connection.close()
         yield made
 
@@ -241,9 +305,11 @@ def main():
     words.add_argument("--seconds", type=float, default=1.5)
     words.add_argument("--rounds", type=int, default=3)
     words.add_argument("--only", default="", help="systems whose names have this alone")
+    words.add_argument("--accounts", action="store_true", help="transactions as of TPC-B")
     words.add_argument("processes", nargs="*", type=int, default=[1, 2, 8])
     asked = words.parse_args()
-    with tempfile.TemporaryDirectory() as folder, systems(pathlib.Path(folder)) as made:
+    load = Accounts() if asked.accounts else Inserts()
+    with tempfile.TemporaryDirectory() as folder, systems(pathlib.Path(folder), load) as made:
         print(
             f"fdatasync of 8 KiB: {fdatasync_ms(folder):.2f} ms; {os.cpu_count()} processors; load {os.getloadavg()[0]:.1f}"
         )
@@ -254,6 +320,10 @@ def main():
                     if asked.only in each.name:
                         each.round(processes, asked.seconds)
             print(f"load {before:.1f} before, {os.getloadavg()[0]:.1f} after:")
+            stock = next((each.rate() for each in made if each.name == STOCK), 0)
+            if asked.accounts and stock:
+                ratios = [f"{each.name} {each.rate() / stock:.2f}" for each in made if each.rounds]
+                print(f"of the rate of {STOCK}: {'; '.join(ratios)}")
             for each in made:
                 if asked.only in each.name:
                     each.show(processes)
