@@ -6,6 +6,7 @@ pub mod Blocking
 pub mod Places
 pub mod Dealing
 pub mod Meeting
+pub mod Assembling
 pub mod Calling
 pub mod Rounds
 pub mod Reading

@@ -1,13 +1,14 @@
 -- Several desks and their passes, as a caller sees them: a list of desks, and a list with a pass of
 -- each.
-use Rattle.std.specs.Prelude.{◌≡◌, ℕ, List, [], ◌∷◌, ◌++◌, map, length, slice_get, slice_set, Option, Some, None}
-use Rattle.std.specs.List.{range_with_len}
+use Rattle.std.specs.Prelude.{◌≡◌, ℕ, List, [], ◌∷◌, ◌++◌, map, length, slice_get, slice_set, Option, Some, None, IfSome}
+use Rattle.std.specs.List.{All, range_with_len}
 use Rattle.pl_table.specs.Requests.Request.{Query}
 use Rattle.pl_core.specs.History.{History}
 use Rattle.pl_core.specs.declared.reply.Reply.{Reply}
 use Rattle.pl_core.specs.declared.reply.Reply.TheVariants as replies
 use Rattle.pl_desk.specs.declared.rule.Terms.{Terms}
 use Rattle.pl_desk.specs.Passes.{Knowledge, DeskOrigin, IsOf, IsSamePass, WasCalled, HasMet, fresh}
+use Rattle.pl_desk.specs.Laws.{HasSeen}
 
 -- as many passes as desks, each of the desk at its place
 pub record ArePassesOf (desks : List DeskOrigin) (passes : List Knowledge) : Type 0 where
@@ -33,6 +34,24 @@ pub record HaveMet (before other after : List Knowledge) : Type 0 where
   pub count : length after ≡ length before
   pub each : (i : ℕ) (p o : Knowledge) → slice_get before i ≡ Some p → slice_get other i ≡ Some o
       → (now : Knowledge) × (slice_get after i ≡ Some now) × IsSamePass p now × HasMet p o now
+
+-- at each desk the pass has seen all that the other one had: its own entries, and those of others
+abbrev pub HaveSeen : List Knowledge → List Knowledge → Type 0
+HaveSeen after other = (i : ℕ) (o : Knowledge) → slice_get other i ≡ Some o
+    → (now : Knowledge) × (slice_get after i ≡ Some now) × HasSeen now o.seen
+
+-- passes that have met: the one that is left, and before they met those of workers and that of a page server
+pub record Met : Type 0 where
+  pub left : List Knowledge
+  pub workers : List (List Knowledge)
+  pub pager : Option (List Knowledge)
+
+-- THE THEOREM of passes that meet in the end: one is left, of these desks, which has seen all that each of them had; none if
+-- there were none.
+abbrev pub AllMet : List DeskOrigin → List (List Knowledge) → Option (List Knowledge) → Option Met → Type 0
+AllMet desks workers pager None = (workers ≡ []) × (pager ≡ None)
+AllMet desks workers pager (Some met) = (met.workers ≡ workers) × (met.pager ≡ pager) × ArePassesOf desks met.left
+    × All (HaveSeen met.left) workers × IfSome pager (HaveSeen met.left)
 
 -- what the desks of these databases are made with
 abbrev pub terms_of_each : ℕ → ℕ → List History → List Terms

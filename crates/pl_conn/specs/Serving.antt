@@ -1,5 +1,5 @@
 -- Passes after the conversations of their workers.
-use Rattle.std.specs.Prelude.{◌≡◌, ◌≢◌, ℕ, ℤ, pos, ◌≤◌, ⊤, Bool, false, List, [], ◌∷◌, Option, Some, None, take}
+use Rattle.std.specs.Prelude.{◌≡◌, ◌≢◌, ℕ, ℤ, pos, ◌≤◌, ◌⊎◌, ⊤, Bool, false, List, [], ◌∷◌, length, Option, Some, None, take}
 use Rattle.std.specs.List.{All, list_any}
 use Rattle.std.specs.Ordering.{int_eq}
 use Rattle.pl_table.specs.Requests.Request.{Query}
@@ -24,13 +24,14 @@ Returned calls [] (pass ∷ passes) = ⊥
 Returned calls (given ∷ others) [] = ⊥
 Returned calls (given ∷ others) (pass ∷ passes) = Reaches calls given pass × Returned calls others passes
 
--- what is so once all connections are served: the passes that come back are those of the first workers, in order
+-- what is so once all connections are served: as many workers were started as passes come back, at least one if connections could
+-- be accepted, and these are the passes of the first workers, in order
 pub record ServesConnections {P : Type 0} (calls : Calls P) (owns : P → Type 0) (given : List P) (connections accepted : ℕ) (stop : Stop) (passes : List P) : Type 0 where
   pub most : accepted ≤ connections
   pub limit : stop ≡ stops.Limit → accepted ≡ connections
   pub none : stop ≡ stops.Start → (accepted ≡ 0) × (passes ≡ [])
-  pub started : ℕ
-  pub returned : Returned calls (take started given) passes
+  pub started : (stop ≡ stops.Limit) ⊎ (stop ≡ stops.Accept) → 1 ≤ length passes
+  pub returned : Returned calls (take (length passes) given) passes
   pub own : All owns passes
 
 -- what is so once no more connections are accepted for workers: at most this many were, just as many if that was the limit

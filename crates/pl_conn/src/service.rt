@@ -141,6 +141,7 @@ where
     ensures passes { Returned (G.calls gate.now)
         (each_of workers.items (λ h. h.promise.start.value)) result.0.items }
     ensures own { All (G.owns gate.now) result.0.items }
+    ensures count { vec_len result.0 ≡ vec_len workers }
 {
     let mut workers = workers;
     let mut ended = ended;
@@ -265,8 +266,9 @@ where
     // Each pass is the gate's.
     requires own { All (G.owns gate.now) passes.items }
     // At most `connections` are accepted, and exactly that many if the stop is `Limit`; at `Start`
-    // none, and no pass is returned. The returned passes are a prefix of those given, in order,
-    // each after a list of the gate's calls, and are the gate's (`ServesConnections`).
+    // none, and no pass is returned; at `Limit` and `Accept` one at least. The returned passes are a
+    // prefix of those given, in order, each after a list of the gate's calls, and are the gate's
+    // (`ServesConnections`).
     ensures serves { ServesConnections (G.calls gate.now) (G.owns gate.now) passes.items connections
         result.accepted result.stop result.passes.items }
 {
@@ -294,8 +296,9 @@ where
     // Each pass is the gate's.
     requires own { All (G.owns gate.now) passes.items }
     // At most `connections` are accepted, and exactly that many if the stop is `Limit`; at `Start`
-    // none, and no pass is returned. The returned passes are a prefix of those given, in order,
-    // each after a list of the gate's calls, and are the gate's (`ServesConnections`).
+    // none, and no pass is returned; at `Limit` and `Accept` one at least. The returned passes are a
+    // prefix of those given, in order, each after a list of the gate's calls, and are the gate's
+    // (`ServesConnections`).
     ensures serves { ServesConnections (G.calls gate.now) (G.owns gate.now) passes.items
         terms.now.connections result.accepted result.stop result.passes.items }
 {

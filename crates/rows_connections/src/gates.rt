@@ -138,7 +138,7 @@ fn materialise_follows_epochs(rt: HostRuntime) {
     assert!(&rt; matches!(seen, Ok(AFTER_FAILOVER)));
 }
 
-/// What the last of the passes asks, what the one before it asks then, and what the last asks once it has met the other.
+/// What the last of the passes asks, what the one before it asks then, and what is asked by the one that is left of all.
 pub(crate) type Rows<'a> = [&'a [Asked<'a>]; 3];
 
 // The gate replies so to each.
@@ -157,22 +157,28 @@ fn answers_all<G: Gate>(
     Ok(())
 }
 
-// The two passes ask, and meet.
+// The two passes ask, and all meet: the one that is left asks.
 fn ask_and_meet<R: Wait>(
     alloc: Global,
     desks: &Desks<R>,
-    last: &mut Passes,
+    mut last: Passes,
     mut before: Passes,
+    others: Vec<Passes>,
     rows: &Rows<'_>,
 ) -> Result<(), Stop>
-    requires last { ArePassesOf desks.now last.old }
+    requires last { ArePassesOf desks.now last }
     requires before { ArePassesOf desks.now before }
+    requires others { All (ArePassesOf desks.now) others.items }
 {
     let [of_last, of_before, after] = *rows;
-    answers_all(alloc, desks, last, of_last)?;
+    answers_all(alloc, desks, &mut last, of_last)?;
     answers_all(alloc, desks, &mut before, of_before)?;
-    desks.meet(last, before);
-    answers_all(alloc, desks, last, after)
+    let mut workers = others;
+    workers.push(before)?;
+    match desks.meet_all(workers, Some(last)) {
+        Some(met) => answers_all(alloc, desks, &mut met.into_pass(), after),
+        None => Err(Stop::Changed),
+    }
 }
 
 // The last two of the passes ask, of which there is one for each seat.
@@ -186,9 +192,9 @@ fn ask_by_last<R: Wait>(
     requires of { All (ArePassesOf desks.now) passes.items }
 {
     check(passes.len() == seats as usize)?;
-    let mut last = last_of(desks, &mut passes)?;
+    let last = last_of(desks, &mut passes)?;
     let before = last_of(desks, &mut passes)?;
-    ask_and_meet(alloc, desks, &mut last, before, rows)
+    ask_and_meet(alloc, desks, last, before, passes, rows)
 }
 
 fn desks_answer<R: Wait + Drop>(
