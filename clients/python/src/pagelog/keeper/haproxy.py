@@ -24,6 +24,8 @@ ASKED, LINES = "front.sock", "lines.sock"
 """Where it is told something, and where the keeper hears the lines that come through it."""
 PATIENCE = 10.0
 """Seconds for which it is waited for."""
+MOST_THREADS = 4
+"""Of half of the processors: services and PostgreSQL need the others to keep up with it."""
 MAPS = ("ports", "hosts", "owners")
 """What it knows of each port: the port of the service that it leads to, the host of that, and which database's clients may come."""
 _MOST = 1 << 16
@@ -147,7 +149,7 @@ class Haproxy:
         )  # a connection has two descriptors; it raises no limit
         verify = f" ca-file {self.authorities} verify required" if self.authorities else ""
         return _FORM.format(
-            threads=min(4, len(os.sched_getaffinity(0))),
+            threads=max(1, min(MOST_THREADS, len(os.sched_getaffinity(0)) // 2)),
             most=most,
             most_runs=most - most // 4,
             most_lines=most // 4,
