@@ -17,7 +17,7 @@ from binding import DATABASE, DENIED, DONE, LOST, Keepers, Proof, Token, nonce_o
 from check import LONG, run, same, true
 from database import TOKENS, code_of, connect, named, numbers, one, sqlite_of, uri_of
 from service import CLIENT, Answer, Asker, Service, exchange, plain_environment, wire
-from stub_keeper import Before, StubKeeper, later, table_of, token_of
+from stub_keeper import EMPTY_HEAD, Before, Generation, StubKeeper, later, table_of, token_of
 from vfs_forks import in_child
 
 EVENTS = {
@@ -812,6 +812,32 @@ def test_a_transaction_that_reads_goes_on():
                 )
                 reading.execute("commit")
                 reading.close()
+
+
+def test_a_database_without_a_transaction_in_a_run_of_another_shift():
+    """Its blocks say nothing: what is read begins before the first of them, which is behind what an image stands for."""
+    for shift in (2, -4):
+        with StubKeeper() as keeper:
+            keeper.now.fill([EMPTY_HEAD] * 3)
+            with keeper.changed:
+                keeper.now.close()
+                keeper.archive_now()
+                new = Generation(keeper, 2, 3, shift)
+                new.fill([EMPTY_HEAD] * (3 - shift))
+                keeper.switch(new)
+            connection, reader = named(keeper), named(keeper, 3, mode="ro")
+            same("nothing", 0, one(reader, "select count(*) from sqlite_master"))
+            same("at no LSN", (0, 0), numbers(reader, "lsn", "position"))
+            connection.execute("create table t(a, b)")
+            fill(connection, 3)
+            same(
+                "a writer",
+                ([0, 1, 2], "ok"),
+                (rows(connection), one(connection, "pragma integrity_check")),
+            )
+            same(
+                "a reader", ([0, 1, 2], "ok"), (rows(reader), one(reader, "pragma integrity_check"))
+            )
 
 
 def test_a_transaction_that_reads_what_was_lost():
