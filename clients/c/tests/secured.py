@@ -373,10 +373,15 @@ def test_no_answer_takes_it_away():
         with contextlib.closing(named_at(lines.address)) as writer:
             writer.execute("create table t(x)")
         keeper.more = ("pages=1",)
-        reads = {"id": 3, "mode": "ro", "page_servers": "prefer"}
-        with contextlib.closing(named_at(lines.address, **reads)) as reader:
-            same("it reads at its service", 0, one(reader, "select count(*) from t"))
-            until(lambda: told.first, "the page server is asked")
+        reads = {"id": 3, "mode": "ro", "page_servers": "prefer", "keep": 0}
+
+        def is_asked():
+            """By an open that has heard of it in time."""
+            with contextlib.closing(named_at(lines.address, **reads)) as reader:
+                same("it reads at its service", 0, one(reader, "select count(*) from t"))
+            return told.first
+
+        until(is_asked, "the page server is asked")
         same("a page server is asked by TLS alone", {b"\x16"}, set(told.first))
     with secured_keeper(GOOD, wrong) as (_, lines, _):
         refused("lines of another host", "no keeper answers: TLS with", open_error(lines.address))
