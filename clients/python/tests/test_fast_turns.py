@@ -5,9 +5,12 @@ from __future__ import annotations
 import asyncio
 import contextlib
 import ctypes
+import fcntl
 import os
 import random
 import socket
+import sys
+import termios
 import unittest
 from typing import Any, Callable
 from unittest import mock
@@ -357,6 +360,19 @@ class Writers(Hot):
         """Whether the thread reads its line."""
         return self.turns._numbers.get(self.line_of(client)) in self.turns._lent
 
+    def is_taken(self, client: Client) -> bool:
+        """Whether the thread, or the keeper, has read all that it has sent."""
+        transport = self.line_of(client)._transport
+        assert transport is not None
+        ends = (
+            (client.socket, termios.TIOCOUTQ),  # first: what has not come to the other end
+            (transport.get_extra_info("socket"), termios.FIONREAD),
+        )
+        return not any(
+            int.from_bytes(fcntl.ioctl(end.fileno(), what, bytes(4)), sys.byteorder)
+            for end, what in ends
+        )
+
     def said_at_once(self, client: Client) -> str:
         """The next line, while nothing of the keeper's Python goes on."""
         client.socket.settimeout(PATIENCE)
@@ -490,6 +506,7 @@ class Lines(Writers):
             a, b = await self.writer(), await self.writer()
             await a.ask(self.turn())
             b.send(self.turn())
+            await self.until(lambda: self.is_taken(b), "its question")
             turns = self.turns
             self.keeper._turns.changed("shop", after)
             self.assertEqual(await b.answer(), "elsewhere shop")
