@@ -184,6 +184,9 @@ def play(module: str, words: str, only: str | None) -> tuple[int, int]:
     except Exception as error:  # a module that cannot be imported is a failed test
         texts.append((module, f"{type(error).__name__}: {error}"))
         result.testsRun += 1
+    # A class that cannot be set up is a failed test too, or one that is left out.
+    ended = result.errors + result.skipped
+    result.testsRun += sum(not isinstance(test, unittest.TestCase) for test, _ in ended)
     # A test whose cases fail one by one is listed here once for each of them.
     texts += [(str(test), text) for test, text in result.failures + result.errors]
     failed = min(len(texts), result.testsRun)
