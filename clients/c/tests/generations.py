@@ -1311,6 +1311,18 @@ def test_full_is_told_what_was_lost():
 def test_a_wait_for_the_archive_goes_on_from_a_move_that_was_cut_off():
     """Of another connection of its process: there another writer's transaction stands at the position, and that is durable."""
     with StubKeeper() as keeper:
+        hear, of_file = keeper.hear, []
+
+        def hear_file_alone(line, words):
+            """The poll of the process is told nothing: it would end the question that waits."""
+            asks = words[0] == "where"
+            of_file.extend([line] if asks and not of_file else [])
+            if asks and line is not of_file[0]:
+                line.say("nowhere", keeper.name)
+            else:
+                hear(line, words)
+
+        keeper.hear = hear_file_alone
         connection, beside = named(keeper, move=2000, pages=4), named(keeper)
         connection.execute("create table t(a, b)")
         fill(connection, 40, size=4000)
