@@ -242,6 +242,30 @@ end_joins:
                                                            // Served { accepted, faults, stop, passes, }
 }
 
+/* No clause says what is served: the databases and the page server of the table that was read once, by as many workers as were
+ * asked for. */
+// pl_program/src/serve_command.rt: serve_with
+                                                           // let text = text_of_file(rt, , table)?; match
+                                                           // opening_of(rt.alloc(), text.as_slice(), numbers) { Ok(opening)
+                                                           // => serve_all(rt, listen, opening, numbers), Err(fault) => {
+                                                           // let primary = token_of(rt.alloc(), text.as_slice(),
+                                                           // numbers.primary); let unlisted = if primary.is_ok() { } else {
+                                                           // }; note_start(rt, table, text.as_slice(), unlisted, fault);
+                                                           // Err(Failure::from(fault)) } }
+// pl_program/src/serve_command.rt: serve_all
+                                                           // match listen_at(rt, listen) { Ok(listener) => serve_at(rt,
+                                                           // &listener, opening, numbers), Err(fault) =>
+                                                           // Err(Failure::from(fault)), }
+// pl_program/src/serve_command.rt: serve_at
+                                                           // let Opening { dbs, pager } = opening; let terms = Terms {
+                                                           // alloc: rt.alloc(), listener, connections: numbers.connections,
+                                                           // idle_polls: idle_polls_of(rt, numbers.idle_polls), watch:
+                                                           // &Teller { rt }, }; match serve_databases(rt, &terms, dbs,
+                                                           // numbers.workers, pager) { Ok(served) => { let tally =
+                                                           // tally_of(&served.connections); note_stopped(rt,
+                                                           // numbers.workers, &tally); tell(rt, tally) }
+                                                           // Err(fault) => Err(Failure::from(fault)), }
+
 active proctype Accepting() {
     byte accepted, place, other;
     bit is_left;
