@@ -262,9 +262,8 @@ end_joins:
                                                            // idle_polls: idle_polls_of(rt, numbers.idle_polls), watch:
                                                            // &Teller { rt }, }; match serve_databases(rt, &terms, dbs,
                                                            // numbers.workers, pager) { Ok(served) => { let tally =
-                                                           // tally_of(&served.connections); note_stopped(rt,
-                                                           // numbers.workers, &tally); tell(rt, tally) }
-                                                           // Err(fault) => Err(Failure::from(fault)), }
+                                                           // tally_of(&served); note_stopped(rt, numbers.workers, &tally);
+                                                           // tell(rt, tally) } Err(fault) => Err(Failure::from(fault)), }
 
 active proctype Accepting() {
     byte accepted, place, other;

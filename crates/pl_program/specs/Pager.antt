@@ -1,8 +1,8 @@
 -- What a page server does at the databases of a service.
-use Rattle.std.specs.Prelude.{◌≡◌, ℕ, ◌+◌, List, [], ◌∷◌, length, Option, Some, None}
-use Rattle.pl_desk.specs.Passes.{Knowledge}
+use Rattle.std.specs.Prelude.{◌≡◌, ℕ, ◌+◌, List, [], ◌∷◌, length, Option, Some, None, IfSome}
+use Rattle.pl_desk.specs.Passes.{Knowledge, DeskOrigin}
 use Rattle.pl_wire.specs.Answering.{Calls}
-use Rattle.pl_conn.specs.Desks.{DesksCall}
+use Rattle.pl_conn.specs.Desks.{ArePassesOf, DesksCall}
 use Rattle.pl_conn.specs.Materialising.{Works, advance_at}
 use Rattle.pl_conn.specs.declared.page_server.Worked.{Worked}
 use Rattle.pl_conn.specs.declared.page_server.PageServer.{PageServer}
@@ -29,7 +29,7 @@ HasPaged None databases before left = left ≡ None
 HasPaged (Some server) databases before None = ⊥
 HasPaged (Some server) databases before (Some left) = Pages DesksCall server databases before left
 
--- the same of a page server beside its passes and the number of databases
-abbrev pub AreLeftBy : Option Paging → Option (List Knowledge) → Type 0
-AreLeftBy None left = left ≡ None
-AreLeftBy (Some paging) left = HasPaged (Some paging.server) paging.databases paging.passes left
+-- the same of a page server beside its passes and the number of databases; and they are passes of these desks
+abbrev pub AreLeftBy : List DeskOrigin → Option Paging → Option (List Knowledge) → Type 0
+AreLeftBy desks None left = left ≡ None
+AreLeftBy desks (Some paging) left = HasPaged (Some paging.server) paging.databases paging.passes left × IfSome left (ArePassesOf desks)

@@ -6,7 +6,7 @@ use Rattle.pl_table.specs.Tables.TableText.{table_reading}
 use Rattle.pl_table.specs.declared.tables.fault.TableFault.{TableFault}
 use Rattle.pl_core.specs.History.{History}
 use Rattle.pl_desk.specs.Passes.{Knowledge, DeskOrigin}
-use Rattle.pl_conn.specs.Desks.{ArePassesOf, DesksCall, all_fresh, fresh_at, terms_of_each}
+use Rattle.pl_conn.specs.Desks.{AllMet, ArePassesOf, DesksCall, Met, all_fresh, fresh_at, terms_of_each}
 use Rattle.pl_conn.specs.Serving.{ServesConnections}
 use Rattle.pl_conn.specs.declared.page_server.PageServer.{PageServer}
 use Rattle.pl_conn.specs.declared.service.Stop.{Stop}
@@ -49,12 +49,15 @@ pager_in text numbers =
 
 -- Each database got a desk, with a seat for each worker and one for the page server. The passes that come
 -- back are those of workers, each after a list of calls, and the last one: the page server's after its rounds,
--- if there is a page server.
-pub record ServesDatabases (dbs : List History) (workers connections : ℕ) (pager : Option PageServer) (accepted : ℕ) (stop : Stop) (passes : List (List Knowledge)) (left : Option (List Knowledge)) : Type 0 where
+-- if there is a page server. These have met: the one that is left has seen what each of them had.
+pub record ServesDatabases (dbs : List History) (workers connections : ℕ) (pager : Option PageServer) (accepted : ℕ) (stop : Stop) (met : Option Met) : Type 0 where
   pub desks : List DeskOrigin
   pub made : map (λ desk. desk.terms) desks ≡ terms_of_each (workers + 1) (2 ^ 62) dbs
+  pub passes : List (List Knowledge)
+  pub left : Option (List Knowledge)
   pub serves : ServesConnections DesksCall (ArePassesOf desks) (all_fresh desks workers) connections accepted stop passes
   pub paged : HasPaged pager (length dbs) (fresh_at desks (workers + 1)) left
+  pub meets : AllMet desks passes left met
 
 -- all is done if all connections were accepted
 abbrev pub result_of_stop : Stop → Result (Unit {0}) RunFault

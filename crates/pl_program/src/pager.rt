@@ -17,16 +17,29 @@ pub(crate) struct Paging {
     pub(crate) databases: u32,
 }
 
-/// That the passes which a page server leaves are these after its rounds at this many databases.
-#[derive(Drop)]
-pub(crate) struct Rounds {
+/// That the passes which a page server leaves are these after its rounds at this many databases, of these desks.
+pub(crate) struct Rounds<R> {
+    desks: Snapshot<Desks<R>>,
     start: Snapshot<Passes>,
     server: PageServer,
     databases: u32,
 }
 
-impl Promise<Passes> for Rounds {
-    ghost kept_by = { λ p left. Pages DesksCall p.server p.databases p.start.value left };
+impl<R> Drop for Rounds<R> {
+    fn drop(self) {
+        let Self {
+            desks,
+            start,
+            server,
+            databases: _,
+        } = self;
+        drop((desks, start, server));
+    }
+}
+
+impl<R> Promise<Passes> for Rounds<R> {
+    ghost kept_by = { λ p left. Pages DesksCall p.server p.databases p.start.value left
+        × ArePassesOf p.desks.value left };
 }
 
 // Applies the log of each database, one after the other, and returns the passes.
@@ -34,6 +47,7 @@ impl Promise<Passes> for Rounds {
 fn page<R: Wait + Drop>(desks: &Desks<R>, paging: Paging) -> Passes
     requires of { ArePassesOf desks.now paging.passes }
     ensures pages { Pages DesksCall paging.server paging.databases paging.passes result }
+    ensures of { ArePassesOf desks.now result }
 {
     let Paging {
         server,
@@ -52,15 +66,17 @@ pub(crate) fn start_pager<'s, E, R: Wait + Sync + Drop>(
     scope: &Scope<'s, E>,
     desks: &'s Desks<R>,
     paging: Paging,
-) -> Option<PromisedHandle<Passes, Rounds>>
+) -> Option<PromisedHandle<Passes, Rounds<R>>>
     // The passes are of the desks.
     requires of { ArePassesOf desks.now paging.passes }
     // The thread that was started makes these rounds.
     ensures of { IfSome result (λ handle. (handle.promise.start.value ≡ paging.passes)
         × (handle.promise.server ≡ paging.server)
-        × (handle.promise.databases ≡ paging.databases)) }
+        × (handle.promise.databases ≡ paging.databases)
+        × (handle.promise.desks.value ≡ desks.now)) }
 {
     let promise = Rounds {
+        desks: Snapshot::of(desks),
         start: Snapshot::of(&paging.passes),
         server: paging.server,
         databases: paging.databases,

@@ -121,7 +121,7 @@ where
     };
     match serve_databases(rt, &terms, dbs, numbers.workers, pager) {
         Ok(served) => {
-            let tally = tally_of(&served.connections);
+            let tally = tally_of(&served);
             note_stopped(rt, numbers.workers, &tally);
             tell(rt, tally)
         }

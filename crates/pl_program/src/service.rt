@@ -2,14 +2,14 @@
 
 ghost use Rattle.std.specs.Prelude.{◌≡◌, ◌++◌, ◌∷◌, ◌≤◌, ◌⊎◌, [], IfErr, IfOk, IfSome, IsNone, IsSome, length, vec_len};
 ghost use Rattle.std.specs.List.{All};
-ghost use Rattle.pl_conn.specs.Desks.{ArePassesOf, DesksCall};
+ghost use Rattle.pl_conn.specs.Desks.{AllMet, ArePassesOf, DesksCall};
 ghost use Rattle.pl_conn.specs.Serving.{ServesConnections};
 ghost use Rattle.pl_program.specs.Pager.{AreLeftBy};
 ghost use Rattle.pl_program.specs.Service.{ServesDatabases};
 
 use crate::pager::{Paging, start_pager};
 use crate::run_fault::RunFault;
-use pl_conn::{Desks, PageServer, Passes, Served, Terms, Watch, serve_watched};
+use pl_conn::{Desks, MetPasses, PageServer, Passes, Served, Stop, Terms, Watch, serve_watched};
 use pl_core::Db;
 use std::net::Net;
 use std::sync::Wait;
@@ -19,13 +19,25 @@ use std::thread::{Scope, Threads};
 /// The most turns that a desk has: one for each request of centuries.
 const TURNS: u64 = 1 << 62;
 
-/// What a service did for connections, and what its page server left.
+/// What a service did.
 #[derive(Drop)]
 pub struct ServedDatabases {
-    /// What was served to connections.
-    pub connections: Served<Passes>,
-    /// The passes of the page server after its rounds; `None` if there is no page server.
-    pub pager: Option<Passes>,
+    /// How many connections were accepted.
+    pub accepted: u32,
+    /// How many conversations ended in a fault.
+    pub faults: u64,
+    /// Why no more were accepted.
+    pub stop: Stop,
+    /// The passes of the workers and of the page server, which have met: one is left. `None` if none came back.
+    pub met: Option<MetPasses>,
+}
+
+// What the workers and the page server left, before their passes met.
+#[derive(Drop)]
+struct Left {
+    connections: Served<Passes>,
+    // The passes of the page server after its rounds; `None` if there is no page server.
+    pager: Option<Passes>,
 }
 
 // Serves connections, and at the same time lets the page server make its rounds, if there is one. `None` if the
@@ -37,18 +49,18 @@ fn serve_and_page<'s, E, R: Threads + Wait + Net + Sync + Drop, W: Watch>(
     desks: &'s Desks<R>,
     passes: Vec<Passes>,
     paging: Option<Paging>,
-) -> Option<ServedDatabases>
+) -> Option<Left>
     requires own { All (ArePassesOf desks.now) passes.items }
     requires pager { IfSome paging (λ p. ArePassesOf desks.now p.passes) }
     ensures serves { IfSome result (λ s. ServesConnections DesksCall (ArePassesOf desks.now)
         passes.items terms.now.connections s.connections.accepted s.connections.stop
         s.connections.passes.items) }
     // If there is a page server, it was started and waited for.
-    ensures paged { IfSome result (λ s. AreLeftBy paging s.pager) }
+    ensures paged { IfSome result (λ s. AreLeftBy desks.now paging s.pager) }
     ensures none { IsNone result → IsSome paging }
 {
     let Some(paging) = paging else {
-        return Some(ServedDatabases {
+        return Some(Left {
             connections: serve_watched(rt, terms, desks, passes),
             pager: None,
         });
@@ -56,7 +68,7 @@ fn serve_and_page<'s, E, R: Threads + Wait + Net + Sync + Drop, W: Watch>(
     let started = start_pager(scope, desks, paging)?;
     let connections = serve_watched(rt, terms, desks, passes);
     let left = started.join(rt);
-    Some(ServedDatabases {
+    Some(Left {
         connections,
         pager: Some(left),
     })
@@ -83,13 +95,13 @@ fn serve_over<R: Threads + Wait + Net + Sync + Drop, W: Watch>(
     desks: &Desks<R>,
     passes: Vec<Passes>,
     paging: Option<Paging>,
-) -> Option<ServedDatabases>
+) -> Option<Left>
     requires own { All (ArePassesOf desks.now) passes.items }
     requires pager { IfSome paging (λ p. ArePassesOf desks.now p.passes) }
     ensures serves { IfSome result (λ s. ServesConnections DesksCall (ArePassesOf desks.now)
         passes.items terms.now.connections s.connections.accepted s.connections.stop
         s.connections.passes.items) }
-    ensures paged { IfSome result (λ s. AreLeftBy paging s.pager) }
+    ensures paged { IfSome result (λ s. AreLeftBy desks.now paging s.pager) }
     ensures none { IsNone result → IsSome paging }
 {
     let (alloc, listener, watch) = (terms.alloc, terms.listener, terms.watch);
@@ -97,13 +109,13 @@ fn serve_over<R: Threads + Wait + Net + Sync + Drop, W: Watch>(
     thread::scope(
         thread::scope_env(),
         rt,
-        move |scope| -> Option<ServedDatabases>
+        move |scope| -> Option<Left>
             requires own { All (ArePassesOf desks.now) passes.items }
             requires pager { IfSome paging (λ p. ArePassesOf desks.now p.passes) }
             ensures serves { IfSome result (λ s. ServesConnections DesksCall
                 (ArePassesOf desks.entry.now) passes.items connections
                 s.connections.accepted s.connections.stop s.connections.passes.items) }
-            ensures paged { IfSome result (λ s. AreLeftBy paging s.pager) }
+            ensures paged { IfSome result (λ s. AreLeftBy desks.entry.now paging s.pager) }
             ensures none { IsNone result → IsSome paging }
         {
             let terms = Terms {
@@ -118,10 +130,33 @@ fn serve_over<R: Threads + Wait + Net + Sync + Drop, W: Watch>(
     )
 }
 
+// Lets the passes meet that came back.
+fn meet<R>(desks: &Desks<R>, left: Left) -> ServedDatabases
+    requires own { All (ArePassesOf desks.now) left.connections.passes.items }
+    requires pager { IfSome left.pager (ArePassesOf desks.now) }
+    ensures same { (result.accepted ≡ left.connections.accepted)
+        × (result.faults ≡ left.connections.faults) × (result.stop ≡ left.connections.stop) }
+    ensures met { AllMet desks.now left.connections.passes.items left.pager result.met }
+{
+    let Left { connections, pager } = left;
+    let Served {
+        accepted,
+        faults,
+        stop,
+        passes,
+    } = connections;
+    ServedDatabases {
+        accepted,
+        faults,
+        stop,
+        met: desks.meet_all(passes, pager),
+    }
+}
+
 /// Serves the databases to connections by these terms, with this many workers. If
 /// there is a page server, it works at the same time, in a thread of its own, and is waited for. One worker at a time that has
 /// nothing to do polls its sockets more before it sleeps, as the terms say. What the service cannot do while it goes on is
-/// reported to their watch.
+/// reported to their watch. In the end the passes of the workers and of the page server meet, and one is left.
 ///
 /// `NoMemory` if the desks found none, and `Threads` if the page server's thread could not be
 /// started.
@@ -140,9 +175,10 @@ pub fn serve_databases<R: Threads + Wait + Net + Sync + Copy + Drop, W: Watch>(
     // Each database has a desk, with a seat for each worker and one for the page server. The workers'
     // passes that come back are passes of these desks, each after a list of calls. It says how many
     // connections were accepted, by why it stopped. The page server's passes come back if there is
-    // one, after its rounds at each database, in turn (`ServesDatabases`).
+    // one, after its rounds at each database, in turn. These have met, and one is left
+    // (`ServesDatabases`).
     ensures serves { IfOk result (λ s. ServesDatabases dbs.items workers terms.now.connections pager
-        s.connections.accepted s.connections.stop s.connections.passes.items s.pager) }
+        s.accepted s.stop s.met) }
     // The fault is `NoMemory`, or `Threads` if there is a page server.
     ensures err { IfErr result (λ fault. (fault ≡ RunFault.NoMemory)
         ⊎ ((fault ≡ RunFault.Threads) × IsSome pager)) }
@@ -159,7 +195,7 @@ pub fn serve_databases<R: Threads + Wait + Net + Sync + Copy + Drop, W: Watch>(
         None => None,
     };
     match serve_over(rt, terms, &desks, passes, paging) {
-        Some(served) => Ok(served),
+        Some(left) => Ok(meet(&desks, left)),
         None => Err(RunFault::Threads),
     }
 }

@@ -4,7 +4,8 @@ ghost use Rattle.std.specs.Prelude.{◌≡◌, Some};
 ghost use Rattle.pl_program.specs.Service.{result_of_stop, tally_at, tally_text};
 
 use crate::run_fault::RunFault;
-use pl_conn::{Passes, Served, Stop};
+use crate::service::ServedDatabases;
+use pl_conn::Stop;
 use std::fmt;
 
 /// Whether a stop of the service is a fault: all is done if all connections were accepted.
@@ -30,7 +31,7 @@ pub struct Tally {
 }
 
 /// The last line of a service that ended so, or the fault of its stop.
-pub fn tally_of(served: &Served<Passes>) -> Result<Tally, RunFault>
+pub fn tally_of(served: &ServedDatabases) -> Result<Tally, RunFault>
     // The numbers of the last line if all connections were accepted, else the fault of the stop.
     ensures value { result ≡ tally_at served.now.stop served.now.accepted served.now.faults }
 {
