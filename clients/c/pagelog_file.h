@@ -18,7 +18,6 @@
 #define PAGELOG_FILE_H
 
 #include "pagelog.h"
-#include "pagelog_place.h"
 
 #ifdef __cplusplus
 extern "C" {
@@ -30,6 +29,11 @@ enum { PAGELOG_NAME_BYTES = 255 }; /* of a database's name, at most */
 #define PAGELOG_FILE_MOST ((UINT64_C(4294967295)) * PAGELOG_PAGE_BYTES)
 
 struct pagelog_file;
+
+/* Of a named database, in pagelog_place.h. */
+struct pagelog_awaited;
+struct pagelog_keepers;
+struct pagelog_place;
 
 /* Whether a reader goes to page servers: for pages, as long as one has them and answers soon, and else to the
  * service, which says what is newest; for positions alone that the service does not have any more; never; or
@@ -238,12 +242,6 @@ const struct pagelog_place *pagelog_file_place(const struct pagelog_file *file);
 
 /* Has keepers that others ask prove the token of this file, which is of a named database. */
 void pagelog_file_lend_token(const struct pagelog_file *file, struct pagelog_keepers *keepers);
-
-/* A position whose durability is waited for, and who knows of it. */
-struct pagelog_awaited {
-    uint64_t position;
-    struct pagelog_place place;
-};
 
 /* Whether a position is known to be durable; else who is to be asked. */
 bool pagelog_file_is_durable(const struct pagelog_file *file, struct pagelog_awaited *awaited);

@@ -45,6 +45,12 @@ struct pagelog_place {
     bool is_page_server; /* this is one of them: its LSNs are positions, and all that it has is durable */
 };
 
+/* A position whose durability is waited for, and who knows of it. */
+struct pagelog_awaited {
+    uint64_t position;
+    struct pagelog_place place;
+};
+
 /* A page server: it has pages at positions from `oldest` to `position`, or a later one by now. */
 struct pagelog_page_server {
     char address[PAGELOG_PLACE_BYTES], run[PAGELOG_RUN_BYTES];
