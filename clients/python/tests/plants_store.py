@@ -7,6 +7,8 @@ from plant import Plant
 PLANTS = {
     "store, an idle one is written": Plant("../store/mover", "        if seen and not self._is_due(seen[0]):\n", "        if seen and False:\n", "store", "writes_nothing"),
     "store, a server is believed for ever": Plant("../store/mover", "        is_believed = time.monotonic() - self._wrote < BELIEVED\n", "        is_believed = True\n", "store", "writes_nothing"),
+    "store, cut meanwhile": Plant("../store/mover", "            if found is not None and (found.first, found.state) == (row.first, row.state):\n                raise\n            return None\n",
+                                  "            raise\n", "store", "put_and_cut_meanwhile"),
     "store, a young one is written": Plant("../store/mover", "is_old is not False or is_enough", "True", "store", "writes_nothing"),
     "a pack that comes instead, by its images": Plant("../store/compacting", "i.pack = v.number AND i.length = v.length AND i.digest = v.digest),", "i.pack = v.number),",
                                                       "compacting", "compared_where_it_is_named"),

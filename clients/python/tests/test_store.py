@@ -484,6 +484,22 @@ class Deaths(Stored):
         self.assertEqual(ended(standing), 0)
         self.check()
 
+    def test_what_another_has_put_and_cut_meanwhile_is_not_missing(self) -> None:
+        self.write(50)
+        sealing, late = self.mover(), self.mover()
+        while not self.objects():
+            sealing.step()
+        read = late._read
+
+        def meanwhile(*arguments: Any) -> Any:
+            self.move()
+            return read(*arguments)
+
+        with patch.object(late, "_read", meanwhile):
+            self.assertTrue(late.step())
+        self.assertEqual(self.in_postgres(), [])
+        self.check()
+
     def test_nothing_is_done_for_a_database_whose_number_is_another_ones(self) -> None:
         self.write(50)
         self.row = replace(self.row, identity=str(uuid.uuid4()))

@@ -307,7 +307,17 @@ class Mover:
         return is_there(self._store, row.key, row.digest)
 
     def _encoded_again(self, row: OpenObject) -> SealedSegment | None:
-        """The same blocks, which one has sealed that died. Where the zstd here makes other bytes of them these get another key."""
+        """The same blocks, which one has sealed that died; None where they get another key, as the zstd here makes other bytes of them, or
+        where another mover has put them meanwhile, so that they may have been cut."""
+        try:
+            return self._encoded_as(row)
+        except BrokenArchive:
+            found = self._open()
+            if found is not None and (found.first, found.state) == (row.first, row.state):
+                raise
+            return None
+
+    def _encoded_as(self, row: OpenObject) -> SealedSegment | None:
         said = named(row.key)
         if said is None:
             raise BrokenArchive(f"{row.key} is no key of blocks")
