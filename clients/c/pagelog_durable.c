@@ -238,15 +238,22 @@ enum pagelog_outcome pagelog_file_reach(struct pagelog_file *file, uint64_t posi
     return outcome;
 }
 
-/* Whether PostgreSQL went back, and has lost the run with what this file has committed there. Its next commit
- * is told so; a move would hide it. */
-static bool has_lost_run(struct pagelog_file *file, const struct pagelog_place *now) {
+/* Whether PostgreSQL went back, and has lost the run with what this file has committed there. Its next write
+ * is told so; a move would hide it. Who has these lines is asked first. */
+static bool has_lost_run(struct pagelog_file *file, const char *lines, struct pagelog_fate *fate) {
+    struct named *named = file->source.named;
+    bool is_told = !is_none(named->own) && pagelog_tail_is_empty(&named->tail) &&
+                   pagelog_fate_of(named->keepers, lines, &named->place, named->own, fate) == PAGELOG_DONE;
+    return is_told && (fate->loss || (fate->is_over && is_before(fate->end, named->own)));
+}
+
+enum pagelog_outcome pagelog_file_leave(struct pagelog_file *file) {
     struct named *named = file->source.named;
     struct pagelog_fate fate;
-    bool is_told =
-        !is_none(named->own) && pagelog_tail_is_empty(&named->tail) &&
-        pagelog_fate_of(named->keepers, now->lines, &named->place, named->own, &fate) == PAGELOG_DONE;
-    return is_told && (fate.loss || (fate.is_over && is_before(fate.end, named->own)));
+    file->reason = NULL;
+    named->is_suspect = true;
+    if (!has_lost_run(file, NULL, &fate)) return PAGELOG_DONE;
+    return pagelog_lose_run(file, &named->place, fate.loss ? fate.loss : PAGELOG_SUPERSEDED);
 }
 
 /* Another run has the number of this one: PostgreSQL may have lost this one. Who has committed here is told
@@ -267,6 +274,7 @@ static enum pagelog_outcome leave_if_lost(struct pagelog_file *file) {
 enum pagelog_outcome pagelog_glance(struct pagelog_file *file) {
     struct named *named = file->source.named;
     struct pagelog_place place;
+    struct pagelog_fate fate;
     uint64_t now = pagelog_now();
     if (named->place.is_page_server) return pagelog_look_at_page_server(file);
     bool was_suspect = named->is_suspect, has_tail = !pagelog_tail_is_empty(&named->tail);
@@ -279,7 +287,7 @@ enum pagelog_outcome pagelog_glance(struct pagelog_file *file) {
     if (outcome != PAGELOG_DONE) return PAGELOG_DONE;
     named->place.pages = place.pages;
     if (place.generation > named->place.generation)
-        return was_suspect && has_lost_run(file, &place) ? PAGELOG_DONE : pagelog_move_on(file);
+        return was_suspect && has_lost_run(file, place.lines, &fate) ? PAGELOG_DONE : pagelog_move_on(file);
     if (strcmp(place.run, named->place.run) != 0) return leave_if_lost(file);
     note_durable(file, place.archived);
     return file->options.durable_only && !file->options.at ? hurry(file) : PAGELOG_DONE;

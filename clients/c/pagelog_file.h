@@ -119,10 +119,6 @@ uint64_t pagelog_file_generation(const struct pagelog_file *file);
 /* Whether the keepers know of a later generation than the one that the file is in: asked once a second. */
 bool pagelog_file_is_overtaken(struct pagelog_file *file);
 
-/* The same, asked now: of who writes without asking anybody else. Where keepers are silent it is asked half
- * of the time. */
-bool pagelog_file_is_superseded(struct pagelog_file *file);
-
 /* As pagelog_set_waiting. */
 void pagelog_file_set_waiting(struct pagelog_file *file, bool (*goes_on)(void *argument), void *argument);
 
@@ -225,6 +221,11 @@ void pagelog_file_hand_over(struct pagelog_file *file, uint32_t epoch, uint64_t 
 
 /* Of a named database: keepers may have gone on without the run that is read, so that the next begin asks. */
 void pagelog_file_suspect(struct pagelog_file *file);
+
+/* The same of who is to write where the keepers know of a later generation. FENCED, DENIED: PostgreSQL went
+ * back, or the database is another one, and what this file has committed is lost; the next begin goes on
+ * without it. */
+enum pagelog_outcome pagelog_file_leave(struct pagelog_file *file);
 
 /* Of a named database, of which the keepers know a later generation: goes there. What is read stays what it
  * is, or `is_gone` says that it is not there. Else as of a begin. */

@@ -35,7 +35,6 @@ struct named {
     struct pagelog_position durable; /* all up to it is durable */
     uint64_t glanced;                /* when the keepers were asked last whether the generation goes on */
     uint64_t waited;                 /* the same, amid a wait for the service */
-    uint64_t look_again;             /* before that keepers are not asked whether it is superseded */
     uint64_t
         hurried; /* until when what a reader sees in the log is not asked for again, and the pause after */
     unsigned hurry_ms;

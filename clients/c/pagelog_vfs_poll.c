@@ -16,6 +16,7 @@ enum {
     SLOWEST_MS = 8000, /* the same, where no keeper answers: each pause is twice the one before */
     IDLE_MS = 2000,    /* after so long without a begin one waits for the answers, */
     ANSWER_MS = 1000,  /* at most so long */
+    LIVELY_MS = 200,   /* the same before a write without a turn */
 };
 
 struct holder_poll {
@@ -29,6 +30,7 @@ struct holder_poll {
     struct pagelog_told told; /* the last answers */
     uint64_t begun;           /* when there was a begin last, */
     uint64_t ended;           /* and when the last question has ended: the next one comes that pause later */
+    uint64_t look_again;      /* before that no write without a turn waits for answers */
     unsigned pause_ms;
     bool is_asked;     /* a question is on its way */
     uint64_t rounds;   /* answers that have come, and questions that none came to */
@@ -170,6 +172,20 @@ bool pagelog_poll_is_past(struct database *database, uint64_t generation) {
     if (!poll || !database->follows_holder) return false;
     sqlite3_mutex_enter(poll->mutex);
     ask(poll, OFTEN_MS, 0);
+    bool is_past = poll->told.generation > generation;
+    sqlite3_mutex_leave(poll->mutex);
+    return is_past;
+}
+
+bool pagelog_poll_looks_past(struct database *database, uint64_t generation) {
+    struct holder_poll *poll = database->follows_holder ? poll_of(database) : NULL;
+    if (!poll) return false;
+    sqlite3_mutex_enter(poll->mutex);
+    bool are_silent = poll->pause_ms > EACH_MS; /* nobody answered the last question */
+    uint64_t began = now_ms();
+    ask(poll, OFTEN_MS, are_silent || began < poll->look_again ? 0 : LIVELY_MS);
+    uint64_t now = now_ms();
+    if (now > began) poll->look_again = now + (now - began);
     bool is_past = poll->told.generation > generation;
     sqlite3_mutex_leave(poll->mutex);
     return is_past;

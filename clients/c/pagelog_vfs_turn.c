@@ -233,6 +233,11 @@ static bool is_upgrade(const struct connection *connection) {
     return is_known && sqlite3_txn_state(*connection->sqlite, NULL) != SQLITE_TXN_NONE;
 }
 
+/* Whether a later generation is there, of one who is to write without a turn. */
+static bool is_left_behind(struct database *database) {
+    return pagelog_poll_looks_past(database, pagelog_file_generation(database->file));
+}
+
 /* Whether more may come of a turn that was asked for at once and not given; then `*outcome` is what has come
  * of it. An upgrade waits on where the keeper does not answer, and another may soon have the database; and it
  * asks in the next generation, which has what it has read: `*moved` says whether it came there. Any other
@@ -245,9 +250,10 @@ static bool comes_later(struct connection *connection, enum pagelog_outcome *out
     bool is_lost = *outcome == PAGELOG_LOST && connection->busy && is_upgrade(connection);
     bool may_come = is_lost && pagelog_turn_may_come(&database->turn);
     if (!is_kept && !is_lost) return false;
-    if (is_lost && !may_come ? pagelog_file_is_superseded(file) : pagelog_file_is_overtaken(file)) {
+    if (is_lost && !may_come ? is_left_behind(database) : pagelog_file_is_overtaken(file)) {
         if (!is_upgrade(connection)) return false;
-        *moved = pagelog_file_move_on(file);
+        *moved = pagelog_file_leave(file);
+        if (*moved == PAGELOG_DONE) *moved = pagelog_file_move_on(file);
         if (*moved != PAGELOG_DONE) return false;
     } else if (is_kept) {
         if (!wait_for_kept(connection, *until)) return false;
@@ -282,11 +288,11 @@ static int have_turn(struct connection *connection) {
     connection->wants_turn = outcome == PAGELOG_CONFLICT;
     if (connection->wants_turn) database->contended = MANY_TURNS;
     /* Who is to write without a turn writes not where another has superseded the generation. */
-    bool is_left = outcome == PAGELOG_LOST && !may_come && pagelog_file_is_superseded(database->file);
-    if (is_left) pagelog_file_suspect(database->file);
+    bool is_left = outcome == PAGELOG_LOST && !may_come && is_left_behind(database);
     if (connection->wants_turn || may_come || is_left) {
         pagelog_give_turn(connection);
-        return SQLITE_BUSY;
+        if (is_left) moved = pagelog_file_leave(database->file);
+        return moved == PAGELOG_DONE ? SQLITE_BUSY : pagelog_result_of_begin(database, moved);
     }
     take(connection, outcome);
     return SQLITE_OK;

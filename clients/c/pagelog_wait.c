@@ -16,17 +16,6 @@ bool pagelog_file_is_overtaken(struct pagelog_file *file) {
     return pagelog_where(named->keepers, named->place.generation + 1, &place) == PAGELOG_DONE;
 }
 
-bool pagelog_file_is_superseded(struct pagelog_file *file) {
-    struct named *named = file->source.named;
-    struct pagelog_place place;
-    uint64_t began = pagelog_now();
-    if (!named || !named->has_place || named->place.is_page_server || began < named->look_again) return false;
-    bool is_superseded = pagelog_where(named->keepers, named->place.generation + 1, &place) == PAGELOG_DONE;
-    uint64_t now = pagelog_now();
-    named->look_again = now + (now - began);
-    return is_superseded;
-}
-
 static bool waits_on(void *argument) {
     struct pagelog_file *file = argument;
     struct named *named = file->source.named;

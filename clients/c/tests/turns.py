@@ -13,7 +13,7 @@ from check import run, same, true
 from database import code_of, named, numbers, one, uri_of
 from generations import at_the_takeover, fill, opened_in, overtaking, rows, until
 from service import wire
-from stub_keeper import StubKeeper
+from stub_keeper import Generation, StubKeeper
 from vfs_forks import fork, in_child
 
 from pagelog.keeper import turns  # its folder is where stub_keeper.py has found it
@@ -343,6 +343,43 @@ def test_who_writes_without_a_turn_writes_nothing_into_a_generation_that_is_over
             with old.asker(wire.SECONDARY) as asker:
                 same(f"{is_upgrade=}: the one that is over", before, asker.status()[2])
             same("it is in the next one", 31, len(rows(connection)))
+
+
+def test_who_writes_without_a_turn_is_told_that_its_run_is_lost():
+    """PostgreSQL went back, and has gone on without what it has committed. Its write says so once, and the next one goes on there."""
+    for is_upgrade in (False, True):
+        with StubKeeper() as keeper:
+            connection = keep_the_turn(keeper, busy=5)
+            connection.execute("pragma synchronous = full")
+            kept = list(keeper.archive)
+            fill(connection, 1, first=100)
+            answer, old = keeper.answer, keeper.now
+
+            def ends(line, words):
+                raise OSError("the line ends")
+
+            def superseded(words):
+                if words[0] != "durable" or words[-1] != keeper.of(old.run):
+                    return answer(words)
+                return "lost", *words[1:3], "superseded", f"by={keeper.now.number}", words[-1]
+
+            keeper.turn, keeper.answer = ends, superseded
+            keeper.cut_lines()
+            time.sleep(0.05)  # what was looked after a moment ago is used without a look
+            keeper.archive = kept
+            new = Generation(keeper, old.number + 1)
+            new.fill(kept)
+            if is_upgrade:
+                connection.execute("begin")
+                same("before", 31, len(rows(connection)))
+            keeper.switch(new)
+            code = code_of(lambda: fill(connection, 1, first=200))
+            same(f"{is_upgrade=}: it is told", "SQLITE_IOERR_FSYNC", code)
+            true("why", "went back" in one(connection, "pragma pagelog_error"))
+            if connection.in_transaction:
+                connection.execute("rollback")
+            fill(connection, 1, first=201)
+            same("it goes on", 31, len(rows(connection)))
 
 
 @contextlib.contextmanager
