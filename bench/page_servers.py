@@ -149,8 +149,8 @@ def two(folder, asking, blocks):
         for each in (one, other):
             each.add(blocks, digest(b"", blocks))
         for what, file, count in (
-            ("newest", asking.each, 1500),
-            ("at drawn positions", asking.earlier, 400),
+            ("newest", asking.each, 12_000),
+            ("at drawn positions", asking.earlier, 6_000),
         ):
             two_beside_one(what, file, count, asking.frames, one.port, other.port)
 

@@ -252,8 +252,7 @@ static bool comes_later(struct connection *connection, enum pagelog_outcome *out
     if (!is_kept && !is_lost) return false;
     if (is_lost && !may_come ? is_left_behind(database) : pagelog_file_is_overtaken(file)) {
         if (!is_upgrade(connection)) return false;
-        *moved = pagelog_file_leave(file);
-        if (*moved == PAGELOG_DONE) *moved = pagelog_file_move_on(file);
+        *moved = pagelog_file_move_on(file);
         if (*moved != PAGELOG_DONE) return false;
     } else if (is_kept) {
         if (!wait_for_kept(connection, *until)) return false;
