@@ -19,10 +19,10 @@ from keepers import Kept as KeptService
 from keepers import blocks, eventually, new_database, new_url
 from pagelog import Block, Put, Zero
 from pagelog.cli.drop_words import _drop_named
-from pagelog.referee.bases import NOTHING, Base, Bases, make_base
+from pagelog.referee.bases import NOTHING, Base, Bases, make_base, transaction
 from pagelog.errors import ConnectionLost
 from pagelog.keeper.history import begin_again
-from pagelog.images import MARK
+from pagelog.images import MARK, Image
 from pagelog.keeper.loading import Loader
 from pagelog.referee.referee import (
     BrokenArchive,
@@ -174,6 +174,52 @@ class Making(Made):
         self.assertEqual(self.base(), base)
         self.keep([mark(13)])
         self.assertEqual(self.base().position, 13)
+
+
+class OfADatabase(Made):
+    """Images have no foreign key: what keeps them looks once, and the keys of the tables around them do the rest."""
+
+    def images(self, count: int = 9) -> list[Image]:
+        return [Image(number, 1 << 63, bytes(8192)) for number in range(count)]
+
+    def new_row(self) -> int:
+        """A database without any row but its own."""
+        with psycopg.connect(self.url) as connection:
+            [[log]] = connection.execute(
+                "INSERT INTO pagelog_log (name, format, archived, epoch) VALUES ('bare', 3, 0, 1) RETURNING id"
+            ).fetchall()
+        return int(log)
+
+    def delete(self, log: int) -> None:
+        with psycopg.connect(self.url) as connection:
+            connection.execute("SET lock_timeout = '100ms'")
+            connection.execute("DELETE FROM pagelog_log WHERE id = %s", (log,))
+
+    def test_those_of_none_are_refused(self) -> None:
+        with self.assertRaisesRegex(Refused, "no database of number 98"):
+            Bases(self.referee, 98).keep_images(1, self.images())
+        self.assertEqual(self.rows(), [])
+
+    def test_it_stays_until_they_are_committed(self) -> None:
+        log = self.new_row()
+        with transaction(self.referee):
+            Bases(self.referee, log).keep_images(1, self.images())
+            self.assertRaises(psycopg.errors.LockNotAvailable, self.delete, log)
+        self.assertEqual(len(self.rows()), 9)
+
+    def test_it_may_be_archived_and_dropped_meanwhile(self) -> None:
+        with transaction(self.referee):
+            self.bases.keep_images(1, self.images())
+            other = self.new("b")
+            batch = Batch(self.row.id, "r1", self.kept.generation, 0, b"c", tuple(blocks(1, 2)))
+            self.assertEqual(other.keep([batch]), {self.row.id})
+        self.assertTrue(self.referee.drop("shop"))
+        self.assertEqual(self.rows(), [])
+
+    def test_it_is_not_deleted_while_it_has_a_table(self) -> None:
+        self.bases.keep_images(1, self.images())
+        with self.assertRaises(psycopg.errors.ForeignKeyViolation):
+            self.delete(self.row.id)
 
 
 class Pruning(Made):
@@ -547,6 +593,11 @@ class Fills(Made):
         self.assertEqual(self.served.reached, 60)
 
 
+_KEY = "CONSTRAINT pagelog_image_log_fkey FOREIGN KEY (log) REFERENCES pagelog_log"
+_OLDER_IMAGE = "INSERT INTO pagelog_image (log, range, base, pages, crc, data) VALUES (1, %(range)s, 1, int8send(1), 0, '')"
+_KEYS = "SELECT conrelid::regclass::text, conname::text FROM pg_constraint WHERE confrelid = 'pagelog_log'::regclass ORDER BY 1"
+
+
 class Migration(Referees):
     def test_the_tables_of_before_are_taken_on(self) -> None:
         url, old = new_url(), "pagelog_base, pagelog_image"
@@ -589,6 +640,26 @@ class Migration(Referees):
             connection.execute(script(0))  # each statement may be repeated
         self.assertEqual(came, [(1, True), (2, False)])
         self.assertRegex(row.identity, "^[0-9a-f-]{36}$")
+
+    def test_images_of_before_lose_their_foreign_key_alone(self) -> None:
+        """And an older keeper, which knows nothing of it, goes on."""
+        url = new_url()
+        with psycopg.connect(url, autocommit=True) as connection:
+            connection.execute("UPDATE pagelog_schema SET version = 16")
+            connection.execute(f"ALTER TABLE pagelog_image ADD {_KEY}")
+            connection.execute(
+                "INSERT INTO pagelog_log (name, format, archived, epoch) VALUES ('shop', 3, 0, 1)"
+            )
+            connection.execute(_OLDER_IMAGE, {"range": 0})
+            others = connection.execute(_KEYS).fetchall()
+            others.remove(("pagelog_image", "pagelog_image_log_fkey"))
+            referee = Referee(url)
+            self.addCleanup(referee.close)
+            referee.prepare()
+            self.assertEqual(connection.execute(_KEYS).fetchall(), others)
+            connection.execute(_OLDER_IMAGE, {"range": 1})
+            [[count]] = connection.execute("SELECT count(*) FROM pagelog_image").fetchall()
+        self.assertEqual(count, 2)
 
     def test_a_step_that_the_role_may_not_take(self) -> None:
         """It says what to run. Once that is done the role needs no right to make anything; tables of a later version are no hindrance."""

@@ -12,7 +12,7 @@ from keepers import Kept as KeptService
 from keepers import eventually
 from pagelog import Block, Put
 from pagelog.cli.words import pagelogctl
-from pagelog.referee.bases import Bases, make_base
+from pagelog.referee.bases import Bases, make_base, transaction
 from pagelog.keeper.branching import branch, chain_at
 from pagelog.keeper.history import begin_again
 from pagelog.referee.referee import digest
@@ -24,6 +24,10 @@ from service import WIDE_TABLE, token
 from sqlite_named import connected
 from test_images import pages
 from test_store import Old, pages_of
+
+
+_LOOKS = "SELECT seq_scan + idx_scan FROM pg_stat_xact_user_tables WHERE relname = 'pagelog_log'"
+"""How often this transaction has looked for a row of a database."""
 
 
 class ByRows(Old):
@@ -147,6 +151,22 @@ class ByRows(Old):
         self.assertEqual(pages_of(Bases(self.reading(), trial.id), base), pages(self.made))
         self.move_of(trial)
         self.assertEqual(pages_of(Bases(self.reading(), trial.id), base), pages(self.made))
+
+    def test_the_database_of_its_images_is_not_looked_for_by_each(self) -> None:
+        """That takes a third of the time where there are many."""
+        self.keep([Block.of(626 + at, [Put(64 * at, 0, b"x")]).data for at in range(100)])
+        make_base(self.reader, self.row.id, self.kept.archived, self.kept.chain)
+        self.move()
+        row = self.row_now()
+        with transaction(self.reader):
+            [[before]] = self.reader._ask(_LOOKS)
+            self.assertTrue(branch(self.reader, row, row.archived, "trial"))
+            [[after]] = self.reader._ask(_LOOKS)
+        [[images]] = self.reader._ask(
+            "SELECT count(*) FROM pagelog_image WHERE log = %s", (self.row_of("trial").id,)
+        )
+        self.assertEqual(images, 100)
+        self.assertLess(after - before, 30)
 
     def check_all(self, branches: dict[str, list[bytes]]) -> None:
         for name, wanted in branches.items():

@@ -27,6 +27,7 @@ from pagelog.referee.referee import (
     KeeperError,
     Pruned,
     Referee,
+    Refused,
     digest,
 )
 
@@ -44,14 +45,16 @@ LEFT JOIN pagelog_pack p ON p.log = i.log AND p.number = i.pack AND p.state = 2 
 """
 """The key is that of the pack which alone has the image."""
 _KEEP = """
+WITH owner AS (SELECT id FROM pagelog_log WHERE id = %(log)s FOR KEY SHARE)
 INSERT INTO pagelog_image (log, range, base, pages, crc, data)
-SELECT %(log)s, v.range, %(base)s, substring(%(masks)b::bytea FROM (8 * v.n - 7)::integer FOR 8), v.crc,
+SELECT owner.id, v.range, %(base)s, substring(%(masks)b::bytea FROM (8 * v.n - 7)::integer FOR 8), v.crc,
   substring(%(bytes)b::bytea FROM v.start FOR v.length)
-FROM unnest(%(ranges)s::integer[], %(crcs)s::bigint[], %(starts)s::integer[], %(lengths)s::integer[])
+FROM owner, unnest(%(ranges)s::integer[], %(crcs)s::bigint[], %(starts)s::integer[], %(lengths)s::integer[])
   WITH ORDINALITY AS v(range, crc, start, length, n)
 ON CONFLICT (log, range, base) DO UPDATE SET pages = excluded.pages, crc = excluded.crc, data = excluded.data, pack = NULL, at = NULL, length = NULL,
   digest = NULL RETURNING range
 """
+"""No row goes in unless there is the database's, which stays until all are committed. Images have no foreign key: it would ask for each."""
 _UNNAME = """
 WITH gone AS (
   UPDATE pagelog_base b SET manifest = NULL, manifest_digest = NULL, is_stored = false FROM pagelog_base o
@@ -295,7 +298,7 @@ class Bases:
         for image in images:
             starts.append(at)
             at += len(image.data)
-        self._referee._ask_bounded(
+        kept = self._referee._ask_bounded(
             _KEEP,
             {
                 "log": self._log,
@@ -308,6 +311,8 @@ class Bases:
                 "bytes": b"".join(image.data for image in images),
             },
         )
+        if not kept:
+            raise Refused(f"PostgreSQL has no database of number {self._log}")
 
     def keep_base(self, position: int, chain: bytes) -> Base:
         """Says that all images at a position are there, unless there is a newer base."""

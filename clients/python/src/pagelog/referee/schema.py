@@ -1,8 +1,8 @@
 """The tables of the referee: those of an archive, with the columns that say who may write it.
 
 `format` 3 keeps archivers away that know nothing of runs, and keepers that know nothing of shifts and images. Beside it the tables
-have a version, which `STEPS` raise one by one: a step only adds, so that older keepers go on with newer tables. What they could
-not go on with gets another `format`. Each statement may be repeated: it makes what is not there.
+have a version, which `STEPS` raise one by one: a step only adds, or asks for less, so that older keepers go on with newer tables. What
+they could not go on with gets another `format`. Each statement may be repeated: it makes what is not there.
 """
 
 FORMAT = 3
@@ -229,6 +229,12 @@ _AUDITED = (
     "ALTER TABLE pagelog_log ADD COLUMN IF NOT EXISTS audited timestamptz",
 )
 
+_IMAGES_AT_ONCE = (
+    # To look for the log of each image again takes a third of a branch: what inserts images has locked its row once, or made it. No
+    # statement deletes that row, of a dropped database neither; the keys of the tables around it, as of pagelog_table, refuse it to others.
+    "ALTER TABLE pagelog_image DROP CONSTRAINT IF EXISTS pagelog_image_log_fkey",
+)
+
 STEPS = (
     _FIRST,
     _LIVES,
@@ -246,6 +252,7 @@ STEPS = (
     _INSTEAD,
     _LEGAL_HOLDS,
     _AUDITED,
+    _IMAGES_AT_ONCE,
 )
 """What brings the tables from each version to the next one. Tables of version 1 have no number: they are older than it."""
 VERSION = len(STEPS)
