@@ -8,12 +8,14 @@ Usage: python3 -B bench/store.py [--share SHARE] [--far MS MB] [PART ..]
   from a server of S3 that is 30 ms away, there and back, by 50 MB a second in all, by turns.
 - commits: durable ones, one after the other, with and without a mover that works off many blocks of the same database, by turns.
 - branch: of a database of 10 MiB and of 10 GiB whose blocks and images are in the store, by turns: its rows are as many and as large, and the
-  store is empty, as nothing of it is read.
+  store is empty, as nothing of it is read. Beside it the same rows of images are inserted into a table that has a primary key alone: what
+  is to be copied takes so long.
 """
 
 import argparse
 import asyncio
 import contextlib
+import functools
 import os
 import pathlib
 import random
@@ -75,6 +77,11 @@ newest AS (INSERT INTO pagelog_block (log, lsn, crc, data) VALUES (%(log)s, %(la
 UPDATE pagelog_log SET archived = %(last)s + 1 WHERE id = %(log)s RETURNING 1
 """
 _WRITTEN = "SELECT pg_current_wal_insert_lsn() - '0/0'::pg_lsn"
+_BARE = "CREATE TABLE bare (LIKE pagelog_image, PRIMARY KEY (log, range, base))"
+_COPIED = """
+INSERT INTO bare SELECT %(turn)s, range, base, pages, crc, data, pack, at, length, digest FROM pagelog_image WHERE log = %(log)s
+"""
+_COPY = "bare copy of the rows of its images"
 SIZES = (("10 MiB", 2, 1, 20), ("10 GiB", 1280, 482, 20_480))
 """Objects, those behind the newest base, which is made after twice as many blocks as there are pages, and images."""
 
@@ -301,28 +308,42 @@ def branch_of(server, share, far):
         referee = Referee(server.new_url(), "bench", "life", store=settings)
         with contextlib.closing(referee):
             referee.prepare()
-            made = [
-                (size, made_of(referee, f"of-{number}", *of))
-                for number, (size, *of) in enumerate(SIZES)
-            ]
+            rows = {}
+            for number, (size, *of) in enumerate(SIZES):
+                rows[size] = made_of(referee, f"of-{number}", *of)
+            referee._connected().execute(_BARE)
             referee._connected().execute("VACUUM ANALYZE")
-            times = {what: [] for what, _ in made}
-            written = {what: [] for what, _ in made}
-            for turn in range(max(3, round(10 * share))):
-                for what, name in made:
-                    row = referee.everything().row(name)
-                    [[before]] = referee._ask(_WRITTEN)
-                    began = time.perf_counter()
-                    assert branch(referee, row, row.archived, f"{name}-{turn}")
-                    times[what].append(time.perf_counter() - began)
-                    [[after]] = referee._ask(_WRITTEN)
-                    written[what].append(after - before)
-            for what, some in times.items():
-                print(
-                    f"branch of {what}: {1000 * statistics.median(some):.0f} ms, "
-                    f"{1000 * min(some):.0f} to {1000 * max(some):.0f}, of {len(some)} in turns; "
-                    f"{statistics.median(written[what]) / 1024:,.0f} KiB of WAL; load {os.getloadavg()[0]:.1f}"
-                )
+            spent = {f"branch of {size}": [] for size in rows} | {_COPY: []}
+            for turn in range(max(3, round(15 * share))):
+                for size, row in rows.items():
+                    work = functools.partial(begin, referee, row, f"{row.name}-{turn}")
+                    spent[f"branch of {size}"].append(spent_by(referee, work))
+                values = {"turn": turn, "log": rows[size].id}  # the largest one
+                work = functools.partial(referee._connected().execute, _COPIED, values)
+                spent[_COPY].append(spent_by(referee, work))
+            for what, some in spent.items():
+                print(said_of(what, *zip(*some)))
+
+
+def begin(referee, row, name):
+    assert branch(referee, row, row.archived, name)
+
+
+def spent_by(referee, work):
+    """Its milliseconds, those of a processor that PostgreSQL took for it, and its bytes of WAL."""
+    pids = [referee._connected().info.backend_pid]
+    [[wal]], used, began = referee._ask(_WRITTEN), kept.processor_ms(pids), time.perf_counter()
+    work()
+    took = 1000 * (time.perf_counter() - began)
+    used = kept.processor_ms(pids) - used
+    return took, used, referee._ask(_WRITTEN)[0][0] - wal
+
+
+def said_of(what, times, used, written):
+    return (
+        f"{what}: {statistics.median(times):.0f} ms, {min(times):.0f} to {max(times):.0f}, of {len(times)} in turns; of a processor "
+        f"{statistics.median(used):.0f}; {statistics.median(written) / 1024:,.0f} KiB of WAL; load {os.getloadavg()[0]:.1f}"
+    )
 
 
 def made_of(referee, name, objects, behind, images):
@@ -335,7 +356,7 @@ def made_of(referee, name, objects, behind, images):
     referee._ask(_OBJECTS, values)
     referee._ask(_REST, values)
     referee._ask(_IMAGES, values)
-    return name
+    return referee.everything().row(name)
 
 
 PARTS = {"restore": restore, "commits": commits, "branch": branch_of}

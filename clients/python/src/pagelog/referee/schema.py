@@ -230,8 +230,8 @@ _AUDITED = (
 )
 
 _IMAGES_AT_ONCE = (
-    # To look for the log of each image again takes a third of a branch: what inserts images has locked its row once, or made it. No
-    # statement deletes that row, of a dropped database neither; the keys of the tables around it, as of pagelog_table, refuse it to others.
+    # To look for the log of each image again takes a third of a branch: what inserts images has locked its row once, or made it. No keeper
+    # deletes that row, not even of a dropped database; the keys of the tables around it, as of pagelog_table, refuse it to others.
     "ALTER TABLE pagelog_image DROP CONSTRAINT IF EXISTS pagelog_image_log_fkey",
 )
 
