@@ -88,7 +88,7 @@ PLANTS = {
                                       "store", "nothing_names_and_no_others"),
     "packs of a branch": Plant("../referee/object_statements", " AND NOT EXISTS (SELECT 1 FROM pagelog_pack p WHERE p.key = g.key)\n  AND NOT EXISTS (SELECT 1 FROM pagelog_base",
                                "\n  AND NOT EXISTS (SELECT 1 FROM pagelog_base", "branches", "images_are_shared"),
-    "packs on their way": Plant("history", "p.number = i.pack AND p.state = 2)", "p.number = i.pack)", "branches", "on_their_way_are_copied"),
+    "packs on their way": Plant("history", "p.number = i.pack AND p.state = 2 RETURNING", "p.number = i.pack RETURNING", "branches", "on_their_way_are_copied"),
     "the library of S3, for that alone": Plant("../store/moving", "import json\n", "import json\nimport pagelog.objects.s3\n", "buckets", "for_s3_alone"),
     "page servers, blocks in the store": Plant("../referee/referee", "if rows[0][0] <= last - first and self.has_stored(log, first):", "if False:", "pages", "begins_with_the_first_block"),
     "a range that was emptied": Plant("../store/rescuing", "    cursor.execute(_EMPTIED, {", "    str({", "rescues", "emptied_between"),

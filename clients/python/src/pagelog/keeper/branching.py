@@ -19,7 +19,7 @@ ORDER BY 1 DESC LIMIT 1
 def branch(referee: Referee, row: Row, position: int, name: str, table: str | None = None) -> bool:
     """Makes it, with an identity and a secret of its own, and another table if one is given. False where there is one of this name.
 
-    What the store has is shared, row by row, and not read: so it takes as long for a large database as for a small one. Raises
+    What the store has is shared, row by row, and not read: a row for each range of 64 pages, some 7 us. Raises
     `KeeperError` where the position is pruned meanwhile.
     """
     values = {

@@ -59,23 +59,22 @@ tabled AS (
 based AS (
   INSERT INTO pagelog_base (log, base, chain, digest, pages, came)
   SELECT made.id, base, b.chain, digest, pages, came FROM made, pagelog_base b WHERE log = %(log)s AND base = %(base)s),
-images AS (
-  SELECT i.range, i.base, i.pages, i.crc, i.data, p.number, p.key, p.size, p.digest, p.raw, i.at, i.length, i.digest AS image FROM (
-    SELECT DISTINCT ON (range) * FROM pagelog_image WHERE log = %(log)s AND base <= %(base)s ORDER BY range, base DESC) i
-  LEFT JOIN pagelog_pack p ON p.log = %(log)s AND p.number = i.pack AND p.state = 2),
 imaged AS (
   INSERT INTO pagelog_image (log, range, base, pages, crc, data, pack, at, length, digest)
-  SELECT made.id, range, images.base, pages, crc, data, number, CASE WHEN number IS NOT NULL THEN at END, CASE WHEN number IS NOT NULL THEN length END,
-    CASE WHEN number IS NOT NULL THEN image END FROM made, images),
+  SELECT made.id, i.range, i.base, i.pages, i.crc, i.data, p.number, CASE WHEN p.number IS NOT NULL THEN i.at END,
+    CASE WHEN p.number IS NOT NULL THEN i.length END, CASE WHEN p.number IS NOT NULL THEN i.digest END
+  FROM made, (SELECT DISTINCT ON (range) * FROM pagelog_image WHERE log = %(log)s AND base <= %(base)s ORDER BY range, base DESC) i
+  LEFT JOIN pagelog_pack p ON p.log = %(log)s AND p.number = i.pack AND p.state = 2 RETURNING pack),
+packs AS (SELECT DISTINCT pack AS number FROM imaged WHERE pack IS NOT NULL),
 packed AS (
   INSERT INTO pagelog_pack (log, number, key, size, digest, raw, state)
-  SELECT DISTINCT made.id, number, key, size, digest, raw, 2 FROM made, images WHERE number IS NOT NULL),
+  SELECT made.id, number, key, size, digest, raw, 2 FROM made, packs JOIN pagelog_pack p USING (number) WHERE p.log = %(log)s),
 stored AS (
   INSERT INTO pagelog_store (log, folder, moved, cut, chain, packs)
   SELECT made.id, made.name || '.' || substr(made.identity::text, 1, 8), cut, cut, CASE WHEN cut = %(position)s THEN %(chain)b::bytea
     WHEN cut = %(base)s THEN (SELECT chain FROM pagelog_base WHERE log = %(log)s AND base = %(base)s)
-    ELSE (SELECT after FROM named WHERE last = cut) END, COALESCE((SELECT max(number) FROM images), 0)
-  FROM made, source WHERE cut > %(base)s OR EXISTS (SELECT 1 FROM images WHERE number IS NOT NULL)),
+    ELSE (SELECT after FROM named WHERE last = cut) END, COALESCE((SELECT max(number) FROM packs), 0)
+  FROM made, source WHERE cut > %(base)s OR EXISTS (SELECT 1 FROM packs)),
 shared AS (
   INSERT INTO pagelog_object (log, first, last, key, size, digest, raw, raw_digest, after, came, until, state)
   SELECT made.id, GREATEST(first, %(base)s + 1), LEAST(last, cut), key, size, digest, raw, raw_digest, CASE WHEN last <= cut THEN after ELSE %(chain)b::bytea END,
