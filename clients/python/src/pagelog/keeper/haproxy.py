@@ -34,7 +34,6 @@ _SPARE = 64
 _FORM = """global
   nbthread {threads}
   maxconn {most}
-  tune.bufsize 32768
   stats socket fd@{asked} level admin
   ssl-default-bind-options ssl-min-ver TLSv1.3
 defaults
@@ -64,8 +63,7 @@ frontend lines
 backend lines
   server lines unix@{heard} send-proxy-v2{names}
 """
-"""A page and its frame are above half of haproxy's own buffer of 16 KiB: with twice that pages in flight take a tenth less. A connection has
-two of them while bytes are on their way. A handshake has the time of `timeout client`, and what goes on then that of `timeout tunnel`: haproxy's longest is 24.8 days."""
+"""A handshake has the time of `timeout client`, and what goes on then that of `timeout tunnel`: haproxy's longest is 24.8 days."""
 _OWNED = """  tcp-request content set-var(sess.owner) dst_port,map_int(front.owners)
   tcp-request content reject unless { ssl_c_s_dn(CN),strcmp(sess.owner) -m int 0 }
 """
