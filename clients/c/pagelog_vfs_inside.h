@@ -292,9 +292,9 @@ void pagelog_poll_holder(struct database *database);
  * there. They are asked twice a second. */
 bool pagelog_poll_is_past(struct database *database, uint64_t generation);
 
-/* Before a write that no turn allows: the same, asked now. Waits for answers for 0.2 s at most, in half of the
- * time at most, and not at all where no keeper answered the last question: the next one's answers are taken
- * by a later write. */
+/* Before a write that no turn allows: the same, asked now. Waits for answers for 0.2 s at most, in half of
+ * the time at most, and not at all where no keeper answered the last question: the next one's answers are
+ * taken by a later write. */
 bool pagelog_poll_looks_past(struct database *database, uint64_t generation);
 
 /* After a begin of a reader of what is durable; and after the open of one, which waits until it can read what
