@@ -15,7 +15,7 @@ static ssize_t come(int socket, void *to, size_t room, int flags);
 #define recv          come
 #include "../pagelog_line.c"
 #undef recv
-#include "../pagelog_place.c"
+#include "../pagelog_words.c"
 
 enum { MOST_INPUT = 4096, ANSWERS = 64 };
 
@@ -73,12 +73,12 @@ static void take_all(struct taken *taken, const uint8_t *bytes, size_t size, siz
 
 /* ---- What is read of an answer ---- */
 
-static void read_answer(char *words[MOST_WORDS], size_t count) {
+static void read_answer(char *words[PAGELOG_MOST_WORDS], size_t count) {
     static const char *const runs[] = {"", "i/r"};
     const struct pagelog_position position = {7};
     struct pagelog_place place;
     struct pagelog_fate fate;
-    if (read_place(words, count, &place)) {
+    if (pagelog_read_place(words, count, &place)) {
         must_fit(place.run, sizeof place.run);
         must_fit(place.address, sizeof place.address);
         must_fit(place.lines, sizeof place.lines);
@@ -90,14 +90,14 @@ static void read_answer(char *words[MOST_WORDS], size_t count) {
                                           place.generation <= PAGELOG_LAST_LSN);
     }
     for (size_t i = 0; i < sizeof runs / sizeof *runs; i++) {
-        bool is_said = read_fate(words, count, position, runs[i], &fate);
+        bool is_said = pagelog_read_fate(words, count, position, runs[i], &fate);
         must("nothing is durable that is below", !is_said || fate.is_over || !is_before(fate.end, position));
     }
 }
 
-static void read_servers(char *words[MOST_WORDS], size_t count) {
+static void read_servers(char *words[PAGELOG_MOST_WORDS], size_t count) {
     struct pagelog_page_server found[PAGELOG_MOST_PAGE_SERVERS];
-    size_t servers = read_page_servers(words, count, found);
+    size_t servers = pagelog_read_page_servers(words, count, found);
     must("there is room for all", servers <= PAGELOG_MOST_PAGE_SERVERS);
     for (size_t i = 0; i < servers; i++) {
         must_fit(found[i].address, sizeof found[i].address);
@@ -131,10 +131,10 @@ int LLVMFuzzerTestOneInput(const uint8_t *bytes, size_t size) {
     must("the same nonce", strcmp(whole.nonce, pieces.nonce) == 0);
     read_nonce(whole.nonce);
     for (size_t i = 0; i < whole.count; i++) {
-        char *words[MOST_WORDS];
+        char *words[PAGELOG_MOST_WORDS];
         must("the same answer", strcmp(whole.answers[i], pieces.answers[i]) == 0);
         read_address(whole.answers[i]);
-        size_t count = split(whole.answers[i], words);
+        size_t count = pagelog_split_words(whole.answers[i], words);
         read_answer(words, count);
         read_servers(words, count);
     }

@@ -566,7 +566,7 @@ PLANTS = {
                                                "less_than_verify_full"),
     "PostgreSQL, a session without TLS": Plant("../referee/referee", "make_conninfo(**words), autocommit=True", 'make_conninfo(**words | {"sslmode": "disable"}), autocommit=True',
                                                "secured", "with_verify_full"),
-    "a word that is too long": Plant("c/pagelog_place.c", "    if (strlen(word) >= room) return false;\n", "    (void)room;\n", "seeds", "what_a_keeper_says"),
+    "a word that is too long": Plant("c/pagelog_words.c", "    if (strlen(word) >= room) return false;\n", "    (void)room;\n", "seeds", "what_a_keeper_says"),
     "a number that is too long": Plant("fast_path_writers.c", " || end - at > EPOCH_DIGITS", "", "seeds", "what_writers_say"),
     "TLS, hosts": Plant("../secure", "    assert context.check_hostname and context.verify_mode is ssl.CERT_REQUIRED\n", "    context.check_hostname = False\n",
                         "trust", "certificates_that_are"),

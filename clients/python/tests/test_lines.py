@@ -31,7 +31,15 @@ KEEPER = (
     "page_servers",
     "confirmations",
 )
-CLIENT_C = ("pagelog_place.c", "pagelog_line.c", "pagelog_turn.c", "pagelog_proof.c")
+CLIENT_C = (
+    "pagelog_place.c",
+    "pagelog_words.c",
+    "pagelog_fate.c",
+    "pagelog_page_servers.c",
+    "pagelog_line.c",
+    "pagelog_turn.c",
+    "pagelog_proof.c",
+)
 
 
 def table(heading: str) -> list[list[str]]:
