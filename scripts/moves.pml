@@ -166,7 +166,7 @@ end:
                     // named->place = *place;
                     // file->source.shift = place->shift;
                     // ..
-                    // named->has_place = named->is_between = true;
+                    // pagelog_go(file, ARRIVING);
                     // ..
                     // pagelog_become_follower(file);
                     // ..
@@ -241,7 +241,7 @@ inline tell_durable(b) {
                     // pagelog_tail_cut(&named->tail, position);
                     // named->durable = lower_of(named->durable, last_before(position));
                     // named->settled = named->place;
-                    // named->is_between = false;
+                    // pagelog_go(file, HERE);
                     // named->told = lower_of(named->told, last_before(position));
                     // pagelog_become_follower(file);
                     // pagelog_give_up_transaction(file);
@@ -460,7 +460,7 @@ inline settle_tail() {
                     // named->settled = named->place;
                     // ..
                     // outcome = pagelog_find_transaction(file, end_of(file));
-                    // if (outcome == PAGELOG_DONE) named->is_between = false;
+                    // if (outcome == PAGELOG_DONE) pagelog_go(file, HERE);
                     // return outcome;
 inline arrive() {
     settled = gen;
@@ -500,11 +500,11 @@ inline send_again() {
 
 // pagelog_move.c: try_to_move
                     // ..
-                    // uint64_t least = named->has_place ? named->place.generation : 0;
+                    // uint64_t least = named->place.generation;
                     // ..
                     // enum pagelog_outcome outcome = pagelog_where(named->keepers, least, &place);
                     // ..
-                    // bool is_other = !named->has_place || place.generation > least || (named->is_superseded && !is_same);
+                    // bool is_other = named->where == NOWHERE || place.generation > least || (is_superseded(named) && !is_same);
                     // ..
                     // if (is_other) outcome = enter(file, &place);
                     // return outcome == PAGELOG_DONE ? go_on(file) : outcome;
@@ -575,7 +575,7 @@ inline move(why) {
 
 // pagelog_move.c: pagelog_arrive
                     // ..
-                    // return file->source.named->is_between ? pagelog_move(file, PAGELOG_LOST) : PAGELOG_DONE;
+                    // return is_between(file->source.named) ? pagelog_move(file, PAGELOG_LOST) : PAGELOG_DONE;
 #ifdef READS_ON_BEFORE_IT_HAS_LOOKED
 #define HAS_ARRIVED true
 #else

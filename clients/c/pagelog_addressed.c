@@ -33,7 +33,6 @@ static enum pagelog_outcome begin_to_write(struct pagelog_file *file) {
     if (outcome != PAGELOG_DONE) return outcome;
     pagelog_stand(file, WRITING);
     file->checked = asked;
-    file->is_checked = true;
     return pagelog_recover(file);
 }
 
@@ -43,7 +42,6 @@ static enum pagelog_outcome open_reader(struct pagelog_file *file) {
     enum pagelog_outcome outcome = pagelog_status(file->log, PAGELOG_SECONDARY, &status);
     if (outcome != PAGELOG_DONE) return outcome;
     file->checked = asked;
-    file->is_checked = true;
     struct pagelog_position at = {file->options.at};
     return pagelog_take_mark(file, is_none(at) ? hard_of(file, &status) : at);
 }

@@ -44,7 +44,7 @@ static enum pagelog_outcome take_of_writer(struct pagelog_file *file, const stru
     file->reason = NULL;
     if (is_before(named->told, position) && is_before(named->durable, position))
         return pagelog_file_fail(file, PAGELOG_CONFLICT, "it was lost before it was durable");
-    if (named->is_between) return pagelog_arrive(file); /* till then nothing here is known to be its own */
+    if (is_between(named)) return pagelog_arrive(file); /* till then nothing here is known to be its own */
     if (outcome == PAGELOG_DONE) return pagelog_note_fate(file, &awaited->place, fate, position);
     outcome = pagelog_where(named->keepers, named->place.generation, &place);
     if (outcome == PAGELOG_DENIED && pagelog_keepers_reason(named->keepers)) return pagelog_take_denial(file);
@@ -234,7 +234,7 @@ enum pagelog_outcome pagelog_file_reach(struct pagelog_file *file, uint64_t posi
     enum pagelog_outcome outcome = await(file, position, &asking, take_of_reader);
     if (outcome == PAGELOG_LOST && !file->reason)
         return pagelog_file_fail(file, outcome, "no keeper says that what was read before is durable");
-    if (outcome == PAGELOG_DONE) file->is_checked = false;
+    if (outcome == PAGELOG_DONE) file->checked = 0;
     return outcome;
 }
 
@@ -266,7 +266,7 @@ static enum pagelog_outcome leave_if_lost(struct pagelog_file *file) {
     bool is_told =
         !has_own && pagelog_fate_of(named->keepers, NULL, &named->place, any, &fate) == PAGELOG_DONE;
     if (!is_told || fate.loss != PAGELOG_SUPERSEDED) return PAGELOG_DONE;
-    named->is_superseded = true;
+    pagelog_go(file, is_between(named) ? OUT : LEFT_BEHIND);
     named->durable = any;
     return pagelog_move_on(file);
 }
@@ -279,7 +279,7 @@ enum pagelog_outcome pagelog_glance(struct pagelog_file *file) {
     if (named->place.is_page_server) return pagelog_look_at_page_server(file);
     bool was_suspect = named->is_suspect, has_tail = !pagelog_tail_is_empty(&named->tail);
     bool is_wanted = was_suspect || (has_tail && now - named->glanced >= GLANCE_MS);
-    if (!is_wanted && !file->options.durable_only && !named->is_closing) return PAGELOG_DONE;
+    if (!is_wanted && !file->options.durable_only && !is_closing(named)) return PAGELOG_DONE;
     named->glanced = now;
     named->is_suspect = false;
     enum pagelog_outcome outcome = pagelog_where(named->keepers, named->place.generation, &place);

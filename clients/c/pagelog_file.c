@@ -73,7 +73,7 @@ enum pagelog_outcome pagelog_file_open(struct pagelog_file *file) {
 
 void pagelog_become_follower(struct pagelog_file *file) {
     pagelog_stand(file, FOLLOWING);
-    file->is_checked = false;
+    file->checked = 0;
     file->next = next_of(file->mark.position);
     file->pending.length = 0;
 }
@@ -119,7 +119,7 @@ bool pagelog_has_gone_on(const struct pagelog_file *file) {
 }
 
 static bool is_due(const struct pagelog_file *file, uint64_t now) {
-    return !file->is_checked || now - file->checked >= file->options.check_ms;
+    return file->checked == 0 || now - file->checked >= file->options.check_ms;
 }
 
 static enum pagelog_outcome begin_writer(struct pagelog_file *file, uint64_t now) {
@@ -146,7 +146,6 @@ enum pagelog_outcome pagelog_refresh(struct pagelog_file *file) {
     if (!is_writer(file) && !file->options.at && is_due(file, now)) outcome = pagelog_follow(file);
     if (outcome != PAGELOG_DONE) return outcome;
     if (is_due(file, now)) file->checked = now;
-    file->is_checked = true;
     return PAGELOG_DONE;
 }
 

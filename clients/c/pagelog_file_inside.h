@@ -124,8 +124,8 @@ struct pagelog_file {
     struct pending pending;
     bool is_far;      /* so much was pulled without an end mark that it was not kept aside */
     uint64_t begun;   /* when the last begin was asked for */
-    uint64_t checked; /* when the service last said that this is the newest, or that the epoch is not over */
-    bool is_checked;
+    uint64_t checked; /* when the service last said that this is the newest, or that the epoch is not over;
+                       * 0: it has not since then */
     struct expected expected;
     uint32_t run;      /* how many pages go with one that follows the last ones */
     uint32_t asked;    /* how many were asked for ahead last */

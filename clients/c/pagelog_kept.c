@@ -71,7 +71,8 @@ static bool goes_back(struct pagelog_file *file, const struct mark *wanted) {
     file->pending.length = 0;
     file->size = file->least = found.size;
     file->told_session = 0;
-    file->is_far = file->is_checked = false;
+    file->is_far = false;
+    file->checked = 0;
     return true;
 }
 

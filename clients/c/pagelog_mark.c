@@ -69,7 +69,6 @@ enum pagelog_outcome pagelog_append_ended(struct pagelog_file *file) {
     pagelog_blocks_drop(file->blocks, count);
     file->blocks_written += count;
     file->checked = file->on_their_way > 0 ? file->sent : asked;
-    file->is_checked = true;
     file->on_their_way = 0;
     return PAGELOG_DONE;
 }

@@ -42,20 +42,18 @@ static enum pagelog_outcome enter(struct pagelog_file *file, const struct pagelo
     enum pagelog_outcome outcome = pagelog_enter(file->log, place->address, token);
     if (outcome != PAGELOG_DONE) return outcome;
     pagelog_token_of_run(named->keepers, named->operator_token, place->run, file->options.operator_token);
-    bool is_same_run = named->has_place && strcmp(named->place.run, place->run) == 0;
+    bool is_same_run = strcmp(named->place.run, place->run) == 0, was_superseded = is_superseded(named);
     pagelog_blocks_shift(file->blocks, named->place.shift - place->shift);
-    if (named->has_place) named->moves++;
+    if (named->where != NOWHERE) named->moves++;
     named->place = *place;
     file->source.shift = place->shift;
     if (!place->is_page_server) pagelog_keepers_are_of(named->keepers, place);
-    named->has_place = named->is_between = true;
+    pagelog_go(file, ARRIVING);
     if (!is_same_run) {
-        named->is_accepted = false;
-        named->refused = 0;
+        pagelog_hear(file, UNHEARD);
         pagelog_renew_session(file);
     }
-    if (named->is_superseded) named->settled = *place; /* nothing is left of before: that is told once */
-    named->is_superseded = false;
+    if (was_superseded) named->settled = *place; /* nothing is left of before: that is told once */
     if (file->options.durable_only) named->durable = higher_of(named->durable, place->archived);
     pagelog_become_follower(file);
     file->is_far = false;
@@ -79,9 +77,8 @@ enum pagelog_outcome pagelog_refuse_token(struct pagelog_file *file, const char 
  * keepers have named it all the while. */
 static enum pagelog_outcome refuse_principal(struct pagelog_file *file) {
     struct named *named = file->source.named;
-    uint64_t now = pagelog_now();
-    if (named->refused == 0) named->refused = now;
-    if (named->is_accepted || now - named->refused < CONFIRM_MS) return PAGELOG_DENIED;
+    if (named->listing == UNHEARD) pagelog_hear(file, UNLISTED);
+    if (named->listing == LISTED || pagelog_now() - named->refused < CONFIRM_MS) return PAGELOG_DENIED;
     return pagelog_refuse_token(file, "principal", file->options.service.principal);
 }
 
@@ -101,15 +98,14 @@ static enum pagelog_outcome go_on(struct pagelog_file *file) {
         return pagelog_file_fail(file, outcome, "the principal has to be allowed to read as a secondary");
     if (outcome == PAGELOG_DENIED && pagelog_is_unknown_principal(file)) return refuse_principal(file);
     if (outcome == PAGELOG_DONE && is_behind(file, hard_of(file, &status))) return PAGELOG_LOST;
-    if (outcome == PAGELOG_DONE) named->is_accepted = true;
+    if (outcome == PAGELOG_DONE) pagelog_hear(file, LISTED);
     if (outcome == PAGELOG_DONE) outcome = pagelog_learn_end(file);
     if (outcome == PAGELOG_DONE) outcome = pagelog_settle_tail(file, &status);
     if (outcome != PAGELOG_DONE) return outcome;
     named->settled = named->place;
-    named->epoch = status.epoch;
-    named->is_closing = status.primary == PAGELOG_KEEPER && status.epoch > 1;
+    note_epoch(named, &status);
     outcome = pagelog_find_transaction(file, end_of(file));
-    if (outcome == PAGELOG_DONE) named->is_between = false;
+    if (outcome == PAGELOG_DONE) pagelog_go(file, HERE);
     return outcome;
 }
 
@@ -152,7 +148,7 @@ static enum pagelog_outcome go_to_page_server(struct pagelog_file *file,
 static enum pagelog_outcome try_to_move(struct pagelog_file *file, bool is_over) {
     struct named *named = file->source.named;
     struct pagelog_place place;
-    uint64_t least = named->has_place ? named->place.generation : 0;
+    uint64_t least = named->place.generation; /* 0: NOWHERE */
     pagelog_wait_again(file);
     enum pagelog_outcome outcome = pagelog_where(named->keepers, least, &place);
     if (outcome == PAGELOG_DENIED) return pagelog_take_denial(file);
@@ -162,11 +158,11 @@ static enum pagelog_outcome try_to_move(struct pagelog_file *file, bool is_over)
         outcome = go_to_page_server(file, &place);
         if (outcome != PAGELOG_LOST || is_alone) return outcome;
     }
-    bool is_same = named->has_place && strcmp(place.run, named->place.run) == 0;
-    bool is_other = !named->has_place || place.generation > least || (named->is_superseded && !is_same);
+    bool is_same = strcmp(place.run, named->place.run) == 0;
+    bool is_other = named->where == NOWHERE || place.generation > least || (is_superseded(named) && !is_same);
     is_other |= named->place.is_page_server;
     if (!is_other && !is_same) return ask_own_fate(file);
-    is_over |= named->is_superseded;
+    is_over |= is_superseded(named);
     if (!is_other && (is_over || pagelog_is_restarted(file->log))) return PAGELOG_LOST;
     if (is_other) outcome = enter(file, &place);
     return outcome == PAGELOG_DONE ? go_on(file) : outcome;
@@ -191,7 +187,7 @@ struct leaving {
 static void leave_if_full(struct pagelog_file *file, struct leaving *leaving) {
     uint64_t generation = file->source.named->place.generation;
     bool is_left = leaving->is_over && leaving->generation == generation;
-    if (!file->source.named->has_place || is_left || !is_service_full(file)) return;
+    if (file->source.named->where == NOWHERE || is_left || !is_service_full(file)) return;
     leaving->is_over = leaving->is_full = true;
     leaving->generation = generation;
     if (leaving->cause == PAGELOG_LOST) leaving->cause = PAGELOG_NO_MEMORY;
@@ -210,7 +206,8 @@ static enum pagelog_outcome give_up_move(struct pagelog_file *file, const struct
 /* An open that no keeper listens to is not waited for: their addresses may be wrong. Who was there before
  * waits for them, as they may be started again. */
 static bool are_keepers_gone(const struct pagelog_file *file, uint64_t *since) {
-    bool are_gone = !file->source.named->has_place && pagelog_keepers_are_gone(file->source.named->keepers);
+    bool are_gone =
+        file->source.named->where == NOWHERE && pagelog_keepers_are_gone(file->source.named->keepers);
     uint64_t now = pagelog_now();
     if (!are_gone || *since == 0) *since = are_gone ? now : 0;
     return are_gone && now - *since >= GONE_MS;
@@ -244,7 +241,7 @@ enum pagelog_outcome pagelog_move(struct pagelog_file *file, enum pagelog_outcom
 enum pagelog_outcome pagelog_arrive(struct pagelog_file *file) {
     if (file->source.named->dropped)
         return pagelog_file_fail(file, PAGELOG_DENIED, file->source.named->dropped);
-    return file->source.named->is_between ? pagelog_move(file, PAGELOG_LOST) : PAGELOG_DONE;
+    return is_between(file->source.named) ? pagelog_move(file, PAGELOG_LOST) : PAGELOG_DONE;
 }
 
 /* Commits on their way are settled before, while it is known to whom they were sent. That may move the file

@@ -15,6 +15,10 @@
 #include "pagelog_file_inside.h"
 #include "pagelog_tail.h"
 
+/* Where a file is, and whether the table there lists the principal: pagelog_named_steps.c has the steps. */
+enum whereabouts { NOWHERE, ARRIVING, HERE, LEFT_BEHIND, OUT };
+enum listing { UNHEARD, UNLISTED, LISTED };
+
 /* Of a named database: where it is, and what it may lack there. */
 enum { WHY_BYTES = 320 };
 
@@ -25,7 +29,9 @@ enum wait { FOR_A_REPLY, FOR_A_TIME, OVERTAKEN };
 struct named {
     struct pagelog_keepers *keepers;
     struct pagelog_place place;
-    bool has_place;
+    enum whereabouts where; /* these two change by steps alone */
+    enum listing listing;
+    uint64_t refused; /* when the service of this run said first that it does not list the principal */
     uint8_t token[PAGELOG_TOKEN_BYTES],
         operator_token[PAGELOG_TOKEN_BYTES]; /* of the table; each run has others */
     struct pagelog_tail tail;        /* of who may write: the blocks that are not known to be durable */
@@ -41,27 +47,45 @@ struct named {
     bool (*goes_on)(void *argument); /* by whom waits are ended; NULL: by nobody */
     void *argument;
     enum wait wait;
-    bool is_suspect;     /* keepers may have gone on without the run that is read: the next begin asks */
-    uint32_t epoch;      /* the last one whose primary was asked for */
-    bool is_closing;     /* that was the keeper, which closes the generation */
-    const char *dropped; /* why the database is no more, and nothing goes on; NULL: it is there */
+    bool is_suspect;         /* keepers may have gone on without the run that is read: the next begin asks */
+    uint32_t epoch, primary; /* the last one whose primary was asked for, and that */
+    const char *dropped;     /* why the database is no more, and nothing goes on; NULL: it is there */
     struct pagelog_position shown; /* of the newest transaction that was read at a page server */
     struct pagelog_copies *copies; /* of a reader: the page servers that it asks for pages; NULL: none yet */
     uint8_t *copied;               /* room for the pages of one question to these; NULL: none yet */
     struct pagelog_held held;      /* and the transactions that it has read in this run: */
     char held_run[PAGELOG_RUN_BYTES];
     uint64_t listed;    /* when keepers were asked last which page servers there are */
-    bool is_accepted;   /* the service of this run has answered: it knows the principal */
-    uint64_t refused;   /* when that of this run said first that it does not; 0: it has not */
-    bool is_superseded; /* PostgreSQL went on without the run that the file is in: another place is to be had
-                         */
-    bool is_between;    /* it has come to this generation, and not looked yet what is there of it */
     bool is_sent_again; /* blocks of the tail were sent in this move */
     bool is_doubted;    /* another process may have written since the last begin */
     uint32_t handed;    /* the epoch that the next begin goes on from as the writer; 0: it does not */
     uint64_t moves, resent;
     char why[WHY_BYTES]; /* a sentence on what was waited for in vain */
 };
+
+/* Makes a step of the tables of pagelog_named_steps.c; any other is none. */
+void pagelog_go(struct pagelog_file *file, enum whereabouts to);
+void pagelog_hear(struct pagelog_file *file, enum listing to);
+
+/* Whether nothing is read or written where the file is, before a move has looked what is there of it. */
+static inline bool is_between(const struct named *named) {
+    return named->where == ARRIVING || named->where == OUT;
+}
+
+/* Whether PostgreSQL went on without the run that the file is in: another place is to be had. */
+static inline bool is_superseded(const struct named *named) {
+    return named->where == LEFT_BEHIND || named->where == OUT;
+}
+
+/* Notes whose epoch the newest one is; and whether that is the keeper's, which closes the generation. */
+static inline void note_epoch(struct named *named, const struct pagelog_reply *status) {
+    named->epoch = status->epoch;
+    named->primary = status->primary;
+}
+
+static inline bool is_closing(const struct named *named) {
+    return named->primary == PAGELOG_KEEPER && named->epoch > 1;
+}
 
 /* Whether the log of the run that the file is in had the whole tail. */
 static inline bool is_settled_here(const struct named *named) {

@@ -18,7 +18,7 @@ static bool is_made_again(struct pagelog_file *file, enum pagelog_outcome *outco
     if (*outcome == PAGELOG_DONE || file->reason || !pagelog_may_move(file, *outcome)) return false;
     if (tries->moves == 0) tries->patience = pagelog_file_patience(file);
     bool may_try = tries->moves++ < MOST_MOVES ||
-                   (file->source.named->is_closing && pagelog_file_may_wait(file, &tries->patience));
+                   (is_closing(file->source.named) && pagelog_file_may_wait(file, &tries->patience));
     if (may_try) *outcome = pagelog_move(file, *outcome);
     return may_try && *outcome == PAGELOG_DONE;
 }
@@ -83,7 +83,6 @@ static enum pagelog_outcome open(struct pagelog_file *file) {
     outcome = ask_wherever(file, outcome, take_newest);
     if (outcome != PAGELOG_DONE) return outcome;
     file->checked = asked;
-    file->is_checked = true;
     return PAGELOG_DONE;
 }
 
@@ -95,8 +94,7 @@ static enum pagelog_outcome look_at_epoch(struct pagelog_file *file) {
     if (is_writer(file) || pagelog_epoch(file->log) == named->epoch) return PAGELOG_DONE;
     enum pagelog_outcome outcome = pagelog_status(file->log, PAGELOG_SECONDARY, &status);
     if (outcome != PAGELOG_DONE) return outcome;
-    named->epoch = status.epoch;
-    named->is_closing = status.primary == PAGELOG_KEEPER && status.epoch > 1;
+    note_epoch(named, &status);
     return PAGELOG_DONE;
 }
 
@@ -104,7 +102,7 @@ static enum pagelog_outcome look_at_epoch(struct pagelog_file *file) {
 static bool may_take_hand_over(const struct pagelog_file *file) {
     const struct named *named = file->source.named;
     bool may_write = !file->options.reads_only && !file->options.durable_only && file->options.has_operator;
-    return may_write && !is_gone(file) && !named->is_closing && file->standing != BROKEN &&
+    return may_write && !is_gone(file) && !is_closing(named) && file->standing != BROKEN &&
            file->on_their_way == 0 && (pagelog_tail_is_empty(&named->tail) || is_settled_here(named));
 }
 
@@ -127,7 +125,7 @@ static bool take_hand_over(struct pagelog_file *file, uint32_t epoch) {
     pagelog_stand(file, WRITING);
     file->source.named->is_doubted = false;
     file->checked = asked;
-    return file->is_checked = true;
+    return true;
 }
 
 void pagelog_file_hand_over(struct pagelog_file *file, uint32_t epoch, uint64_t generation) {
@@ -150,7 +148,7 @@ static enum pagelog_outcome begin(struct pagelog_file *file) {
             outcome = is_gone(file) ? take_newest(file) : pagelog_refresh(file);
         if (file->reading != OVER) outcome = ask_wherever(file, outcome, pagelog_refresh);
         if (outcome == PAGELOG_DONE) outcome = ask_wherever(file, look_at_epoch(file), look_at_epoch);
-        if (outcome == PAGELOG_DONE && file->source.named->is_closing) outcome = pagelog_glance(file);
+        if (outcome == PAGELOG_DONE && is_closing(file->source.named)) outcome = pagelog_glance(file);
     } while (outcome == PAGELOG_DONE && file->source.named->place.generation != generation);
     return outcome;
 }
@@ -225,7 +223,6 @@ static enum pagelog_outcome become_writer(struct pagelog_file *file) {
     if (outcome != PAGELOG_DONE) return outcome;
     pagelog_stand(file, WRITING);
     file->checked = asked;
-    file->is_checked = true;
     return is_before(file->mark.position, end_of(file)) ? pagelog_repair(file) : PAGELOG_DONE;
 }
 
@@ -237,7 +234,7 @@ enum pagelog_outcome pagelog_file_move_on(struct pagelog_file *file) {
 
 void pagelog_file_doubt(struct pagelog_file *file) {
     file->source.named->is_doubted = true;
-    file->is_checked = false;
+    file->checked = 0;
 }
 
 /* Whether a writer still is one, and nobody has gone on from what it read. */
@@ -309,7 +306,7 @@ static void fall_back(struct pagelog_file *file, enum pagelog_outcome outcome, b
 
 static const struct pagelog_place *place(const struct pagelog_file *file) {
     const struct named *named = file->source.named;
-    return named->has_place ? &named->place : NULL;
+    return named->where != NOWHERE ? &named->place : NULL;
 }
 
 static void describe(const struct pagelog_file *file, struct pagelog_file_state *state) {

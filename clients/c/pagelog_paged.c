@@ -51,10 +51,10 @@ size_t pagelog_page_server_places(struct pagelog_file *file, const struct pagelo
     struct named *named = file->source.named;
     struct pagelog_position position = position_read(file);
     size_t count, chosen = 0, last = PAGELOG_MOST_PAGE_SERVERS;
-    if (!named->has_place) pagelog_keepers_are_of(named->keepers, service);
+    if (named->where == NOWHERE) pagelog_keepers_are_of(named->keepers, service);
     if (pagelog_page_servers(named->keepers, servers, &count) != PAGELOG_DONE) return 0;
     for (size_t i = 0; i < count; i++) {
-        bool is_here = named->has_place && strcmp(servers[i].run, named->place.run) == 0;
+        bool is_here = strcmp(servers[i].run, named->place.run) == 0;
         if (!is_none(position) && is_before(position, servers[i].oldest)) continue;
         if (is_here)
             last = i;
@@ -120,7 +120,7 @@ static bool may_ask(const struct pagelog_file *file) {
     const struct named *named = file->source.named;
     bool is_wanted =
         file->options.pages == PAGELOG_PAGES_PREFERRED || file->options.pages == PAGELOG_PAGES_ONLY;
-    bool is_here = named->has_place && !named->is_between && !is_gone(file) && !named->dropped;
+    bool is_here = named->where != NOWHERE && !is_between(named) && !is_gone(file) && !named->dropped;
     return file->options.reads_only && is_wanted && is_here && named->place.pages > 0 &&
            !is_none(file->mark.position) && pagelog_is_own(file->log);
 }

@@ -133,7 +133,7 @@ static enum pagelog_outcome lose_to(struct pagelog_file *file, struct pagelog_po
     pagelog_tail_cut(&named->tail, position);
     named->durable = lower_of(named->durable, last_before(position));
     named->settled = named->place;
-    named->is_between = false;
+    pagelog_go(file, HERE);
     named->told = lower_of(named->told, last_before(position));
     pagelog_become_follower(file);
     pagelog_give_up_transaction(file);
@@ -181,15 +181,15 @@ enum pagelog_outcome pagelog_lose_run(struct pagelog_file *file, const struct pa
     named->durable.number = 0; /* of the run that follows, whose positions come again, nothing is known */
     enum pagelog_outcome outcome =
         lose_to(file, first, is_no_more ? PAGELOG_DENIED : PAGELOG_FENCED, reason_of(loss));
-    named->is_superseded = named->is_between = is_here && !is_no_more;
+    if (is_here && !is_no_more) pagelog_go(file, OUT);
     return outcome;
 }
 
 enum pagelog_outcome pagelog_take_denial(struct pagelog_file *file) {
     struct named *named = file->source.named;
     const char *reason = pagelog_keepers_reason(named->keepers);
-    bool was_dropped = reason && named->has_place && strcmp(reason, reason_of(PAGELOG_DROPPED)) == 0;
-    bool is_another = reason && named->has_place && strcmp(reason, reason_of(PAGELOG_ANOTHER)) == 0;
+    bool was_dropped = reason && named->where != NOWHERE && strcmp(reason, reason_of(PAGELOG_DROPPED)) == 0;
+    bool is_another = reason && named->where != NOWHERE && strcmp(reason, reason_of(PAGELOG_ANOTHER)) == 0;
     if (was_dropped || is_another)
         return pagelog_lose_run(file, &named->place, was_dropped ? PAGELOG_DROPPED : PAGELOG_ANOTHER);
     snprintf(file->words, sizeof file->words, "the keepers know of no database %s",

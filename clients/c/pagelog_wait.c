@@ -10,7 +10,7 @@ bool pagelog_file_is_overtaken(struct pagelog_file *file) {
     struct named *named = file->source.named;
     struct pagelog_place place;
     uint64_t now = pagelog_now();
-    if (!named || !named->has_place || named->place.is_page_server || now - named->waited < GLANCE_MS)
+    if (!named || named->where == NOWHERE || named->place.is_page_server || now - named->waited < GLANCE_MS)
         return false;
     named->waited = now;
     return pagelog_where(named->keepers, named->place.generation + 1, &place) == PAGELOG_DONE;

@@ -643,6 +643,8 @@ declare("pagelog_file_state_of", State, c_void_p)
 declare("pagelog_file_explain", None, c_void_p, c_char_p, c_size_t)
 declare("pagelog_stand", None, c_void_p, c_uint)
 declare("pagelog_have", None, c_void_p, c_uint)
+declare("pagelog_go", None, c_void_p, c_uint)
+declare("pagelog_hear", None, c_void_p, c_uint)
 
 
 class File:

@@ -1,4 +1,5 @@
-"""The states of a file, and the steps between them: those of the tables of pagelog_file_inside.h, and no others."""
+"""The states of a file, and the steps between them: those of the tables of pagelog_file_inside.h and
+pagelog_named_steps.c, and no others."""
 
 import os
 import random
@@ -13,6 +14,8 @@ from stub_keeper import StubKeeper, token_of
 
 STANDINGS = ["following", "writing", "broken"]
 READINGS = ["closed", "open", "gone", "over"]
+PLACES = ["nowhere", "arriving", "here", "left behind", "out"]
+LISTINGS = ["unheard", "unlisted", "listed"]
 
 # From each state: how it is come to from the first one, and where it may go.
 STANDING_STEPS = {
@@ -25,6 +28,18 @@ READING_STEPS = {
     "open": (["open"], {"closed", "open", "gone", "over"}),
     "gone": (["open", "gone"], {"closed", "open", "gone", "over"}),
     "over": (["open", "over"], {"closed", "open", "gone", "over"}),
+}
+PLACE_STEPS = {
+    "nowhere": ([], {"arriving"}),
+    "arriving": (["arriving"], {"arriving", "here", "out"}),
+    "here": (["arriving", "here"], {"arriving", "here", "left behind", "out"}),
+    "left behind": (["arriving", "here", "left behind"], {"arriving", "here", "left behind"}),
+    "out": (["arriving", "out"], {"arriving", "here", "out"}),
+}
+LISTING_STEPS = {
+    "unheard": ([], {"unheard", "unlisted", "listed"}),
+    "unlisted": (["unlisted"], {"unheard", "listed"}),
+    "listed": (["listed"], {"unheard", "listed"}),
 }
 NOWHERE = "127.0.0.1:1"
 
@@ -55,18 +70,15 @@ def steps_made(step, names, table, file):
 
 def test_steps_that_are_none_end_a_checked_build():
     """So that a test which comes to one fails. Each of the others is made."""
-    wanted = [
-        {old: new for old, (_, new) in table.items()} for table in (STANDING_STEPS, READING_STEPS)
-    ]
     with File(None, 2, operator=1, name="shop", keepers=NOWHERE) as file:
-        same(
-            "steps",
-            wanted,
-            [
-                steps_made(lib.pagelog_stand, STANDINGS, STANDING_STEPS, file),
-                steps_made(lib.pagelog_have, READINGS, READING_STEPS, file),
-            ],
-        )
+        for step, names, table in (
+            (lib.pagelog_stand, STANDINGS, STANDING_STEPS),
+            (lib.pagelog_have, READINGS, READING_STEPS),
+            (lib.pagelog_go, PLACES, PLACE_STEPS),
+            (lib.pagelog_hear, LISTINGS, LISTING_STEPS),
+        ):
+            wanted = {old: new for old, (_, new) in table.items()}
+            same(f"steps of {names[0]}", wanted, steps_made(step, names, table, file))
     with File(NOWHERE, 2, reads_only=True) as reader, File(NOWHERE, 2, operator=1) as plain:
         same("who only reads", False, makes(lib.pagelog_stand, reader, [1]))
         same("who may write", True, makes(lib.pagelog_stand, plain, [1]))

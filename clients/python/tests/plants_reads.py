@@ -35,7 +35,7 @@ PLANTS = {
     "kept, of any mark": Plant(_KEPT, "(pagelog_is_same_mark(mark, &file->mark) || goes_back(file, mark))", "(goes_back(file, mark) || true)", "c/restarts",
                                "follower_has_left"),
     "kept, of any mark before": Plant(_KEPT, " || !pagelog_is_same_mark(&found, wanted)) return false;", ") return false;", "c/restarts", "follower_has_left"),
-    "kept, not followed": Plant(_KEPT, "file->is_far = file->is_checked = false;", "file->is_far = false;", "c/readers", "with_the_pages_of_the_last"),
+    "kept, not followed": Plant(_KEPT, "    file->checked = 0;\n", "", "c/readers", "with_the_pages_of_the_last"),
     "kept, by another principal": Plant("c/pagelog_vfs_kept.c", "strcmp(kept->key, database->key) == 0 && ", "", "c/readers", "with_the_pages_of_the_last"),
     "kept, of all databases": Plant("c/pagelog_vfs_kept.c", "count == MOST_DATABASES || ", "", "c/readers", "of_four_databases"),
     "kept, at another shift": Plant(_KEPT, "    strcpy(kept->database, database_of(file));\n", "    strcpy(kept->database, database_of(file));\n    kept->mark.position.number = lsn_of(file, file->mark.position).number;\n", "c/readers", "outlive_its_service"),

@@ -2,8 +2,9 @@
 
 from plant import Plant
 
-_STEPS, _COMMIT, _FILE, _SETTLE = (
+_STEPS, _NAMED, _COMMIT, _FILE, _SETTLE = (
     "c/pagelog_steps.c",
+    "c/pagelog_named_steps.c",
     "c/pagelog_commit.c",
     "c/pagelog_file.c",
     "c/pagelog_settle.c",
@@ -22,6 +23,11 @@ PLANTS = {
     "steps, what was lost is there": Plant(_STEPS, "    [CLOSED] = 1 << CLOSED | 1 << OPEN | 1 << GONE,\n", "    [CLOSED] = 1 << CLOSED | 1 << OPEN | 1 << GONE | 1 << OVER,\n", "c/steps", _NONE),
     "steps, a reader writes": Plant(_STEPS, "    pagelog_assert(to == FOLLOWING || !file->options.reads_only);\n", "", "c/steps", _NONE),
     "steps, gone without a name": Plant(_STEPS, "    pagelog_assert(to != GONE || file->source.calls->is_gone_after_loss);\n", "", "c/steps", _NONE),
+    "places, one that is none": Plant(_NAMED, "    pagelog_assert(whereabouts[named->where] >> to & 1);\n", "", "c/steps", _NONE),
+    "places, one more": Plant(_NAMED, "    [NOWHERE] = 1 << ARRIVING,\n", "    [NOWHERE] = 1 << ARRIVING | 1 << HERE,\n", "c/steps", _NONE),
+    "places, out for good": Plant(_NAMED, "    [OUT] = 1 << ARRIVING | 1 << HERE | 1 << OUT,\n", "    [OUT] = 1 << OUT,\n", "c/steps", _NONE),
+    "listed, a step that is none": Plant(_NAMED, "    pagelog_assert(listings[named->listing] >> to & 1);\n", "", "c/steps", _NONE),
+    "listed, refused after an answer": Plant(_NAMED, "    [LISTED] = 1 << UNHEARD | 1 << LISTED,\n", "    [LISTED] = 1 << UNHEARD | 1 << UNLISTED | 1 << LISTED,\n", "c/steps", _NONE),
     "steps, not broken": Plant("c/pagelog_addressed.c", "    else if (may_be_there)\n        pagelog_stand(file, BROKEN);\n", "", "c/steps", _STATES),
     "steps, broken for good": Plant(_FILE, "    if (outcome == PAGELOG_DONE && file->standing == BROKEN) pagelog_stand(file, WRITING);\n", "", "c/steps", _STATES),
     "steps, not over": Plant(_COMMIT, "    pagelog_have(file, OVER);\n", "", "c/steps", _LOSES),
