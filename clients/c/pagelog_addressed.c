@@ -6,6 +6,12 @@
 
 /* ---- Opening ---- */
 
+static enum pagelog_outcome connect(struct pagelog_file *file, char *peer, size_t room) {
+    enum pagelog_outcome outcome = pagelog_connect(file->log);
+    pagelog_peer(file->log, peer, room);
+    return outcome;
+}
+
 /* Looks whether the database is one of files, and has this name, before a writer elsewhere is fenced, if its
  * principal may look so. */
 static enum pagelog_outcome look_at_mark(struct pagelog_file *file) {
@@ -189,6 +195,10 @@ static const struct pagelog_place *place(const struct pagelog_file *file) {
     return NULL;
 }
 
+static bool is_no_more(const struct pagelog_file *file) {
+    return pagelog_is_restarted(file->log);
+}
+
 static void describe(const struct pagelog_file *file, struct pagelog_file_state *state) {
     (void)file, (void)state;
 }
@@ -202,6 +212,7 @@ static void end(struct pagelog_file *file) {
 }
 
 static const struct source_calls by_address = {
+    .connect = connect,
     .open = open,
     .begin = pagelog_refresh,
     .reserve = reserve,
@@ -216,11 +227,13 @@ static const struct source_calls by_address = {
     .settle_doubt = settle_doubt,
     .fall_back = fall_back,
     .place = place,
+    .is_no_more = is_no_more,
     .describe = describe,
     .set_waiting = set_waiting,
     .abandon = end,
     .free = end,
     .is_gone_after_loss = false,
+    .begins_again = false,
 };
 
 void pagelog_make_addressed(struct pagelog_file *file) {

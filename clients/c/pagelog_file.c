@@ -49,9 +49,7 @@ void pagelog_file_free(struct pagelog_file *file) {
 
 enum pagelog_outcome pagelog_file_connect(struct pagelog_file *file, char *peer, size_t room) {
     file->reason = NULL;
-    enum pagelog_outcome outcome = pagelog_connect(file->log);
-    pagelog_peer(file->log, peer, room);
-    return outcome;
+    return file->source.calls->connect(file, peer, room);
 }
 
 void pagelog_file_abandon(struct pagelog_file *file) {

@@ -123,7 +123,7 @@ bool pagelog_file_is_overtaken(struct pagelog_file *file);
 void pagelog_file_set_waiting(struct pagelog_file *file, bool (*goes_on)(void *argument), void *argument);
 
 /* Opens a connection, if there is none, and writes the address that it leads to, as pagelog_connect and
- * pagelog_peer. */
+ * pagelog_peer. Of a named database, which has none for good, it does nothing, and writes nothing. */
 enum pagelog_outcome pagelog_file_connect(struct pagelog_file *file, char *peer, size_t room);
 
 /* For a child of fork(), which does not use the file: closes its descriptor, by which nothing is sent. It may
@@ -297,6 +297,13 @@ bool pagelog_file_take_note(struct pagelog_file *file, char *text, size_t room);
 
 /* Whether it is a named database's. */
 bool pagelog_file_is_named(const struct pagelog_file *file);
+
+/* Whether who opens the database from now on finds another one: it was dropped, or its service, which was
+ * restarted, has lost it. */
+bool pagelog_file_is_no_more(const struct pagelog_file *file);
+
+/* Whether who is FENCED begins again, and may write then, as of a named database. */
+bool pagelog_file_begins_again(const struct pagelog_file *file);
 
 /* Rises where what was read may be another by now, at the same LSN: so a cache of it is old. */
 uint64_t pagelog_file_history(const struct pagelog_file *file);

@@ -75,6 +75,12 @@ static enum pagelog_outcome ask_wherever(struct pagelog_file *file, enum pagelog
     return outcome;
 }
 
+static enum pagelog_outcome connect(struct pagelog_file *file, char *peer, size_t room) {
+    (void)file, (void)room;
+    *peer = 0;
+    return PAGELOG_DONE;
+}
+
 static enum pagelog_outcome open(struct pagelog_file *file) {
     uint64_t asked = pagelog_now();
     enum pagelog_outcome outcome = pagelog_move(file, PAGELOG_LOST);
@@ -309,9 +315,13 @@ static const struct pagelog_place *place(const struct pagelog_file *file) {
     return named->where != NOWHERE ? &named->place : NULL;
 }
 
+static bool is_no_more(const struct pagelog_file *file) {
+    return file->source.named->dropped != NULL;
+}
+
 static void describe(const struct pagelog_file *file, struct pagelog_file_state *state) {
     const struct named *named = file->source.named;
-    state->is_dropped = named->dropped != NULL;
+    state->is_dropped = is_no_more(file);
     state->durable = named->durable.number;
     state->committed = named->own.number;
     state->moves = named->moves;
@@ -342,6 +352,7 @@ static void end(struct pagelog_file *file) {
 }
 
 static const struct source_calls by_name = {
+    .connect = connect,
     .open = open,
     .begin = begin,
     .reserve = reserve,
@@ -356,11 +367,13 @@ static const struct source_calls by_name = {
     .settle_doubt = settle_doubt,
     .fall_back = fall_back,
     .place = place,
+    .is_no_more = is_no_more,
     .describe = describe,
     .set_waiting = pagelog_let_wait,
     .abandon = leave,
     .free = end,
     .is_gone_after_loss = true,
+    .begins_again = true,
 };
 
 bool pagelog_make_named(struct pagelog_file *file) {

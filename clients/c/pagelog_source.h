@@ -16,6 +16,9 @@ struct named;
 struct wanted;
 
 struct source_calls {
+    /* As pagelog_file_connect. */
+    enum pagelog_outcome (*connect)(struct pagelog_file *file, char *peer, size_t room);
+
     /* Connects, and takes the newest transaction, or the one of `at`. */
     enum pagelog_outcome (*open)(struct pagelog_file *file);
 
@@ -56,6 +59,7 @@ struct source_calls {
     const struct pagelog_place *(*place)(const struct pagelog_file *file);
 
     /* As the calls of pagelog_file.h, of what the source has. */
+    bool (*is_no_more)(const struct pagelog_file *file);
     void (*describe)(const struct pagelog_file *file, struct pagelog_file_state *state);
     void (*set_waiting)(struct pagelog_file *file, bool (*goes_on)(void *argument), void *argument);
     void (*abandon)(struct pagelog_file *file);
@@ -63,6 +67,9 @@ struct source_calls {
 
     /* Whether nothing of before is to be read any more after a loss: the file is GONE then, else OPEN. */
     bool is_gone_after_loss;
+
+    /* Whether who is FENCED begins again, and may write then; else it is that until it takes over. */
+    bool begins_again;
 };
 
 struct source {

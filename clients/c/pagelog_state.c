@@ -53,6 +53,14 @@ bool pagelog_file_is_named(const struct pagelog_file *file) {
     return file->source.name != NULL;
 }
 
+bool pagelog_file_is_no_more(const struct pagelog_file *file) {
+    return file->source.calls->is_no_more(file);
+}
+
+bool pagelog_file_begins_again(const struct pagelog_file *file) {
+    return file->source.calls->begins_again;
+}
+
 uint64_t pagelog_file_history(const struct pagelog_file *file) {
     return file->losses + file->given_up;
 }

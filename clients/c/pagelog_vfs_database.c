@@ -24,7 +24,7 @@ static int code_of(const struct pagelog_file *file, enum pagelog_outcome outcome
     case PAGELOG_LOST:
         return SQLITE_IOERR;
     case PAGELOG_FENCED:
-        if (pagelog_file_is_named(file)) return SQLITE_BUSY_SNAPSHOT;
+        if (pagelog_file_begins_again(file)) return SQLITE_BUSY_SNAPSHOT;
         return pagelog_file_state_of(file).is_restarted ? SQLITE_IOERR : SQLITE_READONLY;
     case PAGELOG_IN_DOUBT:
         return SQLITE_IOERR_FSYNC;
@@ -57,8 +57,7 @@ static void unlist_database(struct database *database) {
 /* Notes an outcome by its code. */
 static int note(struct database *database, int code) {
     if (code == SQLITE_IOERR_FSYNC) database->is_loss_untold = false;
-    struct pagelog_file_state state = pagelog_file_state_of(database->file);
-    if (state.is_dropped || (state.is_restarted && !database->is_named)) unlist_database(database);
+    if (pagelog_file_is_no_more(database->file)) unlist_database(database);
     pagelog_file_explain(database->file, database->error, sizeof database->error);
     pagelog_tell(code, database->shows_errors, "%s", database->error);
     return code;
@@ -95,13 +94,18 @@ static void free_database(struct database *database) {
     sqlite3_free(database);
 }
 
+/* The name that keepers know the database by; empty: it has none. */
+static const char *kept_name_of(const struct pagelog_file_options *options) {
+    return options->keepers ? options->database_name : "";
+}
+
 /* What connections must have in common to share a database, beside the service. */
 static char *key_of(const struct pagelog_file_options *options) {
     char token[2 * PAGELOG_TOKEN_BYTES + 1];
     for (size_t i = 0; i < PAGELOG_TOKEN_BYTES; i++)
         sprintf(token + 2 * i, "%02x", options->service.token[i]);
     return sqlite3_mprintf("%p %u %u %s %s", (void *)options->service.tls, options->service.database,
-                           options->service.principal, token, options->keepers ? options->database_name : "");
+                           options->service.principal, token, kept_name_of(options));
 }
 
 static void take_operator(struct database *database, const struct pagelog_file_options *options) {
@@ -119,15 +123,14 @@ static struct database *make_database(const struct pagelog_file_options *options
     database->references = 1;
     database->key = key_of(options);
     database->address = sqlite3_mprintf("%s", options->service.address);
-    database->is_named = options->keepers != NULL;
-    database->kept_name = sqlite3_mprintf("%s", database->is_named ? options->database_name : "");
-    database->is_durable_only = database->is_named && options->durable_only;
-    database->follows_holder = database->is_named && !options->durable_only && !options->at;
+    database->kept_name = sqlite3_mprintf("%s", kept_name_of(options));
+    database->is_durable_only = options->keepers && options->durable_only;
+    database->follows_holder = options->keepers && !options->durable_only && !options->at;
     database->name = sqlite3_mprintf("%s", options->name);
     database->mutex = sqlite3_mutex_alloc(SQLITE_MUTEX_FAST);
     database->file = pagelog_file_new(options);
     database->tls = options->service.tls;
-    pagelog_turn_begin(&database->turn, database->is_named ? options->database_name : "", database->tls);
+    pagelog_turn_begin(&database->turn, kept_name_of(options), database->tls);
     pagelog_turn_prove(&database->turn, options->service.principal, options->service.token);
     pthread_mutex_init(&database->turn_guard, NULL);
     take_operator(database, options);
@@ -174,7 +177,7 @@ static struct database *find_listed(const struct database *made) {
  * reader has one of its own. */
 static int share(struct database **database) {
     struct database *made = *database, *found = find_listed(made);
-    if (!found && !made->is_named) {
+    if (!found) {
         enum pagelog_outcome outcome = pagelog_file_connect(made->file, made->peer, sizeof made->peer);
         if (outcome != PAGELOG_DONE) return pagelog_result_of_begin(made, outcome);
     }
@@ -219,7 +222,7 @@ void pagelog_warn_of_full_list(struct database *database) {
     struct pagelog_file_state state = pagelog_file_state_of(database->file);
     uint64_t since = state.wire.requests - database->looked, tenth = database->entries / 10;
     bool is_due = database->looked == 0 || since > database->entries / 64, has = false;
-    if (database->is_named) return; /* its keeper sees to that */
+    if (has_keepers(database)) return; /* its keeper sees to that */
     if (!database->has_operator || !is_due || state.on_their_way > 0) return;
     database->looked = state.wire.requests;
     if (pagelog_file_has_entry(database->file, database->entries - tenth, &has) == PAGELOG_DONE && has)

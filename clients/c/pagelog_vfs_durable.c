@@ -69,9 +69,17 @@ static void ring(void *argument) {
     if (place && keepers_of(connection)) pagelog_keepers_ring(connection->keepers, place);
 }
 
+/* When a connection waits for the archive. */
+enum awaits { NEVER, AT_CLOSE, AT_COMMIT };
+
+static enum awaits awaits_of(const struct connection *connection) {
+    if (!has_keepers(connection->database) || connection->synchronous == SYNCHRONOUS_OFF) return NEVER;
+    return connection->synchronous == SYNCHRONOUS_NORMAL ? AT_CLOSE : AT_COMMIT;
+}
+
 void pagelog_ring_once_sent(struct connection *connection) {
     const struct database *database = connection->database;
-    bool rings = database->is_named && connection->synchronous >= SYNCHRONOUS_FULL;
+    bool rings = awaits_of(connection) == AT_COMMIT;
     pagelog_file_set_sent(database->file, rings ? ring : NULL, connection);
 }
 
@@ -103,14 +111,14 @@ static enum pagelog_outcome wait_for(struct connection *connection, uint64_t pos
 
 int pagelog_wait_until_durable(struct connection *connection) {
     struct database *database = connection->database;
-    if (!database->is_named || connection->synchronous < SYNCHRONOUS_FULL) return SQLITE_OK;
+    if (awaits_of(connection) != AT_COMMIT) return SQLITE_OK;
     enum pagelog_outcome outcome = wait_for(connection, pagelog_file_state_of(database->file).committed);
     return outcome == PAGELOG_LOST ? doubt(connection) : pagelog_result(database, outcome);
 }
 
 void pagelog_note_commit(struct connection *connection) {
     struct database *database = connection->database;
-    if (database->is_named && connection->synchronous == SYNCHRONOUS_NORMAL)
+    if (awaits_of(connection) == AT_CLOSE)
         connection->committed = pagelog_file_state_of(database->file).position;
 }
 

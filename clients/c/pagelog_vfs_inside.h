@@ -47,10 +47,9 @@ struct database {
     bool has_operator;           /* in whose name it is taken over */
     uint32_t operator_principal;
     uint8_t operator_token[PAGELOG_TOKEN_BYTES];
-    bool is_inherited;          /* this process is a child of the one that has opened it */
-    struct pagelog_tls *tls;    /* NULL: none */
-    bool is_named;              /* by keepers, the addresses of which are `address` then */
-    char *kept_name;            /* the name that they know it by, or NULL */
+    bool is_inherited;       /* this process is a child of the one that has opened it */
+    struct pagelog_tls *tls; /* NULL: none */
+    char *kept_name; /* its keepers, which are at `address` then, know it by that; empty: it has none */
     struct pagelog_turn turn;   /* to write, among processes */
     pthread_mutex_t turn_guard; /* of what the heartbeat's thread changes of it */
     struct database *next_heartbeat;
@@ -75,6 +74,11 @@ struct database {
     sqlite3_int64 room_bytes;
     char error[ERROR_BYTES];
 };
+
+/* Whether it has keepers: they archive it, give turns to its writers, and see to its audit list. */
+static inline bool has_keepers(const struct database *database) {
+    return *database->kept_name != 0;
+}
 
 /* What became of the last commit, or end of a rollback, since the lock was taken:
  *

@@ -61,7 +61,7 @@ static int refuse_commit(struct database *database) {
 
 static int lock_reserved(struct database *database, struct connection *connection) {
     if (database->reserved != connection && !pagelog_is_next(connection)) {
-        connection->wants_lock = database->is_named;
+        connection->wants_lock = has_keepers(database);
         return SQLITE_BUSY;
     }
     int code = pagelog_file_may_commit(database->file) ? SQLITE_OK : refuse_commit(database);

@@ -4,9 +4,9 @@
 
 #include <string.h>
 
-static const char *role_name(const struct pagelog_file_state *state) {
+static const char *role_name(const struct pagelog_file *file, const struct pagelog_file_state *state) {
     if (state->is_writer) return "writer";
-    return state->is_fenced && !state->is_named ? "fenced" : "reader";
+    return state->is_fenced && !pagelog_file_begins_again(file) ? "fenced" : "reader";
 }
 
 /* What `PRAGMA pagelog_...` reports, by its name. */
@@ -61,10 +61,10 @@ static char *text_of_pragma(struct database *database, const char *name) {
         return sqlite3_mprintf(
             "%s lsn %llu end %llu transaction %llu size %llu epoch %u writing %u commits %llu "
             "repairs %llu requests %llu round_trips %llu bytes_sent %llu bytes_received %llu",
-            role_name(&state), state.lsn, state.end, state.transaction, state.size, state.epoch,
-            state.writing_epoch, state.commits, state.repairs, state.wire.requests, state.wire.round_trips,
-            state.wire.bytes_sent, state.wire.bytes_received);
-    if (sqlite3_stricmp(name, "_role") == 0) return sqlite3_mprintf("%s", role_name(&state));
+            role_name(database->file, &state), state.lsn, state.end, state.transaction, state.size,
+            state.epoch, state.writing_epoch, state.commits, state.repairs, state.wire.requests,
+            state.wire.round_trips, state.wire.bytes_sent, state.wire.bytes_received);
+    if (sqlite3_stricmp(name, "_role") == 0) return sqlite3_mprintf("%s", role_name(database->file, &state));
     if (sqlite3_stricmp(name, "_error") == 0) return sqlite3_mprintf("%s", database->error);
     return *name == '_' && number_of(&state, name + 1, &number) ? sqlite3_mprintf("%llu", number) : NULL;
 }

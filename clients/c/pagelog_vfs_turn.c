@@ -155,11 +155,10 @@ void pagelog_give_turn(struct connection *connection) {
     struct database *database = connection->database;
     if (database->turn_of == connection) {
         struct pagelog_file_state state = pagelog_file_state_of(database->file);
-        bool has_written = database->is_named && state.is_writer;
         database->turn_of = NULL;
         pagelog_file_hand_over(database->file, 0, 0);
         pthread_mutex_lock(&database->turn_guard);
-        database->turn.written = has_written ? state.writing_epoch : 0;
+        database->turn.written = state.is_writer ? state.writing_epoch : 0;
         pagelog_turn_give(&database->turn, pagelog_file_generation(database->file));
         pthread_mutex_unlock(&database->turn_guard);
     }
@@ -313,7 +312,7 @@ int pagelog_reserve_database(struct connection *connection) {
     struct database *database = connection->database;
     enum pagelog_outcome outcome;
     uint64_t generation;
-    if (!database->is_named) return SQLITE_OK;
+    if (!has_keepers(database)) return SQLITE_OK;
     struct pagelog_file_state before = pagelog_file_state_of(database->file);
     do {
         generation = pagelog_file_generation(database->file);

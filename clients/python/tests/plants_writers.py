@@ -95,7 +95,7 @@ PLANTS = {
     "ring, none": Plant("c/pagelog_vfs_file.c", "    pagelog_ring_once_sent(connection);\n", "", "c/generations", "while_the_service_has_it"),
     "ring, after the reply": Plant("c/pagelog_mark.c", "    if (file->tell_sent && pagelog_append_unwaited(file->log, file->blocks, file->options.written))\n        file->tell_sent(file->told_sent);\n    return pagelog_append(file->log, file->blocks, file->options.written);\n",
                                    "    enum pagelog_outcome outcome = pagelog_append(file->log, file->blocks, file->options.written);\n    if (file->tell_sent) file->tell_sent(file->told_sent);\n    return outcome;\n", "c/generations", "while_the_service_has_it"),
-    "ring, of each commit": Plant("c/pagelog_vfs_durable.c", "bool rings = database->is_named && connection->synchronous >= SYNCHRONOUS_FULL;", "bool rings = database->is_named;",
+    "ring, of each commit": Plant("c/pagelog_vfs_durable.c", "bool rings = awaits_of(connection) == AT_COMMIT;", "bool rings = awaits_of(connection) != NEVER;",
                                   "c/generations", "while_the_service_has_it"),
     "tail, right behind another's": Plant("c/pagelog_settle.c", "(is_next && is_upon_lost(file))", "(is_next && false && is_upon_lost(file))", "upon", "right_before"),
 }  # fmt: skip
