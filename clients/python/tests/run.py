@@ -90,6 +90,7 @@ PARTS = {
     "test_machine": "what a keeper decides",
     "test_house": "what the source keeps to",
     "test_meanwhile": "what changes while a keeper waits for something",
+    "test_idle": "what a look at an idle database costs, and what ends that",
     "test_beginnings": "what changes while a service is filled, adopted, or follows",
     "test_turns": "whose turn it is to write",
     "test_fast_turns": "the thread that gives turns",

@@ -166,13 +166,18 @@ class Looks(unittest.IsolatedAsyncioTestCase):
         open_before = len(os.listdir("/proc/self/fd"))
         served = self.served()
         work = self.work(served)
+        assert served._quick_looker is not None
+        made = self.enterContext(
+            patch.object(served._quick_looker, "_frames", wraps=served._quick_looker._frames)
+        )
         for count in range(1, 41):
             work.see(served)
             await self.until(lambda: served.health.answers == count)  # noqa: B023
             if count == 5:
                 self.assertEqual(len(self.tasks), 1)
-        # Only where its list has as many new entries as are looked for, which are a look's own.
-        self.assertLessEqual(len(self.tasks), 2 + served.entries // FEW)
+        # Only where its list has as many new entries of others as are looked for.
+        self.assertLessEqual(len(self.tasks), 2)
+        self.assertLess(made.call_count, 20)  # only where another entry is asked for
         # Its process, and the connection of looks.
         self.assertEqual(len(os.listdir("/proc/self/fd")) - open_before, 2)
         writer, tasks = await asyncio.to_thread(self.writer, served), len(self.tasks)

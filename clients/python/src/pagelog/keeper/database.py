@@ -11,6 +11,7 @@ from pagelog.keeper.beginning import Beginning
 from pagelog.keeper.ending import Ending
 from pagelog.keeper.fates import Moves
 from pagelog.keeper.haproxy import FrontError
+from pagelog.keeper.idleness import Idleness
 from pagelog.keeper.lines import Line, of_word
 from pagelog.keeper.machine import (
     Action,
@@ -26,6 +27,7 @@ from pagelog.keeper.machine import (
     state_of,
     went_back,
 )
+from pagelog.keeper.reported import Reported
 from pagelog.keeper.run import Seen, is_there
 from pagelog.keeper.runner import RunnerError
 from pagelog.keeper.served import Access, Served, seconds
@@ -85,7 +87,10 @@ class Database:
         """The generation that this keeper ended last."""
         self.still_for = 0.0
         """For how many seconds the row and the beat have not changed."""
-        self._others: tuple[StandbyRow, ...] = ()
+        self.others: tuple[StandbyRow, ...] = ()
+        """Standbys of other keepers, that live."""
+        self.watched: Served | None = None
+        """The service whose end is noticed, and has not come."""
         self._failed_at, self._switched_at, self._confirmed = float("-inf"), 0.0, 0
         self._had = Had()
         self._seen_back_at = float("-inf")
@@ -107,6 +112,7 @@ class Database:
         self.moves = Moves()
         self.succession = Succession(self)
         self.beginning, self.standing, self.ending = Beginning(self), Standing(self), Ending(self)
+        self.idleness, self.reported = Idleness(self), Reported(self)
         if served is not None:
             self.watch(served)
 
@@ -132,18 +138,21 @@ class Database:
         if (row.generation, row.archived) < (self.row.generation, self._confirmed):
             self._seen_back_at = seconds()
         self.has_changed(row)
-        self.beat, self._others, self.is_noted, self.is_known = beat, others, is_noted, True
+        self.beat, self.others, self.is_noted, self.is_known = beat, others, is_noted, True
         self._reports, self._rose = reports, rose
         self._confirmed = row.archived
-        if self.served is not None and not is_noted:
+        if self.served is not None and self.served.is_noted and not is_noted:
             self.served.note_standby(False)  # PostgreSQL has lost that
+        now = seconds()
         self.still_for = self._still.see(
-            (row.generation, row.run, row.archived, row.wanted, beat), seconds()
+            (row.generation, row.run, row.archived, row.wanted, beat), now
         )
-        self.beginning.see(seconds())
+        self.beginning.see(now)
         if row.run == self._had.run and row.archived < self._had.reached and began > self._had.at:
             self.work.suspect()
         served, archiver = self._seen_service(), self.work.archiver
+        if self.idleness.goes_on:
+            return
         self._had = Had() if served is None else Had(served.run, served.reached, seconds())
         self._see_whether_it_went_back()
         if (
@@ -305,7 +314,7 @@ class Database:
             row=self._known_row,
             own=own,
             still=self.still_for,
-            others=self._others,
+            others=self.others,
             is_noted=self.is_noted,
             stands_by=settings.standby,
             ending=self.shared.ending,
@@ -384,7 +393,11 @@ class Database:
     @property
     def state(self) -> DatabaseState:
         """What the database is to this keeper."""
-        return state_of(self._known_row, self._own(), self.doing)
+        served = self.served
+        has_all = self.holds and self.is_known and served is not None
+        if served is None or not has_all or served.lack.went_back:
+            return state_of(self._known_row, self._own(), self.doing)
+        return state_of(self.row, Own(served.run, served.kind), self.doing)
 
     @property
     def holds(self) -> bool:
@@ -439,7 +452,7 @@ class Database:
         if self.served is None or row.wanted is None or row.paused:
             return False
         if self.holds:
-            return any(row.wanted in (standby.keeper, "*") for standby in self._others)
+            return any(row.wanted in (standby.keeper, "*") for standby in self.others)
         return self.served.kind is RunKind.STANDBY and row.wanted in (
             self.shared.settings.name,
             "*",
@@ -453,27 +466,40 @@ class Database:
             and self.row.run is not None
             and self.row.holder == self.shared.settings.name
         )
-        return self.served is None and not is_mine and (self._acting is None or self._acting.done())
+        return self.served is None and not is_mine and not self.is_at_it
 
     # Acting.
 
     def kick(self) -> None:
         """Decides, and does what is decided, unless it is at it already."""
         self._news = True
-        if self._acting is None or self._acting.done():
+        self.idleness.end()
+        if not self.is_at_it:
             self._acting = self.shared.spawn(self._act(), self.row.name)
 
     def _see_what_to_do(self) -> None:
         """As `kick`. No task is begun where nothing is to be done about what this keeper holds, as at most looks."""
-        is_at_it = self._acting is not None and not self._acting.done()
         is_quiet = self.holds and self.own.kind is RunKind.HOLDER and not self.row.paused
-        if is_quiet and not is_at_it:
+        if is_quiet and not self.is_at_it:
             decision = decide(self.facts())
             if decision.action is Action.NOTHING:
                 self._say(decision)
                 self.moves.tell()
+                if self._is_settled(self.own, self.row):
+                    self.idleness.begin()
                 return
         self.kick()
+
+    def _is_settled(self, served: Served, row: Row) -> bool:
+        """Whether a look has nothing to do about what it holds but to decide: it is noted and published as it is, and has its base."""
+        is_published = served.secure == row.secure and served.table_number <= row.table_number
+        is_noted = self._noted == Seen(served.generation, row.archived)
+        return is_published and is_noted and self.succession.is_tended
+
+    @property
+    def is_at_it(self) -> bool:
+        """Whether it decides and acts."""
+        return self._acting is not None and not self._acting.done()
 
     async def _act(self) -> None:
         goes_on = False
@@ -588,7 +614,7 @@ class Database:
             or self.doing is not Action.NOTHING
         ):
             return
-        if served.where.secure != row.secure and served.is_open:
+        if served.secure != row.secure and served.is_open:
             self.shared.spawn(self._publish_way(served), row.name)
 
     async def _publish_way(self, served: Served) -> None:
@@ -657,11 +683,14 @@ class Database:
     def watch(self, served: Served) -> None:
         """Its end is noticed at once."""
         assert served.process is not None
+        self.watched = served
         asyncio.get_running_loop().add_reader(served.process.descriptor, self._has_died, served)
 
     def _has_died(self, served: Served) -> None:
         assert served.process is not None
         asyncio.get_running_loop().remove_reader(served.process.descriptor)
+        if self.watched is served:
+            self.watched = None
         self.work.stir()
         self.kick()
 

@@ -517,26 +517,34 @@ class Keeper:
         self._by_name = {
             row.name: self.databases[row.identity] for row in self.look.rows if not row.dropped
         }
+        standbys = dict[int, list[StandbyRow]]()
+        for standby in self.look.standbys:
+            standbys.setdefault(standby.log, []).append(standby)
+        beats = {keeper.name: keeper.beat for keeper in self.look.keepers}
+        heard = [
+            keeper
+            for keeper in self.look.keepers
+            if keeper.name != self.settings.name and keeper.name in self._living
+        ]
         for row in self.look.rows:
             if (database := self.databases.get(row.identity)) is None:
                 continue
-            holder = self.look.keeper(row.holder)
-            is_noted = any(map(database.has_noted, self.look.standbys_of(row.id)))
+            of_it = standbys.get(row.id, [])
             database.see(
                 row,
-                None if holder is None else holder.beat,
-                self._others(row.id),
-                is_noted=is_noted,
+                beats.get(row.holder or ""),
+                self._others(of_it) if of_it else (),
+                is_noted=any(map(database.has_noted, of_it)),
                 began=began,
-                reports=self._reports_of(row.name),
+                reports={one.name: one.report.get(row.name, {}) for one in heard} if heard else {},
                 rose=self._rose.get(row.holder or "", float("-inf")),
             )
             self._shared.proving.see(database)
-            self._changed(row.name)
+            self._places.changed(row.name)
         for identity in self.databases.keys() - {row.identity for row in self.look.rows}:
             self.databases[identity].lose()
         self._may_have = False
-        self._turns.look(self._held)
+        self._turns.look(self._held, self._by_name)
 
     def _see_front(self) -> str | None:
         """Looks at the front, and returns where the lines are reached by TLS, as the column has it."""
@@ -580,20 +588,13 @@ class Keeper:
                 self._rose[keeper.name] = now
             self._beats[keeper.name] = keeper.beat
 
-    def _others(self, log: int) -> tuple[StandbyRow, ...]:
+    def _others(self, standbys: list[StandbyRow]) -> tuple[StandbyRow, ...]:
+        """Those of other keepers that are alive."""
         return tuple(
             standby
-            for standby in self.look.standbys_of(log)
+            for standby in standbys
             if standby.keeper != self.settings.name and standby.keeper in self._living
         )
-
-    def _reports_of(self, name: str) -> dict[str, Mapping[str, Any]]:
-        """What the other keepers that are alive have last said of a database."""
-        return {
-            keeper.name: keeper.report.get(name, {})
-            for keeper in self.look.keepers
-            if keeper.name != self.settings.name and keeper.name in self._living
-        }
 
     def _lost(self) -> list[Aside]:
         """The runs that are here and that PostgreSQL does not know, or of which it lacks something."""
@@ -613,35 +614,22 @@ class Keeper:
     def _report(self) -> str:
         """What `list` shows of the services of this keeper, measured for it and for what is decided until the next look; and what is
         decided of them, and of what nobody has."""
-        audit, limit, report = (
-            self.settings.program.audit,
-            self.settings.memory,
-            dict[str, Any](self._shared.asides.report(self._lost())),
-        )
+        audit, limit = self.settings.program.audit, self.settings.memory
+        report = dict[str, Any](self._shared.asides.report(self._lost()))
         report[NUMBERS] = {}  # as of a database: an older tool goes through them
         report[KEYS] = {"ids": self._key_ids()}
-        for each in self.databases.values():
-            if each.row.dropped or (
-                each.served is None
-                and not each.leaving
-                and each.row.holder not in (None, self.settings.name)
-            ):
-                continue
-            said: dict[str, Any] = {"state": each.state.value, "why": str(each.decision or "")}
-            report[each.row.name] = said
-            if each.leaving:
-                said["leaving"] = sorted(each.leaving)
-            if each.served is not None and each.served.process is not None:
-                said.update(run=each.served.run, back=each.back, table=each.served.table_number)
-                memory = each.served.measure()
-                said.update(
-                    entries_left=audit - each.served.entries,
-                    memory=memory >> 20,
-                    memory_left=max(0, limit - memory) >> 20 if limit else None,
-                    hard=each.served.hard,
-                    stored=self._stored(each)["stored"],
-                )
-        return json.dumps(report)
+        texts = {
+            each.row.name: each.reported.text(audit, limit, self._stored_to(each))
+            for each in self.databases.values()
+            if self._is_reported(each)
+        }
+        return f"{{{', '.join((json.dumps(report)[1:-1], *texts.values()))}}}"
+
+    def _is_reported(self, database: Database) -> bool:
+        """Whether something of it is here, or may come here."""
+        row = database.row
+        is_here = database.served is not None or len(database.leaving) > 0
+        return not row.dropped and (is_here or row.holder in (None, self.settings.name))
 
     def _key_ids(self) -> list[str]:
         """Of the keys that this keeper has."""
@@ -951,6 +939,13 @@ class Keeper:
             "list_share": served.entries / audit,
             "memory_share": served.health.held / limit if limit else None,
         }
+
+    def _stored_to(self, database: Database) -> int | None:
+        """Up to where it is in the store, as the mover has said; None where it is not held here, or there is none."""
+        if self._storing is None or not database.holds:
+            return None
+        stored: int | None = self._storing.report(database.row.name).get("stored")
+        return stored
 
     def _stored(self, database: Database) -> dict[str, float | None]:
         """Up to where it is in the store, as the mover has said, and what is wrong there; None where it is not held here. Of a mover that says

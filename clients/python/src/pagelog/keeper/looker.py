@@ -79,10 +79,10 @@ class Looker:
                 self.close()
             return not is_late
         if last is None or line is None or last.found[1].entries or not line.is_open:
-            return False  # of another entry that is not there the answer is the same
-        acts: tuple[Act, Act] = (Status(), Audit(probe, 1))
-        frames = last.frames if last.probe == probe else self._frames(acts)
-
+            return False
+        if last.probe != probe:  # of another entry that is not there the answer is the same
+            frames = self._frames((Status(), Audit(probe, 1)))
+            last = self._last = last._replace(probe=probe, frames=frames)
         expected, found = last.bodies, last.found
 
         def answered(bodies: list[bytes]) -> None:
@@ -91,7 +91,7 @@ class Looker:
                 told(found if bodies == expected else None)
 
         self._asked_again = time.monotonic()
-        line.ask_then(frames, len(expected), answered)
+        line.ask_then(last.frames, len(expected), answered)
         return True
 
     def close(self) -> None:

@@ -36,7 +36,11 @@ from pagelog.request import AUDIT_MAX, Act, Audit, Head, Pull, Request, Role, St
 from pagelog.run_tokens import KEEPER
 
 FEW = 16
-"""So many entries of an audit list a look may not have seen yet. Its own questions alone are two."""
+"""So many entries of an audit list a look may not have seen yet."""
+_OWN = 2
+"""Those that a look adds: each of its questions is one."""
+_ROOM = 3 * _OWN
+"""Those that are there uncounted at most, where a look has found more and asked again."""
 PULLS = 64
 """Pulls of one batch: 1,024 blocks at most, 32 MiB."""
 
@@ -137,7 +141,8 @@ class Served:
         self._front = front
         self.timeout = timeout
         """Seconds for which an answer is waited for."""
-        self._entries, self._step = 0, FEW
+        self._entries, self._step, self._own = 0, FEW, 0
+        """So many entries there are, and those that looks have added since; and where the next look asks for one, behind them."""
         self._ahead: tuple[int, bytes] | None = None
         """How far it was loaded, and the digest of that, where it is loaded, or the archive went away meanwhile."""
         self._has_part = False
@@ -159,10 +164,10 @@ class Served:
     def where(self) -> Where:
         """Where clients find it, and what is there."""
         assert self.process is not None
-        return Where(self.process.address, self.shift, self.images, self.chain, self._secure)
+        return Where(self.process.address, self.shift, self.images, self.chain, self.secure)
 
     @property
-    def _secure(self) -> str | None:
+    def secure(self) -> str | None:
         """The way to it by TLS, as the column has it."""
         if self._front is None:
             return None
@@ -579,10 +584,13 @@ class Served:
         self.log.hard = state.hard + self.shift
         has_more = bool(entries.entries)
         if has_more:
-            self._entries = self._probe
+            self._entries, self._own = self._probe, 0
         else:
             self.health.answers += 1
+            self._own += _OWN
         self._step = 2 * self._step if has_more else max(FEW, self._step // 2)
+        if self._own + _ROOM >= self._step:  # what looks alone have added no look has to find
+            self._entries, self._own = self._entries + self._own, 0
         return has_more
 
     def stop_looks(self) -> None:

@@ -70,15 +70,26 @@ class Succession:
 
     def tend(self) -> None:
         """Makes a base where there are many blocks after the last one: each takeover has to load them."""
-        store = self._shared.settings.store
-        served, few = self._database.own, self._few(MANY * (1 if store is None else store.bases))
+        if self._stage is Stage.NONE and self._lacks_base and not self._is_basing:
+            served, name = self._database.own, self._database.row.name
+            self._basing = self._shared.spawn(self._tended(served), name)
+
+    @property
+    def is_tended(self) -> bool:
+        """Whether a base is neither made nor wanted."""
+        return not self._is_basing and not self._lacks_base
+
+    @property
+    def _is_basing(self) -> bool:
+        return self._basing is not None and not self._basing.done()
+
+    @property
+    def _lacks_base(self) -> bool:
+        """Whether there are many blocks after the last one, or after those of which one was tried."""
+        store, served = self._shared.settings.store, self._database.own
+        few = self._few(MANY * (1 if store is None else store.bases))
         many = max(few, few // MANY * 2 * self._pages)
-        if (
-            self._stage is Stage.NONE
-            and served.reached - max(self.base, served.images, self._tried) >= many
-            and (self._basing is None or self._basing.done())
-        ):
-            self._basing = self._shared.spawn(self._tended(served), self._database.row.name)
+        return served.reached - max(self.base, served.images, self._tried) >= many
 
     async def _tended(self, served: Served) -> None:
         try:

@@ -30,7 +30,7 @@ from __future__ import annotations
 import asyncio
 import time
 from collections import deque
-from typing import TYPE_CHECKING, Callable
+from typing import TYPE_CHECKING, Callable, Iterable
 
 from pagelog.keeper.lines import Key, Line
 
@@ -380,9 +380,9 @@ class AllTurns:
         if turns is not None:
             turns.expect()
 
-    def look(self, generation_of: Callable[[str], int | None]) -> None:
-        """Ends the turns of generations that are over."""
-        for name in list(self._turns):
+    def look(self, generation_of: Callable[[str], int | None], names: Iterable[str] = ()) -> None:
+        """Ends the turns of generations that are over, and begins those of what has these names."""
+        for name in {*self._turns, *names}:
             self.changed(name, generation_of(name))
 
     def __contains__(self, line: Line) -> bool:
