@@ -12,6 +12,7 @@ from unittest.mock import AsyncMock, Mock, patch
 
 from pagelog.keeper import database as database_module
 from pagelog.keeper.machine import Facts, Own, Rival, RunKind, Stage, decide, state_of
+from pagelog.keeper.reported import Reported
 from pagelog.keeper.run import Run
 from pagelog.keeper.served import FEW, Access, Served
 from pagelog.keeper.shared import Shared
@@ -75,6 +76,7 @@ class Idle(Meanwhile):
     async def asyncSetUp(self) -> None:
         await super().asyncSetUp()
         self.asked: Any = Asked()
+        self.reported = Reported()
         self.served = Served("shop", "mine", "", b"", timeout=PATIENCE)
         self.served.hold(3)
         self.served.reach(5, ROW.chain)
@@ -90,7 +92,7 @@ class Idle(Meanwhile):
 
     def look(self, row: Row = ROW, **what: Any) -> None:
         """A report, and what PostgreSQL has shown then."""
-        self.database.reported.text(AUDIT, MEMORY, None)
+        self.reported.text(self.database, AUDIT, MEMORY, None)
         self.see(replace(row), **what)
 
     @property
@@ -124,7 +126,7 @@ class Idle(Meanwhile):
 
     async def test_its_report_says_what_has_changed(self) -> None:
         self.look()
-        before = json.loads(f"{{{self.database.reported.text(AUDIT, MEMORY, None)}}}")["shop"]
+        before = json.loads(f"{{{self.reported.text(self.database, AUDIT, MEMORY, None)}}}")["shop"]
         assert self.served.process is not None
         self.assertEqual(before["why"], "serves")
         for name, value, change in (
@@ -134,7 +136,9 @@ class Idle(Meanwhile):
             ("back", 9, lambda: self.served.be_only_copy(True, 1.0)),
         ):
             change()  # type: ignore[no-untyped-call]
-            said = json.loads(f"{{{self.database.reported.text(AUDIT, MEMORY, None)}}}")["shop"]
+            said = json.loads(f"{{{self.reported.text(self.database, AUDIT, MEMORY, None)}}}")[
+                "shop"
+            ]
             self.assertEqual(said[name], value, name)
             self.assertNotEqual(said, before, name)
 

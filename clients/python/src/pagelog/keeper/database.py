@@ -27,7 +27,6 @@ from pagelog.keeper.machine import (
     state_of,
     went_back,
 )
-from pagelog.keeper.reported import Reported
 from pagelog.keeper.run import Seen, is_there
 from pagelog.keeper.runner import RunnerError
 from pagelog.keeper.served import Access, Served, seconds
@@ -112,7 +111,7 @@ class Database:
         self.moves = Moves()
         self.succession = Succession(self)
         self.beginning, self.standing, self.ending = Beginning(self), Standing(self), Ending(self)
-        self.idleness, self.reported = Idleness(self), Reported(self)
+        self.idleness = Idleness(self)
         if served is not None:
             self.watch(served)
 

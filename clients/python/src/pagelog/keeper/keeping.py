@@ -8,6 +8,7 @@ import json
 import logging
 import secrets
 import signal
+from collections import defaultdict
 from concurrent.futures import ThreadPoolExecutor
 from contextlib import suppress
 from dataclasses import replace
@@ -32,6 +33,7 @@ from pagelog.keeper.page_servers import LivingPages
 from pagelog.keeper.places import Places
 from pagelog.keeper.quick import QuickReferee
 from pagelog.keeper.quota import Quota
+from pagelog.keeper.reported import Reported
 from pagelog.keeper.run import Run, Seen, has_services, orphans_of
 from pagelog.keeper.runner import RunnerError
 from pagelog.keeper.served import Served, seconds
@@ -74,6 +76,8 @@ class Keeper:
         self.life = secrets.token_hex(8)
         self.databases: dict[str, Database] = {}
         """By their identities: a PostgreSQL that went back gives the number of a row again."""
+        self._reported = defaultdict[str, Reported](Reported)
+        """What is said of each of them."""
         self._by_name: dict[str, Database] = {}
         """Those that the last look has shown, and that were not dropped."""
         self.look = Look()
@@ -619,8 +623,8 @@ class Keeper:
         report[NUMBERS] = {}  # as of a database: an older tool goes through them
         report[KEYS] = {"ids": self._key_ids()}
         texts = {
-            each.row.name: each.reported.text(audit, limit, self._stored_to(each))
-            for each in self.databases.values()
+            each.row.name: self._reported[key].text(each, audit, limit, self._stored_to(each))
+            for key, each in self.databases.items()
             if self._is_reported(each)
         }
         return f"{{{', '.join((json.dumps(report)[1:-1], *texts.values()))}}}"

@@ -41,16 +41,15 @@ class ReportedDatabase(NamedTuple):
 class Reported:
     """Of one database."""
 
-    def __init__(self, database: Database) -> None:
-        self._database = database
+    def __init__(self) -> None:
         self._said: tuple[Any, ...] = ()
         self._text = ""
 
-    def text(self, audit: int, limit: int, stored: int | None) -> str:
+    def text(self, database: Database, audit: int, limit: int, stored: int | None) -> str:
         """What is said now of it, as a member of an object of JSON. Its memory is measured for that, and for what is decided until the next
         look. `audit` and `limit` are a service's, and `stored` is up to where it is in the store.
         """
-        database, served = self._database, self._database.served
+        served = database.served
         said: tuple[Any, ...] = (
             database.row.name,
             database.state,
