@@ -913,7 +913,7 @@ end:
 // pagelog_durable.c: pagelog_glance
                     // ..
                     // if (place.generation > named->place.generation)
-                    // return was_suspect && has_lost_run(file, &place) ? PAGELOG_DONE : pagelog_move_on(file);
+                    // return was_suspect && has_lost_run(file, place.lines, &fate) ? PAGELOG_DONE : pagelog_move_on(file);
                     // if (strcmp(place.run, named->place.run) != 0) return leave_if_lost(file);
                     // note_durable(file, place.archived);
                     // return file->options.durable_only && !file->options.at ? hurry(file) : PAGELOG_DONE;
