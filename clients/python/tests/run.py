@@ -26,6 +26,7 @@ PATIENCE = (
 PARTS = {
     "test_bytes": "blocks, requests and replies against the trial and the pages",
     "test_replies": "every reply, rule and fault of the service",
+    "test_service_protocol": "the service's protocol without IO, and its drivers",
     "test_connection": "connections that are cut, silent or refused",
     "test_trust": "TLS: who is refused, and peers that do as they like",
     "test_bounds": "peers that are no service, threads and forks",

@@ -13,7 +13,6 @@ from service import TOP, token
 
 from pagelog import faults
 from pagelog.block import Block, Put, Zero
-from pagelog.connection import Connection, _Waiting
 from pagelog.errors import Fault
 from pagelog.reply import (
     AuditFull,
@@ -54,6 +53,7 @@ from pagelog.request import (
     decode_request,
 )
 from pagelog.rules import Section
+from pagelog.service_protocol import ServiceProtocol, framed
 
 sys.path.insert(0, str(TOP / "scripts"))
 import trial  # noqa: E402
@@ -194,16 +194,17 @@ class Formats(unittest.TestCase):
             self.fail(f"a line of kind {kind}")
 
     def check_frame(self, data: bytes, body: bytes, kind: str) -> None:
-        """A connection takes the body out of the frame, however its bytes come, and puts a request's body into one."""
+        """The protocol takes the body out of the frame, however its bytes come, and puts a request's body into one."""
         for cut in range(len(data) + 1):
-            connection = Connection("127.0.0.1:1")
-            connection._in += data[:cut]
-            self.assertEqual(connection._take_frame(), body if cut == len(data) else None)
+            protocol = ServiceProtocol()
+            protocol.ask(b"")
+            protocol.receive(data[:cut])
+            self.assertEqual(protocol.body(), body if cut == len(data) else None)
             if cut < len(data):
-                connection._in += data[cut:]
-                self.assertEqual(connection._take_frame(), body)
+                protocol.receive(data[cut:])
+                self.assertEqual(protocol.body(), body)
         if kind == "request":
-            self.assertEqual(_Waiting(decode_request(body)).frame, data)
+            self.assertEqual(framed(decode_request(body).encode()), data)
 
 
 class Replies(unittest.TestCase):
@@ -452,10 +453,11 @@ class Requests(unittest.TestCase):
         self.assertIn("annotations", str(raised.exception))
 
     def test_a_frame_that_is_too_long_is_refused(self) -> None:
-        connection = Connection("127.0.0.1:1")
-        connection._in += b"\x00\x10\x00\x01"
+        protocol = ServiceProtocol()
+        protocol.ask(b"")
+        protocol.receive(b"\x00\x10\x00\x01")
         with self.assertRaises(faults.FrameFault):
-            connection._take_frame()
+            protocol.body()
 
 
 if __name__ == "__main__":

@@ -205,13 +205,15 @@ class Interrupted(unittest.TestCase):
             def request() -> Request:
                 return Request(SECONDARY, Get(0, next(lsns)))
 
-            at = 0
-            while interrupted(lambda: calls(connection, request), "connection.py", at := at + 1):
-                asked = request()
-                reply = connection.ask(asked)
-                assert isinstance(asked.act, Get) and isinstance(reply, Page)
-                self.assertEqual((at, int.from_bytes(reply.data[:8], "big")), (at, asked.act.lsn))
-            self.assertGreater(at, 10)
+            for file in ("connection.py", "service_protocol.py"):
+                at = 0
+                while interrupted(lambda: calls(connection, request), file, at := at + 1):
+                    asked = request()
+                    reply = connection.ask(asked)
+                    assert isinstance(asked.act, Get) and isinstance(reply, Page)
+                    found = int.from_bytes(reply.data[:8], "big")
+                    self.assertEqual((file, at, found), (file, at, asked.act.lsn))
+                self.assertGreater(at, 10)
 
     def test_one_that_asks(self) -> None:
         self.interrupt_anywhere(lambda connection, request: connection.ask(request()))

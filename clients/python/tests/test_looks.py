@@ -21,7 +21,9 @@ from pagelog.keeper.run import Program, Run
 from pagelog.keeper.served import FEW, Served
 from pagelog.keeper.session import Session
 from pagelog.keeper.table import keeper_of
+from pagelog.reply import Entries, State, encode_reply
 from pagelog.run_tokens import token_of
+from pagelog.service_protocol import framed
 from pagelog.keeper.waits import Waits
 from pagelog.keeper.work import Work
 from service import PATIENCE, PROGRAM, WIDE_TABLE, accept_each, silent_address, stand_still, token
@@ -131,7 +133,17 @@ class Looks(unittest.IsolatedAsyncioTestCase):
         self.assertFalse(await served.looked_at_once())
 
     async def test_what_is_no_answer_is_left_to_a_thread(self) -> None:
-        for reply in (b"", b"\0\0\0\1", b"\0\0\0\1\xff\0\0\0\1\xff", b"\xff" * 9, b"\0\0\0\0" * 3):
+        answer_and_more = (
+            framed(encode_reply(State(1, 2, 3, 4, 5))) + framed(encode_reply(Entries(()))) + b"\0"
+        )
+        for reply in (
+            b"",
+            b"\0\0\0\1",
+            b"\0\0\0\1\xff\0\0\0\1\xff",
+            b"\xff" * 9,
+            b"\0\0\0\0" * 3,
+            answer_and_more,
+        ):
             listener = self.listener()
 
             def answer(client: socket.socket, reply: bytes = reply) -> None:

@@ -17,14 +17,12 @@ from typing import Callable, Generator, Iterable, NamedTuple
 
 from pagelog.dialing import dial
 from pagelog.errors import ConnectionLost, InDoubt, PagelogError, TimedOut, Unreachable
-from pagelog.faults import FrameFault
 from pagelog.repeating import Backoff
 from pagelog.reply import Reply, decode_reply
 from pagelog.request import Request
 from pagelog.secure import Trust
+from pagelog.service_protocol import ServiceProtocol, framed
 
-REPLY_SIZE = 1 << 20
-"""The most bytes of a reply's body."""
 _RECEIVE_SIZE = 1 << 18
 _logger = logging.getLogger("pagelog")
 
@@ -61,9 +59,8 @@ class _Waiting:
     __slots__ = ("request", "frame", "sent")
 
     def __init__(self, request: Request) -> None:
-        body = request.encode()
         self.request = request
-        self.frame = len(body).to_bytes(4, "big") + body
+        self.frame = framed(request.encode())
         self.sent = 0
 
 
@@ -109,15 +106,13 @@ class Connection:
         """Called where all requests are on their way, before their replies are waited for. It raises nothing."""
         self._socket: socket.socket | None = None
         self._poll = select.poll()
-        self._out = bytearray()
-        self._in = bytearray()
+        self._protocol = ServiceProtocol()
         self._failures, self._waits = 0, Backoff(pause, 1.0)
         self._in_use = False
         self._thread = 0
         self._is_closed_by_other = False
         self._process = os.getpid()
         self._waiting: deque[_Waiting] = deque()
-        self._in_flight = 0
         self._most = 64
 
     def __enter__(self) -> Connection:
@@ -142,11 +137,10 @@ class Connection:
             self._is_closed_by_other = True
             self._wake()
             return
-        left, self._socket, self._in_flight = self._socket, None, 0
+        left, self._socket = self._socket, None
         if left is not None:
             left.close()
-        self._out.clear()
-        self._in.clear()
+        self._protocol = ServiceProtocol()
 
     def _wake(self) -> None:
         """Ends the wait of the thread that uses the socket."""
@@ -210,7 +204,7 @@ class Connection:
 
     def _leave_replies(self) -> None:
         """Closes a connection over which a reply may come that nobody waits for any more."""
-        if self._waiting or self._in_flight or self._out or self._in:
+        if self._waiting or not self._protocol.is_settled:
             self._waiting.clear()
             self.close()
 
@@ -242,18 +236,16 @@ class Connection:
             else:
                 if self._failures:
                     self._count_again()
-                self._in_flight -= 1
                 self._most = min(in_flight, self._most * 2)
                 return reply
 
     def _send_waiting(self) -> None:
         """Puts as many of those that wait on their way as may be in flight."""
-        upto = min(self._most, len(self._waiting))
-        if self._in_flight < upto:
-            for asked in islice(self._waiting, self._in_flight, upto):
+        upto, protocol = min(self._most, len(self._waiting)), self._protocol
+        if protocol.awaited < upto:
+            for asked in islice(self._waiting, protocol.awaited, upto):
                 asked.sent += 1
-                self._out += asked.frame
-            self._in_flight = upto
+                protocol.ask(asked.frame)
 
     def _end_in_doubt(self, error: PagelogError) -> None:
         for asked in self._waiting:
@@ -310,7 +302,7 @@ class Connection:
         """The body of the next frame. What is to be sent is sent meanwhile, so that neither side waits for the other."""
         deadline = time.monotonic() + self.reply_timeout
         while True:
-            body = self._take_frame()
+            body = self._protocol.body()
             if body is not None:
                 return body
             left = deadline - time.monotonic()
@@ -318,30 +310,20 @@ class Connection:
                 raise TimedOut(f"{self.address}: no whole reply came in {self.reply_timeout} s")
             self._move(left)
 
-    def _take_frame(self) -> bytes | None:
-        if len(self._in) < 4:
-            return None
-        length = int.from_bytes(self._in[:4], "big")
-        if length > REPLY_SIZE:
-            raise FrameFault(length)
-        if len(self._in) < 4 + length:
-            return None
-        body = bytes(self._in[4 : 4 + length])
-        del self._in[: 4 + length]
-        return body
-
     def _move(self, left: float) -> None:
         """Waits until bytes can go or have come, for as long as there is left, and moves them. Raises `TimedOut` or `ConnectionLost`."""
         assert self._socket is not None
         try:
             self._send()
-            self._poll.register(self._socket, select.POLLIN | (select.POLLOUT if self._out else 0))
+            self._poll.register(
+                self._socket, select.POLLIN | (select.POLLOUT if self._protocol.unsent else 0)
+            )
             ready = self._poll.poll(1000 * min(self.timeout, left))
             if ready and ready[0][1] & ~select.POLLOUT:
                 data = self._socket.recv(_RECEIVE_SIZE)
                 if not data:
                     raise ConnectionLost(f"{self.address}: the service ended the connection")
-                self._in += data
+                self._protocol.receive(data)
         except (BlockingIOError, InterruptedError):
             return
         except OSError as error:
@@ -351,8 +333,9 @@ class Connection:
 
     def _send(self) -> None:
         """Sends as much as goes at once of what is to be sent."""
-        if self._out and self._socket is not None:
+        unsent = self._protocol.unsent
+        if unsent and self._socket is not None:
             with suppress(BlockingIOError):
-                del self._out[: self._socket.send(self._out)]
-            if not self._out and self.when_sent is not None:
+                del unsent[: self._socket.send(unsent)]
+            if not unsent and self.when_sent is not None:
                 self.when_sent()

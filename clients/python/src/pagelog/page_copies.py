@@ -166,7 +166,6 @@ class _Round:
         try:
             line.open()
         except (OSError, UnicodeError):
-            line.close()
             _leave_out(line)
             return False
         line.ask(self._question.acts(line))
@@ -206,7 +205,6 @@ class _Round:
         elif verdict is CopyVerdict.BEHIND:
             _pass_over(line, *_BEHIND)
         elif verdict is CopyVerdict.WRONG:
-            line.close()
             _leave_out(line)
         return verdict is CopyVerdict.RIGHT
 
@@ -225,6 +223,7 @@ def _pass_over(line: PageLine, least: float, most: float) -> None:
 
 
 def _leave_out(line: PageLine) -> None:
+    line.close()
     line.leave()
     _pass_over(line, *_LEFT_OUT)
 

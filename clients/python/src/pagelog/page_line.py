@@ -12,11 +12,11 @@ from typing import Any, Sequence
 from pagelog.block import BLOCK_SIZE, PAGE_SIZE
 from pagelog.connection import Address
 from pagelog.credentials import Credentials
-from pagelog.errors import PagelogError
 from pagelog.place import PageServerPlace
 from pagelog.reply import Reply, decode_reply
 from pagelog.request import Act, Head, Request, Role, Status
 from pagelog.secure import Secured, Trust
+from pagelog.service_protocol import ServiceProtocol, framed
 
 _RECEIVE_SIZE = 65536
 _MEASURED = 10.0
@@ -51,10 +51,9 @@ class PageLine:
         self._tried = 0
         self._is_connecting = False
         self._shaking = 0
-        self._out, self._in = bytearray(), bytearray()
-        self._wanted = 0
+        self._protocol = ServiceProtocol(_LONGEST)
         self._replies: list[Reply] = []
-        self._began, self._was_open = 0.0, False
+        self._began, self._is_timed = 0.0, False
 
     def usual_of_late(self, now: float) -> float:
         """As `usual`, which is not known any more of one that was not asked for a while."""
@@ -63,7 +62,7 @@ class PageLine:
     @property
     def is_asked(self) -> bool:
         """Whether replies are awaited."""
-        return self._wanted > 0
+        return self._protocol.awaited > 0
 
     @property
     def is_heard(self) -> bool:
@@ -73,24 +72,22 @@ class PageLine:
     @property
     def replies(self) -> Sequence[Reply] | None:
         """The replies to the status and what was asked besides; None where some have not come."""
-        return self._replies if len(self._replies) == self._wanted else None
+        return None if self.is_asked else self._replies
 
     def open(self) -> None:
         """Begins to connect, where it is not connected or was left. Raises `OSError`."""
         if self._socket is not None and self._has_ended():
             self.close()
-        self._was_open = self._socket is not None
+        self._is_timed = self._socket is not None
         if self._socket is None:
             self.proved = 0
             self._connect()
 
     def ask(self, acts: Sequence[Act]) -> None:
         """Asks for the status, and this, of one that is open."""
-        self._out.clear()
         for act in (Status(), *acts):
-            body = Request(self._head, act).encode()
-            self._out += len(body).to_bytes(4, "big") + body
-        self._replies, self._wanted = [], 1 + len(acts)
+            self._protocol.ask(framed(Request(self._head, act).encode()))
+        self._replies = []
         now = time.monotonic()
         self.usual, self._began = self.usual_of_late(now), now
 
@@ -104,7 +101,7 @@ class PageLine:
         """What is waited for of its socket."""
         if self._shaking:
             return self._shaking
-        return select.POLLOUT if self._is_connecting or self._out else select.POLLIN
+        return select.POLLOUT if self._is_connecting or self._protocol.unsent else select.POLLIN
 
     def go_on(self) -> None:
         """Sends and reads what goes at once, of one that is ready. Raises `OSError`, or a `Fault` for what is no reply."""
@@ -117,8 +114,8 @@ class PageLine:
         if self._shaking:
             return
         try:
-            if self._out:
-                del self._out[: self._socket.send(self._out)]
+            if unsent := self._protocol.unsent:
+                del unsent[: self._socket.send(unsent)]
             else:
                 self._take(self._socket.recv(_RECEIVE_SIZE))
         except (BlockingIOError, InterruptedError):
@@ -128,14 +125,13 @@ class PageLine:
         """Nothing is awaited any more. The connection stays only where all has come."""
         if self.replies is None:
             self.close()
-        self._wanted, self.asked = 0, None
-        self._replies = []
+        self.asked, self._replies = None, []
 
     def close(self) -> None:
         """Closes the connection."""
         left, self._socket = self._socket, None
         self._is_connecting, self._shaking = False, 0
-        self._in.clear()
+        self._protocol = ServiceProtocol(_LONGEST)
         if left is not None:
             left.close()
 
@@ -145,7 +141,7 @@ class PageLine:
         try:
             self._socket.recv(1)
         except (BlockingIOError, InterruptedError):
-            return bool(self._in)
+            return not self._protocol.is_settled
         except OSError:
             pass
         return True
@@ -174,17 +170,9 @@ class PageLine:
     def _take(self, data: bytes) -> None:
         if not data:
             raise ConnectionError("the page server ended the connection")
-        if self._was_open and not self._in and not self._replies:
+        if self._is_timed:
+            self._is_timed = False
             took = time.monotonic() - self._began
             self.usual = (3 * self.usual + took) / 4 if self.usual else took
-        self._in += data
-        at = 0
-        while len(self._in) - at >= 4:
-            length = int.from_bytes(self._in[at : at + 4], "big")
-            if length > _LONGEST or len(self._replies) == self._wanted:
-                raise PagelogError(f"{self.place.address}: nobody has asked for that")
-            if len(self._in) - at < 4 + length:
-                break
-            self._replies.append(decode_reply(bytes(self._in[at + 4 : at + 4 + length])))
-            at += 4 + length
-        del self._in[:at]
+        self._protocol.receive(data)
+        self._replies.extend(map(decode_reply, self._protocol.bodies()))

@@ -11,12 +11,14 @@ from pagelog.dialing import dial
 from pagelog.errors import ConnectionLost, PagelogError, TimedOut, UnexpectedReply, Unreachable
 from pagelog.reply import decode_reply, refusal_of
 from pagelog.request import QUORUM, Head, Operation, Role
+from pagelog.service_protocol import ServiceProtocol, frame_head, framed
 
 GROUP = 64
 """Blocks with one report after them: the window."""
 EPOCH = 1
 """A service that is being filled is in its first epoch."""
-_DONE = b"\0\0\0\1\0"
+_DONE = b"\0"
+"""A reply."""
 _MOST_UNSENT = 1 << 20
 
 
@@ -30,9 +32,7 @@ class Loader:
         self._prefix = Head(credentials.id, credentials.token, Role.PRIMARY, 0, EPOCH).prefix
         self._copies = range(quorum)
         self._timeout = timeout
-        self._unsent = bytearray()
-        self._replies = bytearray()
-        self._owed = 0
+        self._protocol = ServiceProtocol()
         place = Address.parse(address)
         try:
             self._socket = dial(place.host, place.port, timeout)
@@ -69,7 +69,7 @@ class Loader:
             raise
 
     def _settle(self) -> None:
-        while self._owed:
+        while self._protocol.awaited:
             self._move(0)
 
     def _add(self, group: Sequence[bytes], last: int) -> None:
@@ -79,23 +79,23 @@ class Loader:
             part
             for block in group
             for head in heads
-            for part in ((size + len(block)).to_bytes(4, "big"), head, block)
+            for part in (frame_head(size + len(block)), head, block)
         ]
         report = self._prefix + bytes((Operation.REPORT,)) + last.to_bytes(8, "big")
-        self._unsent += b"".join((*parts, len(report).to_bytes(4, "big"), report))
-        self._owed += len(group) * len(heads) + 1
+        self._protocol.ask(b"".join((*parts, framed(report))), len(group) * len(heads) + 1)
 
     def _move(self, most: int) -> None:
         """Sends and receives until at most so many bytes are unsent; with 0 until something has come, too."""
-        while len(self._unsent) > most or (most == 0 and self._owed):
+        unsent = self._protocol.unsent
+        while len(unsent) > most or (most == 0 and self._protocol.awaited):
             poll = select.poll()
-            poll.register(self._socket, select.POLLIN | (select.POLLOUT if self._unsent else 0))
+            poll.register(self._socket, select.POLLIN | (select.POLLOUT if unsent else 0))
             ready = poll.poll(self._timeout * 1000)
             if not ready:
                 raise TimedOut(f"nothing came in {self._timeout} s")
             try:
-                if self._unsent:
-                    del self._unsent[: self._socket.send(self._unsent)]
+                if unsent:
+                    del unsent[: self._socket.send(unsent)]
                 if ready[0][1] & ~select.POLLOUT:
                     self._take(self._socket.recv(1 << 18))
             except BlockingIOError:
@@ -106,17 +106,9 @@ class Loader:
     def _take(self, data: bytes) -> None:
         if not data:
             raise ConnectionLost("the service ended the connection")
-        self._replies += data
-        count = len(self._replies) // len(_DONE)
-        if self._replies[: count * len(_DONE)] != _DONE * count:
-            self._raise_first()
-        del self._replies[: count * len(_DONE)]
-        self._owed -= count
-
-    def _raise_first(self) -> None:
-        """Raises the first reply that is not Done."""
-        while self._replies.startswith(_DONE):
-            del self._replies[: len(_DONE)]
-        length = int.from_bytes(self._replies[:4], "big")
-        refusal = refusal_of(decode_reply(bytes(self._replies[4 : 4 + length])))
-        raise refusal or UnexpectedReply("a reply to a write that is not Done")
+        self._protocol.receive(data)
+        self._protocol.pass_over(framed(_DONE))
+        for body in self._protocol.bodies():
+            if body != _DONE:
+                refusal = refusal_of(decode_reply(body))
+                raise refusal or UnexpectedReply("a reply to a write that is not Done")

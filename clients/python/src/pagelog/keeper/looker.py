@@ -7,12 +7,13 @@ import time
 from typing import Callable, NamedTuple, Sequence
 
 from pagelog.client import FIRST_EPOCH, reported_epoch
-from pagelog.connection import REPLY_SIZE, Address
+from pagelog.connection import Address
 from pagelog.credentials import Credentials
-from pagelog.errors import Fault, TimedOut
+from pagelog.errors import Fault, PagelogError, TimedOut
 from pagelog.matching import mismatch
 from pagelog.reply import Entries, Reply, State, decode_reply
 from pagelog.request import Act, Audit, Head, Request, Role, Status
+from pagelog.service_protocol import ServiceProtocol, framed
 
 _SILENT = 0.25
 """Seconds after which the next address of a host is tried beside one that is silent."""
@@ -126,8 +127,7 @@ class Looker:
 
     def _frames(self, acts: Sequence[Act]) -> bytes:
         head = Head(self._credentials.id, self._credentials.token, Role.OPERATOR, 0, self._epoch)
-        bodies = [Request(head, act).encode() for act in acts]
-        return b"".join(len(body).to_bytes(4, "big") + body for body in bodies)
+        return b"".join(framed(Request(head, act).encode()) for act in acts)
 
 
 class _LookerLine(asyncio.Protocol):
@@ -135,10 +135,9 @@ class _LookerLine(asyncio.Protocol):
 
     def __init__(self) -> None:
         self._transport: asyncio.Transport | None = None
-        self._in = bytearray()
+        self._protocol = ServiceProtocol()
         self.bodies: list[bytes] = []
         """Those of the last replies."""
-        self._wanted = 0
         self._answered: Callable[[list[bytes]], None] | None = None
 
     @property
@@ -161,8 +160,9 @@ class _LookerLine(asyncio.Protocol):
     def ask_then(self, frames: bytes, count: int, answered: Callable[[list[bytes]], None]) -> None:
         """Calls this once with the bodies of so many replies, or with fewer where the connection ends before."""
         assert self._transport is not None
-        self.bodies, self._wanted, self._answered = [], count, answered
-        self._transport.write(frames)
+        self.bodies, self._answered = [], answered
+        self._protocol.ask(frames, count)
+        self._transport.write(self._protocol.taken())
 
     def close(self) -> None:
         """Ends it."""
@@ -181,17 +181,14 @@ class _LookerLine(asyncio.Protocol):
 
     def data_received(self, data: bytes) -> None:
         """Called by the loop. What nobody has asked for ends it."""
-        self._in += data
-        while len(self._in) >= 4 and len(self._in) >= (
-            end := 4 + int.from_bytes(self._in[:4], "big")
-        ):
-            self.bodies.append(bytes(self._in[4:end]))
-            del self._in[:end]
-        is_asked = self._answered is not None
-        if not is_asked or len(self.bodies) > self._wanted or len(self._in) > REPLY_SIZE:
+        self._protocol.receive(data)
+        try:
+            self.bodies.extend(self._protocol.bodies())
+        except PagelogError:
             self.close()
-        elif len(self.bodies) == self._wanted:
-            self._say(self.bodies)
+        else:
+            if not self._protocol.awaited:
+                self._say(self.bodies)
 
     def _say(self, bodies: list[bytes]) -> None:
         answered, self._answered = self._answered, None

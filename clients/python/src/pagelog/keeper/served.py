@@ -34,6 +34,7 @@ from pagelog.referee.ways import NOWHERE, Way
 from pagelog.reply import Entries, State, expect
 from pagelog.request import AUDIT_MAX, Act, Audit, Head, Pull, Request, Role, Status
 from pagelog.run_tokens import KEEPER
+from pagelog.service_protocol import framed
 
 FEW = 16
 """So many entries of an audit list a look may not have seen yet."""
@@ -641,7 +642,7 @@ class Served:
             ).encode()
             for role, act in asked
         )
-        return _framed(pull), _framed(audit)
+        return framed(pull), framed(audit)
 
     def ask_for_more(self) -> None:
         """Asks for the next blocks, and leaves them: what stands against that is raised, or known then."""
@@ -720,10 +721,6 @@ async def _connected(address: Address, timeout: float) -> socket.socket:
                 made.close()
                 raise
     raise error
-
-
-def _framed(body: bytes) -> bytes:
-    return len(body).to_bytes(4, "big") + body
 
 
 def seconds() -> float:
