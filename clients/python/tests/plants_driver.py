@@ -2,10 +2,15 @@
 
 from plant import Plant
 
-_SQLITE, _POSTGRES, _URL = "../archive/sqlite", "../archive/postgres", "../archive/url"
+_SQLITE, _POSTGRES, _SESSION, _URL = (
+    "../archive/sqlite",
+    "../archive/postgres",
+    "../archive/session",
+    "../archive/url",
+)
 PLANTS = {
-    "driver, no transaction": Plant(_POSTGRES, '            session.change("BEGIN")\n', "", "engine", "what_fails_leaves_nothing"),
-    "driver, no transaction in a file": Plant(_SQLITE, '            session.change("BEGIN IMMEDIATE")\n            yield session\n            session.change("COMMIT")\n',
+    "driver, no transaction": Plant(_SESSION, "            session.change(self.begins)\n", "", "engine", "what_fails_leaves_nothing"),
+    "driver, no transaction in a file": Plant(_SESSION, '            session.change(self.begins)\n            yield session\n            session.change("COMMIT")\n',
                                               "            yield session\n", "engine", "what_fails_leaves_nothing"),
     "driver, no rollback": Plant(_POSTGRES, "            is_free = _is_rolled_back(connection)\n", "            is_free = True\n", "engine", "takes_too_long"),
     "driver, a lock that comes late": Plant(_SQLITE, '"BEGIN IMMEDIATE"', '"BEGIN"', "engine", "had_from_the_beginning"),

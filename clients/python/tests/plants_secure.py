@@ -13,7 +13,7 @@ PLANTS = {
     "runner, its environment": Plant("runner_process", "            env=environment(),\n", "", "runner", "no_variable"),
     "runner, its descriptors": Plant("runner_process", "pass_fds=(memory,),", "close_fds=False,", "runner", "no_descriptor_besides"),
     "runner, inherited": Plant("unix", "text, more, _, _ = line.recvmsg(\n        LONGEST, socket.CMSG_SPACE(MOST * _NUMBER.itemsize), socket.MSG_CMSG_CLOEXEC\n    )", "text, more, _, _ = line.recvmsg(LONGEST, socket.CMSG_SPACE(MOST * _NUMBER.itemsize))", "runner", "inherited_by_what"),
-    "runner, readable errors": Plant("run", "os.open(path, flags, 0o600)", "os.open(path, flags, 0o644)", "runner", "no_descriptor_besides"),
+    "runner, readable errors": Plant("definition", "os.open(path, flags, 0o600)", "os.open(path, flags, 0o644)", "runner", "no_descriptor_besides"),
     "runner, kept descriptors": Plant("runner_process", "                self._poll.unregister(descriptor)\n                os.close(descriptor)\n",
                                       "                self._poll.unregister(descriptor)\n", "runner", "no_zombie"),
     "runner, its own end": Plant("runner", "        runner.end(process)\n", "        pass\n", "runner", "with_what_its_memory_has"),

@@ -108,7 +108,7 @@ class Replies(unittest.TestCase):
             return time.process_time() - began
 
         few = min(seconds(12_500) for _ in range(5))
-        self.assertLess(min(seconds(100_000) for _ in range(3)), 32 * few)
+        self.assertLess(min(seconds(200_000) for _ in range(3)), 48 * few)
 
 
 class Drivers(unittest.TestCase):

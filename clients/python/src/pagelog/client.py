@@ -3,10 +3,10 @@
 from __future__ import annotations
 
 from contextlib import closing
-from types import TracebackType
-from typing import Any, Sequence, TypeVar
+from typing import Any, Self, Sequence
 
 from pagelog.block import HIGHEST_PARTITION
+from pagelog.closing import Closable
 from pagelog.connection import Address, Connection
 from pagelog.credentials import Account, Credentials
 from pagelog.errors import LogWentBack, UnexpectedReply
@@ -20,7 +20,6 @@ FIRST_EPOCH = 1
 ALL_PARTITIONS = (0, HIGHEST_PARTITION)
 MOST_EPOCHS = 64
 """In how many epochs one after the other a call asks again. A service whose epoch is another each time is none."""
-Self = TypeVar("Self", bound="Client")
 
 
 def reported_epoch(reply: Reply) -> int | None:
@@ -37,7 +36,7 @@ def lets_in(reply: Reply) -> bool:
     return refusal_of(reply) is None
 
 
-class Client:
+class Client(Closable):
     """Asks as one principal, in one role, of one database.
 
     It takes over the epoch that a denial A2 or A3 reports, and asks again; a primary does not, see `Primary`. The epoch
@@ -61,7 +60,7 @@ class Client:
 
     @classmethod
     def open(
-        cls: type[Self],
+        cls,
         account: Account,
         database: int = 0,
         *,
@@ -78,7 +77,7 @@ class Client:
 
     @classmethod
     def at(
-        cls: type[Self],
+        cls,
         address: Address | str,
         id: int,
         token: str,
@@ -92,17 +91,6 @@ class Client:
         The options are those of the class, as `quorum` of a primary.
         """
         return cls(Connection(address, trust=trust), Credentials.of(id, token), database, **options)
-
-    def __enter__(self: Self) -> Self:
-        return self
-
-    def __exit__(
-        self,
-        kind: type[BaseException] | None,
-        error: BaseException | None,
-        trace: TracebackType | None,
-    ) -> None:
-        self.close()
 
     def close(self) -> None:
         """Closes the connection. A later call opens it again."""

@@ -12,9 +12,9 @@ from collections import deque
 from contextlib import suppress
 from dataclasses import dataclass
 from itertools import islice
-from types import TracebackType
 from typing import Callable, Generator, Iterable, NamedTuple
 
+from pagelog.closing import Closable
 from pagelog.dialing import dial
 from pagelog.errors import ConnectionLost, InDoubt, PagelogError, TimedOut, Unreachable
 from pagelog.repeating import Backoff
@@ -64,7 +64,7 @@ class _Waiting:
         self.sent = 0
 
 
-class Connection:
+class Connection(Closable):
     """A connection that is made when it is needed, and again when it is lost.
 
     Where it is lost with requests in flight, those without a reply are sent again over a new one, in the same order,
@@ -114,17 +114,6 @@ class Connection:
         self._process = os.getpid()
         self._waiting: deque[_Waiting] = deque()
         self._most = 64
-
-    def __enter__(self) -> Connection:
-        return self
-
-    def __exit__(
-        self,
-        kind: type[BaseException] | None,
-        error: BaseException | None,
-        trace: TracebackType | None,
-    ) -> None:
-        self.close()
 
     @property
     def is_open(self) -> bool:

@@ -2,6 +2,8 @@
 
 from __future__ import annotations
 
+from typing import ClassVar
+
 from pagelog.errors import Fault, Refusal, first_line
 
 
@@ -12,16 +14,23 @@ class FrameFault(Fault):
         super().__init__(f"a frame of {length} bytes is too long")
 
 
+class _CodedFault(Fault):
+    """Of one kind of bytes, which has codes for its faults."""
+
+    kind: ClassVar[str]
+
+    def __init__(self, detail: str = "", of: type[Fault] | None = None) -> None:
+        sentence = first_line((of or type(self)).__doc__)
+        super().__init__(f"{self.kind} fault {self.code}: {sentence}{detail and ': ' + detail}")
+
+
 # A block: codes 1 to 9.
 
 
-class BlockFault(Fault):
+class BlockFault(_CodedFault):
     """A block's bytes are not in the format."""
 
-    def __init__(self, detail: str = "") -> None:
-        super().__init__(
-            f"block fault {self.code}: {first_line(type(self).__doc__)}{detail and ': ' + detail}"
-        )
+    kind = "block"
 
 
 class BlockEndsInField(BlockFault):
@@ -95,16 +104,20 @@ BLOCK_FAULTS: dict[int, type[BlockFault]] = {
 FIRST_OF_A_BLOCK = 7
 
 
+class _OfABlock(_CodedFault):
+    def __init__(self, code: int) -> None:
+        self.code = code  # type: ignore[misc]
+        self.block_fault: type[BlockFault] = BLOCK_FAULTS[code - 6]
+        super().__init__(of=self.block_fault)
+
+
 # A request: codes 1 to 6, and 7 to 15 for the faults of its block.
 
 
-class RequestFault(Fault):
+class RequestFault(_CodedFault):
     """A request's body, or a value for it, is not in the format."""
 
-    def __init__(self, detail: str = "") -> None:
-        super().__init__(
-            f"request fault {self.code}: {first_line(type(self).__doc__)}{detail and ': ' + detail}"
-        )
+    kind = "request"
 
 
 class BodyTooShort(RequestFault):
@@ -143,17 +156,8 @@ class ArgumentOutOfRange(RequestFault):
     code = 6
 
 
-class FaultyBlock(RequestFault):
+class FaultyBlock(_OfABlock, RequestFault):
     """The block of the request is faulty. `code` is the block's fault plus 6, and `block_fault` its class."""
-
-    def __init__(self, code: int) -> None:
-        self.block_fault: type[BlockFault] = BLOCK_FAULTS[code - 6]
-        self._code = code
-        Fault.__init__(self, f"request fault {code}: {first_line(self.block_fault.__doc__)}")
-
-    @property
-    def code(self) -> int:  # type: ignore[override]
-        return self._code
 
 
 REQUEST_FAULTS: dict[int, type[RequestFault]] = {
@@ -186,13 +190,10 @@ class MalformedRequest(Refusal):
 # A reply: codes 1 to 6, and 7 to 15 for the faults of its blocks.
 
 
-class ReplyFault(Fault):
+class ReplyFault(_CodedFault):
     """A reply's body is not in the format."""
 
-    def __init__(self, detail: str = "") -> None:
-        super().__init__(
-            f"reply fault {self.code}: {first_line(type(self).__doc__)}{detail and ': ' + detail}"
-        )
+    kind = "reply"
 
 
 class EmptyReply(ReplyFault):
@@ -231,14 +232,5 @@ class FieldOutOfRange(ReplyFault):
     code = 6
 
 
-class FaultyBlockInReply(ReplyFault):
+class FaultyBlockInReply(_OfABlock, ReplyFault):
     """A block of the reply is faulty. `code` is the block's fault plus 6, and `block_fault` its class."""
-
-    def __init__(self, code: int) -> None:
-        self.block_fault: type[BlockFault] = BLOCK_FAULTS[code - 6]
-        self._code = code
-        Fault.__init__(self, f"reply fault {code}: {first_line(self.block_fault.__doc__)}")
-
-    @property
-    def code(self) -> int:  # type: ignore[override]
-        return self._code

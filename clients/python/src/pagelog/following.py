@@ -3,9 +3,9 @@
 from __future__ import annotations
 
 import time
-from types import TracebackType
-from typing import Sequence, TypeVar
+from typing import Sequence
 
+from pagelog.closing import Closable
 from pagelog.connection import Connection
 from pagelog.credentials import Credentials
 from pagelog.errors import (
@@ -35,7 +35,6 @@ AGAIN = 0.001
 """Seconds before a lost connection is tried once more. Where that is refused the service has ended, and the keepers are asked."""
 CONFIRM = 0.3
 """Seconds for which a service says that it does not know the principal before that is told."""
-Self = TypeVar("Self", bound="Following")
 
 
 class NamedAccount:
@@ -65,7 +64,7 @@ class NamedAccount:
         )
 
 
-class Following:
+class Following(Closable):
     """One who follows a named database. `patience` is for a place or an answer of the keepers, `timeout` for a reply of the
     service, in seconds. `trust` is of both."""
 
@@ -105,17 +104,6 @@ class Following:
         now = time.monotonic()
         if now - self._refused.setdefault(place.run, now) >= CONFIRM:
             raise WrongToken(f"the table does not list {who} with this token")
-
-    def __enter__(self: Self) -> Self:
-        return self
-
-    def __exit__(
-        self,
-        kind: type[BaseException] | None,
-        error: BaseException | None,
-        trace: TracebackType | None,
-    ) -> None:
-        self.close()
 
     def close(self) -> None:
         """Closes all connections. A later call opens them again; a writer that is closed writes nothing of its tail again."""

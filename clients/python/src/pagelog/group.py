@@ -9,7 +9,7 @@ from __future__ import annotations
 import threading
 from typing import Sequence
 
-from pagelog.block import Block, Record, check_record
+from pagelog.block import Record, check_record
 from pagelog.errors import InDoubt, PagelogError, TimedOut
 from pagelog.named import NamedPrimary
 from pagelog.place import Lost

@@ -229,7 +229,7 @@ class _Line:
                     if words[:1] == ["hello"] and words[1:2] and words[1].isdecimal()
                     else 1
                 )
-                nonce = _parted(words)[1].get("nonce", "")
+                nonce = parted(words)[1].get("nonce", "")
                 self._nonce = nonce if _NONCE.fullmatch(nonce) else ""
             elif words not in _NO_ANSWER:
                 return words
@@ -527,7 +527,7 @@ class Keepers:
         """The page servers of the database that was opened, as the first keeper says that knows of any; None where no keeper answers."""
         of, is_heard = "" if self._own is None else self._own.database, False
         for address in self._asks():
-            fixed, keys = _parted(self._ask(address, ("pages", self.name), of=of))
+            fixed, keys = parted(self._ask(address, ("pages", self.name), of=of))
             is_heard |= fixed[:1] == ["pages"]
             if (
                 fixed[:1] == ["pages"]
@@ -543,7 +543,7 @@ class Keepers:
         of = "" if self._own is None else self._own.database
         while True:
             for address in self._asks():
-                match _parted(self._ask(address, ("block", self.name, position), _SILENCE, of))[0]:
+                match parted(self._ask(address, ("block", self.name, position), _SILENCE, of))[0]:
                     case ["block", _, _, digest]:
                         return None if digest == "-" else digest
             if time.monotonic() > deadline:
@@ -593,7 +593,7 @@ class Keepers:
         answer = self._ask(
             place.lines, ("durable", self.name, place.generation, known + 1), seconds, place.of
         )
-        fixed, keys = _parted(answer)
+        fixed, keys = parted(answer)
         match fixed:
             case ["above", _, generation, end] if generation == str(place.generation) and keys.get(
                 "of"
@@ -611,7 +611,7 @@ class Keepers:
 
     def _fate(self, words: list[str], place: Place, position: int) -> GenerationFate | None:
         """What an answer says of this very run. Raises `Dropped`."""
-        fixed, keys = _parted(words)
+        fixed, keys = parted(words)
         if keys.get("of") != place.of:
             return None
         match fixed:
@@ -654,14 +654,14 @@ def _taken(line: _Line) -> list[str] | None:
         return []
 
 
-def _parted(words: list[str]) -> tuple[list[str], dict[str, str]]:
+def parted(words: list[str]) -> tuple[list[str], dict[str, str]]:
     """The words that have their place, and the keys behind them, of which one that is not known is passed over."""
     keys = dict(word.split("=", 1) for word in words if "=" in word)
     return [word for word in words if "=" not in word], keys
 
 
 def _place(words: list[str]) -> Place | None:
-    fixed, keys = _parted(words)
+    fixed, keys = parted(words)
     match fixed:
         case ["at", _, generation, run, address, archived, lines, base, shift, kept, *_]:
             return _read(generation, run, address, archived, lines, base, shift, kept, keys)
@@ -671,7 +671,7 @@ def _place(words: list[str]) -> Place | None:
 
 def _standby(words: list[str], lines: str) -> Place | None:
     """As told over these lines: an older keeper does not name those of the standby's."""
-    fixed, keys = _parted(words)
+    fixed, keys = parted(words)
     match fixed:
         case ["standby", _, address, run, reached, base, shift, *_]:
             return _read(

@@ -5,7 +5,7 @@ from __future__ import annotations
 import struct
 from dataclasses import dataclass, field, fields
 from enum import IntEnum
-from typing import ClassVar, Union, get_args
+from typing import Callable, ClassVar, Union, get_args
 
 from pagelog.block import HIGHEST_LSN, HIGHEST_PAGE, HIGHEST_PARTITION, Block
 from pagelog.faults import (
@@ -84,15 +84,23 @@ def _number(name: str, value: int, least: int, most: int, size: int) -> bytes:
     return value.to_bytes(size, "big")
 
 
+class _Act:
+    __slots__ = ()
+    repeatable: ClassVar[bool] = True
+
+    def arguments(self) -> bytes:
+        """Its bytes after the head: none."""
+        return b""
+
+
 @dataclass(frozen=True, slots=True)
-class Write:
+class Write(_Act):
     """Puts a block into a copy: 0 to 2, or to 5 with a table of six. May be repeated: it changes nothing then."""
 
     copy: int
     block: Block
     operation: ClassVar[Operation] = Operation.WRITE
     roles: ClassVar[tuple[Role, ...]] = (Role.PRIMARY,)
-    repeatable: ClassVar[bool] = True
 
     def arguments(self) -> bytes:
         """Its bytes after the head. Raises `ArgumentOutOfRange` where the copy is not 0 to 255."""
@@ -100,13 +108,12 @@ class Write:
 
 
 @dataclass(frozen=True, slots=True)
-class Offer:
+class Offer(_Act):
     """Puts a block into the pending area, which counts for no quorum. May be repeated."""
 
     block: Block
     operation: ClassVar[Operation] = Operation.OFFER
     roles: ClassVar[tuple[Role, ...]] = (Role.PRIMARY,)
-    repeatable: ClassVar[bool] = True
 
     def arguments(self) -> bytes:
         """Its bytes after the head."""
@@ -114,13 +121,12 @@ class Offer:
 
 
 @dataclass(frozen=True, slots=True)
-class Report:
+class Report(_Act):
     """Hardens all blocks up to `lsn`, 0 to 2^48. May be repeated."""
 
     lsn: int
     operation: ClassVar[Operation] = Operation.REPORT
     roles: ClassVar[tuple[Role, ...]] = (Role.PRIMARY,)
-    repeatable: ClassVar[bool] = True
 
     def arguments(self) -> bytes:
         """Its bytes after the head. Raises `ArgumentOutOfRange`."""
@@ -128,7 +134,7 @@ class Report:
 
 
 @dataclass(frozen=True, slots=True)
-class Get:
+class Get(_Act):
     """A page, 0 to 2^32 - 1, at `lsn`, 0 to 2^48: exactly there, or as far as its partition is applied above it."""
 
     page: int
@@ -136,7 +142,6 @@ class Get:
     exact: bool = True
     operation: ClassVar[Operation] = Operation.GET
     roles: ClassVar[tuple[Role, ...]] = (Role.SECONDARY, Role.PRIMARY)
-    repeatable: ClassVar[bool] = True
 
     def arguments(self) -> bytes:
         """Its bytes after the head. Raises `ArgumentOutOfRange`."""
@@ -149,7 +154,7 @@ class Get:
 
 
 @dataclass(frozen=True, slots=True)
-class Pull:
+class Pull(_Act):
     """The first `max` (1 to 16) hardened blocks from `lsn` (1 to 2^48) on that touch a partition from `lo` to `hi`."""
 
     lsn: int
@@ -158,7 +163,6 @@ class Pull:
     hi: int = HIGHEST_PARTITION
     operation: ClassVar[Operation] = Operation.PULL
     roles: ClassVar[tuple[Role, ...]] = (Role.SECONDARY, Role.PAGE_SERVER)
-    repeatable: ClassVar[bool] = True
 
     def arguments(self) -> bytes:
         """Its bytes after the head. Raises `ArgumentOutOfRange`."""
@@ -173,7 +177,7 @@ class Pull:
 
 
 @dataclass(frozen=True, slots=True)
-class Advance:
+class Advance(_Act):
     """Raises the applied LSN of a partition by `steps`, 1 to 1,024. A repetition would raise it once more."""
 
     partition: int
@@ -189,7 +193,7 @@ class Advance:
 
 
 @dataclass(frozen=True, slots=True)
-class Status:
+class Status(_Act):
     """Epoch, primary and hardened end."""
 
     operation: ClassVar[Operation] = Operation.STATUS
@@ -199,15 +203,10 @@ class Status:
         Role.SECONDARY,
         Role.PAGE_SERVER,
     )
-    repeatable: ClassVar[bool] = True
-
-    def arguments(self) -> bytes:
-        """No bytes."""
-        return b""
 
 
 @dataclass(frozen=True, slots=True)
-class Failover:
+class Failover(_Act):
     """Ends the epoch, and makes a principal the primary of the next. A repetition would end the next one too."""
 
     principal: int
@@ -221,7 +220,7 @@ class Failover:
 
 
 @dataclass(frozen=True, slots=True)
-class SetTable:
+class SetTable(_Act):
     """Puts a table in force; its text has at most 65,506 bytes. Not repeated: another one may have come between.
 
     The text has the tokens of all principals, and is in no debug text.
@@ -240,14 +239,13 @@ class SetTable:
 
 
 @dataclass(frozen=True, slots=True)
-class Audit:
+class Audit(_Act):
     """The lines `first` (from 1) to `first + max - 1` of the audit list; `max` is 1 to 1,024."""
 
     first: int
     max: int = AUDIT_MAX
     operation: ClassVar[Operation] = Operation.AUDIT
     roles: ClassVar[tuple[Role, ...]] = (Role.OPERATOR,)
-    repeatable: ClassVar[bool] = True
 
     def arguments(self) -> bytes:
         """Its bytes after the head. Raises `ArgumentOutOfRange`."""
@@ -257,16 +255,11 @@ class Audit:
 
 
 @dataclass(frozen=True, slots=True)
-class Tidy:
+class Tidy(_Act):
     """Moves hardened blocks to the segments, where they take less memory. May be repeated."""
 
     operation: ClassVar[Operation] = Operation.TIDY
     roles: ClassVar[tuple[Role, ...]] = (Role.OPERATOR,)
-    repeatable: ClassVar[bool] = True
-
-    def arguments(self) -> bytes:
-        """No bytes."""
-        return b""
 
 
 Act = Union[Write, Offer, Report, Get, Pull, Advance, Status, Failover, SetTable, Audit, Tidy]
@@ -314,10 +307,6 @@ class Request:
 
 
 _HEAD = struct.Struct(">I16sBIIB")
-_GET = struct.Struct(">IQB")
-_PULL = struct.Struct(">HHQH")
-_ADVANCE = struct.Struct(">HH")
-_AUDIT = struct.Struct(">QH")
 _ROLES = frozenset(Role)
 _OPERATIONS = frozenset(Operation)
 
@@ -354,37 +343,35 @@ def _decode_block(data: bytes) -> Block:
         raise FaultyBlock(fault.code + 6) from fault
 
 
+def _get_of(page: int, lsn: int, exact: int) -> Get:
+    if exact > 1:
+        raise ArgumentOutOfRange(f"exact {exact}")
+    return Get(page, lsn, exact == 1)
+
+
+def _pull_of(lo: int, hi: int, lsn: int, most: int) -> Pull:
+    return Pull(lsn, most, lo, hi)
+
+
+_OF_NUMBERS: dict[Operation, tuple[struct.Struct, Callable[..., Act]]] = {
+    Operation.REPORT: (struct.Struct(">Q"), Report),
+    Operation.GET: (struct.Struct(">IQB"), _get_of),
+    Operation.PULL: (struct.Struct(">HHQH"), _pull_of),
+    Operation.ADVANCE: (struct.Struct(">HH"), Advance),
+    Operation.FAILOVER: (struct.Struct(">I"), Failover),
+    Operation.AUDIT: (struct.Struct(">QH"), Audit),
+    **{operation: (struct.Struct(""), type(act)) for operation, act in WITHOUT_ARGUMENTS.items()},
+}
+"""The numbers after the head, and what makes the act of them."""
+
+
 def _decode_numbers(operation: Operation, rest: bytes) -> Act:
-    sizes = {
-        Operation.REPORT: 8,
-        Operation.GET: 13,
-        Operation.PULL: 14,
-        Operation.ADVANCE: 4,
-        Operation.FAILOVER: 4,
-        Operation.AUDIT: 10,
-    }
-    size = sizes.get(operation, 0)
-    if len(rest) < size:
+    numbers, made = _OF_NUMBERS[operation]
+    if len(rest) < numbers.size:
         raise BodyEndsInArgument()
-    if len(rest) > size:
+    if len(rest) > numbers.size:
         raise BytesAfterArguments()
-    if operation is Operation.REPORT:
-        return Report(int.from_bytes(rest, "big"))
-    if operation is Operation.GET:
-        page, lsn, exact = _GET.unpack(rest)
-        if exact > 1:
-            raise ArgumentOutOfRange(f"exact {exact}")
-        return Get(page, lsn, exact == 1)
-    if operation is Operation.PULL:
-        lo, hi, lsn, most = _PULL.unpack(rest)
-        return Pull(lsn, most, lo, hi)
-    if operation is Operation.ADVANCE:
-        return Advance(*_ADVANCE.unpack(rest))
-    if operation is Operation.FAILOVER:
-        return Failover(int.from_bytes(rest, "big"))
-    if operation is Operation.AUDIT:
-        return Audit(*_AUDIT.unpack(rest))
-    return WITHOUT_ARGUMENTS[operation]
+    return made(*numbers.unpack(rest))
 
 
 def _in_range(act: Act) -> Act:

@@ -43,6 +43,9 @@ class Denial(Refusal):
     rule: ClassVar[str] = "Denial"
     sentence: ClassVar[str] = "the service denies it"
 
+    def __init_subclass__(cls) -> None:
+        cls.rule = cls.__name__
+
     def __init__(self, section: Section, row: int, value: int) -> None:
         self.section = Section(section)
         self.row = row
@@ -55,14 +58,12 @@ class Denial(Refusal):
 class UnknownPrincipal(Denial):
     """A1. The table does not list this principal with this token."""
 
-    rule = "UnknownPrincipal"
     sentence = "the table does not list this principal with this token"
 
 
 class OlderEpoch(Denial):
     """A2. The request's epoch is over; `value` is the current one."""
 
-    rule = "OlderEpoch"
     sentence = "the epoch of the request is over"
 
     @property
@@ -74,7 +75,6 @@ class OlderEpoch(Denial):
 class NewerEpoch(Denial):
     """A3. The request's epoch is still to come; `value` is the current one."""
 
-    rule = "NewerEpoch"
     sentence = "the epoch of the request is still to come"
 
     @property
@@ -86,77 +86,66 @@ class NewerEpoch(Denial):
 class OtherPrimary(Denial):
     """A4. Another principal is the primary of this epoch."""
 
-    rule = "OtherPrimary"
     sentence = "another principal is the primary of this epoch"
 
 
 class RoleLacksOperation(Denial):
     """A5. The role does not have the operation."""
 
-    rule = "RoleLacksOperation"
     sentence = "the role does not have the operation"
 
 
 class TableRow(Denial):
     """B, row k from 1. Row k of the table is the first that matches, and it denies."""
 
-    rule = "TableRow"
     sentence = "this row of the table is the first that matches, and it denies"
 
 
 class NoRowMatches(Denial):
     """B0. No row of the table matches."""
 
-    rule = "NoRowMatches"
     sentence = "no row of the table matches"
 
 
 class AboveTheEnd(Denial):
     """C1. A pull from, or a get at, an LSN above the hardened end; `value` is that end."""
 
-    rule = "AboveTheEnd"
     sentence = "the LSN is above the hardened end"
 
 
 class HardenedAlready(Denial):
     """C2. A write or an offer of an LSN at or below the hardened end; `value` is that end."""
 
-    rule = "HardenedAlready"
     sentence = "the LSN is hardened already"
 
 
 class AboveTheWindow(Denial):
     """C3. A write or an offer of an LSN more than 64 above the hardened end; `value` is that end."""
 
-    rule = "AboveTheWindow"
     sentence = "the LSN is above the window of 64"
 
 
 class OtherContent(Denial):
     """C4. Another block was written or offered at this LSN in this epoch."""
 
-    rule = "OtherContent"
     sentence = "another block stands at this LSN in this epoch"
 
 
 class NoSuchCopy(Denial):
     """C5. There are the copies 0 to 2, or to 5 where the table of the epoch's beginning says six."""
 
-    rule = "NoSuchCopy"
     sentence = "there is no copy of this number"
 
 
 class BelowQuorum(Denial):
     """C6. Some LSN of the report is in fewer copies than the quorum, 2 or 4; `value` is the hardened end."""
 
-    rule = "BelowQuorum"
     sentence = "some block up to this LSN is in fewer copies than the quorum"
 
 
 class NoTable(Denial):
     """C7. The text is not a table; `value` and `fault` say what is wrong with it."""
 
-    rule = "NoTable"
     sentence = "the text is not a table"
 
     @property
@@ -168,14 +157,12 @@ class NoTable(Denial):
 class UnlistedPrimary(Denial):
     """C8. The table does not list the principal that the failover names."""
 
-    rule = "UnlistedPrimary"
     sentence = "the table does not list the new primary"
 
 
 class LastEpoch(Denial):
     """C9. The epoch is 2^32 - 1, after which there is none."""
 
-    rule = "LastEpoch"
     sentence = "there is no epoch after the last one"
 
 

@@ -18,6 +18,7 @@ from pagelog.archive.session import Engine, Row, SqlSession, bytes_of
 from pagelog.archive.url import ArchiveError as ArchiveError
 from pagelog.archive.url import file_is_missing, parsed_url
 from pagelog.block import HIGHEST_LSN, Block
+from pagelog.closing import Closable
 from pagelog.faults import BlockFault
 
 DEFAULT_URL = "sqlite:///pagelog-archive.db"
@@ -55,7 +56,7 @@ class Sizes:
     bytes: int
 
 
-class Archive:
+class Archive(Closable):
     """The archive of one log. A database error is an exception of psycopg or sqlite3, and then nothing of a batch was kept."""
 
     def __init__(
@@ -88,12 +89,6 @@ class Archive:
     def close(self) -> None:
         """Closes all connections to the database."""
         self.engine.close()
-
-    def __enter__(self) -> Archive:
-        return self
-
-    def __exit__(self, *_: object) -> None:
-        self.close()
 
     def _make(self) -> int:
         """Makes what is not there. Where another does so at the same time, it is looked for again."""

@@ -94,14 +94,6 @@ class PostgresEngine(Engine):
             else:
                 connection.close()
 
-    @contextmanager
-    def begin(self) -> Iterator[SqlSession]:
-        """As of any database."""
-        with self.session() as session:
-            session.change("BEGIN")
-            yield session
-            session.change("COMMIT")
-
     def _taken(self) -> BoundConnection:
         """One that answers, or a new one."""
         idle = self._own_idle()

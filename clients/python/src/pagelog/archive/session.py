@@ -7,9 +7,9 @@ together is changed in `Engine.begin`; a statement that reads is one of its own.
 from __future__ import annotations
 
 from abc import ABC, abstractmethod
-from contextlib import AbstractContextManager
+from contextlib import AbstractContextManager, contextmanager
 from dataclasses import dataclass
-from typing import Any, ClassVar, Mapping, Sequence
+from typing import Any, ClassVar, Iterator, Mapping, Sequence
 
 from pagelog.archive.url import ArchiveError
 
@@ -55,6 +55,8 @@ class Engine(ABC):
     """Whatever the database, or the way there, has raised."""
     integrity_error: ClassVar[type[Exception]]
     """One of these: a row is there already."""
+    begins: ClassVar[str] = "BEGIN"
+    """The statement that begins a transaction."""
     table_is_there: ClassVar[str]
     column_is_there: ClassVar[str]
     """The statements that say so of a %(table)s, and of its %(column)s."""
@@ -65,9 +67,13 @@ class Engine(ABC):
     def session(self) -> AbstractContextManager[SqlSession]:
         """A connection on which each statement is committed by itself."""
 
-    @abstractmethod
-    def begin(self) -> AbstractContextManager[SqlSession]:
+    @contextmanager
+    def begin(self) -> Iterator[SqlSession]:
         """One on which all are one transaction: committed at the end of the `with`, and none of them where that is left by an error."""
+        with self.session() as session:
+            session.change(self.begins)
+            yield session
+            session.change("COMMIT")
 
     @abstractmethod
     def close(self) -> None:

@@ -22,6 +22,8 @@ class SqliteEngine(Engine):
 
     error = sqlite3.Error
     integrity_error = sqlite3.IntegrityError
+    begins = "BEGIN IMMEDIATE"
+    """It has the write lock from there on, for which it waits: one that reads first could not wait for it later."""
     table_is_there = "SELECT count(*) > 0 FROM pragma_table_info(%(table)s)"
     column_is_there = f"{table_is_there} WHERE name = %(column)s"
     types = {"serial": "INTEGER", "bytes": "BLOB"}
@@ -48,14 +50,6 @@ class SqliteEngine(Engine):
             connection.execute("PRAGMA journal_mode=WAL")
             connection.execute("PRAGMA synchronous=FULL")
             yield SqliteSession(connection)
-
-    @contextmanager
-    def begin(self) -> Iterator[SqlSession]:
-        """It has the write lock from its beginning, for which it waits: one that reads first could not wait for it later."""
-        with self.session() as session:
-            session.change("BEGIN IMMEDIATE")
-            yield session
-            session.change("COMMIT")
 
     def close(self) -> None:
         """There is no connection that nobody has."""

@@ -8,7 +8,7 @@ from pathlib import Path
 import click
 
 from pagelog.cli.history_words import position_or_time
-from pagelog.cli.keeper_words import named, referee_word, text_of_table
+from pagelog.cli.keeper_words import named, referee_word, row_in, text_of_table
 from pagelog.cli.options import fail
 from pagelog.keeper.branching import branch
 from pagelog.keeper.history import position_at
@@ -44,9 +44,7 @@ def branch_word(referee: Referee, name: str, new: str, at: str | None, table: Pa
     """
     made, when = named(new), None if at is None else position_or_time(at)
     text = None if table is None else text_of_table(table, made)
-    row = referee.everything().row(named(name))
-    if row is None:
-        fail(f"there is no database {name}")
+    row = row_in(referee.everything(), name)
     position = row.archived if when is None else position_at(referee, row, when)
     if isinstance(when, datetime):
         click.echo(f"at {in_both_zones(when)} {name} was archived up to position {position}")

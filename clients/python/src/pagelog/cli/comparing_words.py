@@ -9,7 +9,7 @@ from dataclasses import asdict
 import click
 
 from pagelog.block import HIGHEST_LSN
-from pagelog.cli.keeper_words import named, referee_of
+from pagelog.cli.keeper_words import referee_of, row_in
 from pagelog.cli.options import AGAIN, bar, fail, timeout
 from pagelog.connection import Connection
 from pagelog.credentials import Accounts
@@ -25,9 +25,7 @@ def verify_pages(accounts: Accounts, name: str, last: int | None, as_json: bool)
     """Compares the page servers of a database, or one with the service."""
     with referee_of(accounts) as referee, ExitStack() as stack, bar("compared") as told:
         look = referee.everything()
-        row = look.row(named(name))
-        if row is None:
-            fail(f"there is no database {name}")
+        row = row_in(look, name)
         asked = _Asked(row, referee.table(row.id), accounts.trust, stack)
         copies = [asked.page_server(each) for each in _living(look, row)]
         if not copies:

@@ -113,7 +113,8 @@ def _place_of(
     listen: str, token_file: Path | None, option: str, token_option: str
 ) -> tuple[str, int, Door]:
     """Where to listen, and who is let in."""
-    from pagelog.console.door import Door, is_loopback, read_token
+    from pagelog.console.door import Door, read_token
+    from pagelog.referee.hosts import is_loopback
 
     host, colon, port = listen.rpartition(":")
     if not colon or not host or not port.isdecimal() or int(port) > 65535:

@@ -9,7 +9,7 @@ import click
 from pagelog.cli.deleting import agree, counted, yes_option
 from pagelog.cli.heartbeats import refuse_keepers_without
 from pagelog.cli.hold_words import refuse_held
-from pagelog.cli.keeper_words import named, referee_of, referee_word
+from pagelog.cli.keeper_words import named, referee_of, referee_word, row_in
 from pagelog.cli.options import WRONG, credentials_option, fail, faults
 from pagelog.credentials import Accounts, keep_of
 from pagelog.keeper.history import begin_again, below, extent_of, position_at, spans
@@ -18,13 +18,6 @@ from pagelog.referee.bases import Bases
 from pagelog.referee.referee import Referee
 from pagelog.referee.rows import Row
 from pagelog.times import FORMS, in_both_zones, moment
-
-
-def _row(referee: Referee, name: str) -> Row:
-    row = referee.everything().row(named(name))
-    if row is None:
-        fail(f"there is no database {name}")
-    return row
 
 
 @click.command("rollover")
@@ -66,7 +59,7 @@ def prune_word(accounts: Accounts, name: str, keep: str | None, yes: bool) -> No
     """
     wanted = accounts.archive_keep if keep is None else keep_of(keep)
     with referee_of(accounts) as referee:
-        row = _row(referee, name)
+        row = row_in(referee.everything(), name)
         if wanted is None:
             fail(
                 f"nothing was deleted: say how much is kept, by --keep 1, --keep 7d or [archive] keep; {name} has {_archive_of(referee, row)}",
@@ -110,7 +103,7 @@ def restore_named(accounts: Accounts, name: str, at: str, to: str | None) -> Non
     """Begins a read-only database with what another one was at a position or a time."""
     when = position_or_time(at)
     with referee_of(accounts) as referee:
-        row = _row(referee, name)
+        row = row_in(referee.everything(), name)
         position = position_at(referee, row, when)
         made = named(to or f"{name}-{position}")
         if isinstance(when, datetime):

@@ -7,7 +7,7 @@ from typing import TYPE_CHECKING
 import click
 
 from pagelog.cli.deleting import counted
-from pagelog.cli.keeper_words import Asked, named, referee_of
+from pagelog.cli.keeper_words import Asked, referee_of, row_in
 from pagelog.cli.options import bar, credentials_option, fail, faults, settings_of
 from pagelog.credentials import Accounts
 from pagelog.keeper.history import extent_of
@@ -47,9 +47,7 @@ def hold_word(accounts: Accounts, name: str, release: bool, legal: bool) -> None
     if legal and release:
         raise click.UsageError("--release takes legal holds off, too")
     with referee_of(accounts, Asked) as referee:
-        row = referee.everything().row(named(name))
-        if row is None:
-            fail(f"there is no database {name}")
+        row = row_in(referee.everything(), name)
         if release:
             _release(accounts, referee, row)
         else:

@@ -6,7 +6,6 @@ import asyncio
 import faulthandler
 import functools
 import logging
-import os
 import secrets
 import signal
 import ssl
@@ -37,6 +36,14 @@ def named(name: str) -> str:
     if NAME.fullmatch(name) is None:
         fail(f"{name!r} is no name: letters, digits, dots, dashes and underscores, at most 63")
     return name
+
+
+def row_in(look: Look, name: str) -> Row:
+    """The database of this name. Ends where there is none."""
+    row = look.row(named(name))
+    if row is None:
+        fail(f"there is no database {name}")
+    return row
 
 
 def referee_word(word: Callable[..., Any]) -> Callable[..., Any]:

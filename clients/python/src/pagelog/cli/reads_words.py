@@ -8,9 +8,8 @@ from datetime import datetime
 import click
 
 from pagelog.cli.heartbeats import Heartbeats, ttl_of
-from pagelog.cli.keeper_words import Asked, named, referee_of
+from pagelog.cli.keeper_words import Asked, referee_of, row_in
 from pagelog.cli.options import AGAIN, credentials_option, fail, faults
-from pagelog.cli.table_changes import row_of
 from pagelog.credentials import Accounts
 from pagelog.pages.reads import (
     audit_reads,
@@ -58,7 +57,7 @@ def reads_word(accounts: Accounts, name: str, wants_audit: bool | None, within: 
       pagelogctl reads shop --unaudited --credentials keeper.toml
     """
     with referee_of(accounts, Asked) as referee:
-        row = row_of(referee, named(name))
+        row = row_in(referee.everything(), name)
         if wants_audit is False:
             _let(let_page_servers_answer(referee, row), row)
             return click.echo(f"page servers of {name} may answer, without an entry for a read")

@@ -2,8 +2,6 @@
 
 from __future__ import annotations
 
-import time
-
 import click
 
 from pagelog.cli.heartbeats import refuse_keepers_without
@@ -11,9 +9,7 @@ from pagelog.cli.keeper_words import referee_of
 from pagelog.cli.options import AGAIN, WRONG, credentials_option, fail, faults
 from pagelog.credentials import Accounts
 from pagelog.keeper.settings import TTL
-from pagelog.referee.referee import Referee
-from pagelog.referee.sealed import KEYS, Keys
-from pagelog.repeating import Backoff
+from pagelog.referee.sealed import Keys
 
 
 @click.command("seal")

@@ -4,7 +4,7 @@ from __future__ import annotations
 
 import json
 import time
-from dataclasses import asdict, replace
+from dataclasses import asdict
 from functools import partial
 from pathlib import Path
 from typing import TYPE_CHECKING
@@ -13,13 +13,12 @@ import click
 
 from pagelog.cli.deleting import agree, counted, yes_option
 from pagelog.cli.forward_words import forward_word
-from pagelog.cli.keeper_words import Asked, named, referee_of, text_of_table
+from pagelog.cli.keeper_words import Asked, referee_of, row_in, text_of_table
 from pagelog.cli.options import bar, credentials_option, fail, faults, settings_of
 from pagelog.credentials import Accounts
 from pagelog.times import in_both_zones
 
 if TYPE_CHECKING:
-    from pagelog.objects.settings import StoreSettings
     from pagelog.store.rescuing import Rescued
 
 
@@ -75,9 +74,7 @@ def copy_word(accounts: Accounts, name: str, to: str) -> None:
     from pagelog.store.copying import copy
 
     with referee_of(accounts) as referee, bar("copied") as told:
-        row = referee.everything().row(named(name))
-        if row is None:
-            fail(f"there is no database {name}")
+        row = row_in(referee.everything(), name)
         done = copy(referee, row.id, settings_of(accounts), settings_of(accounts, to), told)
     click.echo(
         f"copied {counted(done.copied, 'object')}, {done.bytes} bytes; {done.there} were there"
@@ -120,9 +117,7 @@ def verify_stored(accounts: Accounts, name: str, days: int, as_json: bool) -> No
 
     is_read = partial(part_of_day, days=days, day=int(time.time() // 86_400))
     with referee_of(accounts) as referee, bar("verified") as told:
-        row = referee.everything().row(named(name))
-        if row is None:
-            fail(f"there is no database {name}")
+        row = row_in(referee.everything(), name)
         done = verify(referee, row.id, settings_of(accounts), told, is_read)
     click.echo(
         json.dumps(asdict(done))

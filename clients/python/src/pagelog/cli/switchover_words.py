@@ -5,7 +5,7 @@ from __future__ import annotations
 import click
 
 from pagelog.cli.heartbeats import is_alive, ttl_of
-from pagelog.cli.keeper_words import Asked, named, referee_of
+from pagelog.cli.keeper_words import Asked, referee_of, row_in
 from pagelog.cli.list_words import whom
 from pagelog.cli.options import AGAIN, credentials_option, fail, faults
 from pagelog.credentials import Accounts
@@ -46,9 +46,7 @@ def switchover_word(accounts: Accounts, name: str, keeper: str, cancel: bool) ->
         )
     with referee_of(accounts, Asked) as referee:
         look = referee.everything()
-        row = look.row(named(name))
-        if row is None:
-            fail(f"there is no database {name}")
+        row = row_in(look, name)
         if cancel:
             click.echo(_cancel(referee, row))
         else:

@@ -10,11 +10,8 @@ import click
 
 from pagelog.cli.heartbeats import Heartbeats, refuse_keepers_without
 from pagelog.cli.options import AGAIN, fail
-from pagelog.credentials import Accounts
 from pagelog.errors import TableError
 from pagelog.keeper.aside import asides_of
-from pagelog.keeper.machine import PATIENCE
-from pagelog.keeper.settings import TTL
 from pagelog.keeper.table import Form, read_table, table_of_run
 from pagelog.referee.referee import Away, Doubt, Referee
 from pagelog.referee.rows import Look, Row
@@ -52,14 +49,6 @@ def check_of_service(text: str) -> None:
         raise TableError(f"fault {found} of docs/TABLES.md: no service takes this table")
     if len(text.encode()) > TEXT_SIZE:
         raise TableError(f"a table has at most {TEXT_SIZE} bytes")
-
-
-def row_of(referee: Referee, name: str) -> Row:
-    """The database of this name. Ends where there is none."""
-    row = referee.everything().row(name)
-    if row is None:
-        fail(f"there is no database {name}")
-    return row
 
 
 class TableChange:

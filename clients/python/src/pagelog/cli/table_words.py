@@ -10,9 +10,9 @@ import click
 
 from pagelog.credentials import Accounts
 from pagelog.cli.heartbeats import ttl_of
-from pagelog.cli.keeper_words import Asked, named, referee_of
+from pagelog.cli.keeper_words import Asked, referee_of, row_in
 from pagelog.cli.options import client, credentials_option, db_option, fail, faults
-from pagelog.cli.table_changes import WITHIN, TableChange, check_of_service, row_of, say
+from pagelog.cli.table_changes import WITHIN, TableChange, check_of_service, say
 from pagelog.errors import PagelogError
 from pagelog.operator import Operator
 from pagelog.table_editing import with_tokens_of, without_tokens
@@ -87,7 +87,7 @@ def table_word(
             raise click.UsageError("without a NAME: --table FILE")
         return set_at_service(accounts, db, read_file(file))
     with referee_of(accounts, Asked) as referee:
-        row = row_of(referee, named(name))
+        row = row_in(referee.everything(), name)
         if shows:
             present = referee.table(row.id).text
             return click.echo(present if tokens else without_tokens(present), nl=False)

@@ -12,9 +12,9 @@ import click
 
 from pagelog.credentials import Accounts
 from pagelog.cli.heartbeats import ttl_of
-from pagelog.cli.keeper_words import Asked, named, referee_of
+from pagelog.cli.keeper_words import Asked, referee_of, row_in
 from pagelog.cli.options import credentials_option, db_option, fail, faults
-from pagelog.cli.table_changes import TableChange, check_of_service, row_of, say
+from pagelog.cli.table_changes import TableChange, check_of_service, say
 from pagelog.cli.table_words import read_file, set_at_service, within_option
 from pagelog.cli.waiting_words import write_private
 from pagelog.table_editing import (
@@ -117,7 +117,7 @@ def token_word(
         assert file is not None
         return _edit_file(accounts, db, file, edited)
     with referee_of(accounts, Asked) as referee:
-        change = TableChange(referee, row_of(referee, named(name)), ttl_of(accounts), within)
+        change = TableChange(referee, row_in(referee.everything(), name), ttl_of(accounts), within)
         say(name, change.set(edited), change.carry_out())
 
 

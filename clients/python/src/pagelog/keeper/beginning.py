@@ -7,7 +7,7 @@ from typing import TYPE_CHECKING
 
 from pagelog.errors import PagelogError
 from pagelog.images import Replay
-from pagelog.keeper.machine import RunKind, Stillness
+from pagelog.keeper.machine import Stillness
 from pagelog.keeper.run import Run, new_run
 from pagelog.keeper.served import Served
 from pagelog.referee.bases import Bases, transaction

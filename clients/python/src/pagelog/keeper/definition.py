@@ -54,7 +54,7 @@ class Seal:
             if cls.found(folder, run) is None:
                 fresh = folder / f"{_FILE}.new"
                 fresh.unlink(missing_ok=True)
-                with open(fresh, "xb", opener=_private) as opened:
+                with open(fresh, "xb", opener=private) as opened:
                     opened.write(secrets.token_bytes(_KEY))
                 fresh.replace(folder / _FILE)
         found = cls.found(folder, run)
@@ -121,5 +121,6 @@ def _found(memory: int, seal: Seal) -> list[tuple[int, bytes]]:
     return found
 
 
-def _private(path: str, flags: int) -> int:
+def private(path: str, flags: int) -> int:
+    """An opener. A service of another user has the descriptor, and may open what it is of once more."""
     return os.open(path, flags, 0o600)

@@ -2,8 +2,9 @@
 
 from __future__ import annotations
 
-from pagelog.keeper.lines import Answers, Line, OpenLines, parted
+from pagelog.keeper.lines import Answers, Line, OpenLines
 from pagelog.keeper.proxied import taken
+from pagelog.place import parted
 from pagelog.referee.fate import Of
 
 _BY_RUN = ("durable", "block")

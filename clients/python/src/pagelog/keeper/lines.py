@@ -17,9 +17,10 @@ import socket
 import time
 from contextlib import suppress
 from itertools import islice
-from typing import Any, Callable, Mapping, Protocol
+from typing import Any, Callable, Protocol
 
 from pagelog.keeper.proving import Asker, Proof
+from pagelog.place import parted
 from pagelog.referee.fate import Of
 
 VERSION = 2
@@ -298,12 +299,6 @@ class Answers(Protocol):
 
     def gone(self, line: Line) -> None:
         """The client is gone, and waits for nothing."""
-
-
-def parted(words: list[str]) -> tuple[list[str], Mapping[str, str]]:
-    """The words that have their place, and the keys behind them."""
-    keys = dict(word.split("=", 1) for word in words if "=" in word)
-    return [word for word in words if "=" not in word], keys
 
 
 def _number(text: str) -> int:

@@ -5,6 +5,7 @@ from __future__ import annotations
 import select
 from typing import Iterable, Iterator, Sequence
 
+from pagelog.closing import Closable
 from pagelog.connection import Address
 from pagelog.credentials import Credentials
 from pagelog.dialing import dial
@@ -22,7 +23,7 @@ _DONE = b"\0"
 _MOST_UNSENT = 1 << 20
 
 
-class Loader:
+class Loader(Closable):
     """A connection over which the keeper writes blocks, as the primary of the first epoch."""
 
     def __init__(
@@ -40,10 +41,8 @@ class Loader:
             raise Unreachable(f"{address}: {error}") from error
         self._socket.setblocking(False)
 
-    def __enter__(self) -> Loader:
-        return self
-
-    def __exit__(self, *_: object) -> None:
+    def close(self) -> None:
+        """Closes the connection."""
         self._socket.close()
 
     def load(self, first: int, pieces: Iterable[Sequence[bytes]]) -> int:

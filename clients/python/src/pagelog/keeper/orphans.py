@@ -8,7 +8,6 @@ from enum import Enum
 
 from pagelog.errors import PagelogError
 from pagelog.keeper.definition import Definition
-from pagelog.keeper.machine import RunKind
 from pagelog.keeper.run import Run, Seen
 from pagelog.keeper.served import Served
 from pagelog.referee.referee import BrokenArchive, KeeperError, Referee

@@ -14,7 +14,7 @@ from typing import Any, Iterator, Mapping
 
 from pagelog.errors import PagelogError
 from pagelog.keeper.acknowledged import Acknowledged, acknowledged_of, memory_of, new_memory
-from pagelog.keeper.definition import Definition, Seal
+from pagelog.keeper.definition import Definition, Seal, private
 from pagelog.keeper.runner import Hired, Runner, RunnerError, is_allowed, kill
 from pagelog.run_tokens import KEEPER
 
@@ -347,7 +347,7 @@ def _started(words: list[str], said: Path, runner: Runner | None) -> tuple[Child
     memory = new_memory()
     try:
         acknowledged = Acknowledged(memory)
-        with open(said, "wb", opener=_private) as errors:
+        with open(said, "wb", opener=private) as errors:
             if runner is not None:
                 return runner.start(words, errors.fileno(), memory), acknowledged
             return (
@@ -364,11 +364,6 @@ def _started(words: list[str], said: Path, runner: Runner | None) -> tuple[Child
             )
     finally:
         os.close(memory)
-
-
-def _private(path: str, flags: int) -> int:
-    """A service of another user has the descriptor, and may open what it is of once more."""
-    return os.open(path, flags, 0o600)
 
 
 def environment() -> dict[str, str]:

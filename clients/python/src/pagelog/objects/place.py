@@ -72,7 +72,7 @@ class Folder:
                 opened.flush()
                 os.fsync(opened.fileno())
             fresh.replace(file)
-            _sync(file.parent)
+            sync_folder(file.parent)
         except OSError as error:
             raise StoreAway(f"{file}: {error.strerror}") from error
         finally:
@@ -86,7 +86,7 @@ class Folder:
             folder = folder.parent
         for each in reversed(made):
             each.mkdir(exist_ok=True)
-            _sync(each.parent)
+            sync_folder(each.parent)
 
     def get(self, key: str, start: int = 0, length: int | None = None) -> bytes:
         """As of any store."""
@@ -127,7 +127,8 @@ class Folder:
             raise StoreAway(f"{key}: {error.strerror}") from error
 
 
-def _sync(folder: Path) -> None:
+def sync_folder(folder: Path) -> None:
+    """Its names are on the disk."""
     descriptor = os.open(folder, os.O_RDONLY | os.O_DIRECTORY)
     try:
         os.fsync(descriptor)

@@ -10,6 +10,7 @@ from dataclasses import dataclass, replace
 from pathlib import Path
 from typing import BinaryIO, Callable, Iterable, Iterator, Sequence
 
+from pagelog.objects.place import sync_folder
 from pagelog.reply import Kind
 from pagelog.request import AUDIT_MAX
 from pagelog.trail.logs import Log
@@ -78,10 +79,10 @@ def export(
             begun = beginning(trail, one, start, texts)
             with logs(one) as log:
                 done.append(_List(trail, one, begun, log, made, told).write())
-        _sync(made)
+        sync_folder(made)
         _check_free(folder)
         made.rename(folder)
-        _sync(folder.parent)
+        sync_folder(folder.parent)
     finally:
         shutil.rmtree(made, ignore_errors=True)
     return [
@@ -246,11 +247,3 @@ def _new_file(path: Path) -> Iterator[BinaryIO]:
         yield out
         out.flush()
         os.fsync(out.fileno())
-
-
-def _sync(folder: Path) -> None:
-    descriptor = os.open(folder, os.O_RDONLY | os.O_DIRECTORY)
-    try:
-        os.fsync(descriptor)
-    finally:
-        os.close(descriptor)

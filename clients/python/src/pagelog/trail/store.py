@@ -20,6 +20,7 @@ from typing import Any, Callable, Iterator, Sequence
 from pagelog.archive.engine import engine_of
 from pagelog.archive.session import Engine, Row, bytes_of
 from pagelog.archive.url import SqliteUrl, file_is_missing, parsed_url
+from pagelog.closing import Closable
 from pagelog.reply import LINE_SIZE
 from pagelog.trail import statements
 from pagelog.trail.texts import TrailError, without_tokens
@@ -159,7 +160,7 @@ def day_of(seen: int) -> str:
     return datetime.fromtimestamp(seen / 1e6, timezone.utc).strftime("%Y-%m-%d")
 
 
-class Trail:
+class Trail(Closable):
     """The trail of one log. A database error is an exception of psycopg or sqlite3, and then nothing of a reply was kept."""
 
     def __init__(
@@ -197,12 +198,6 @@ class Trail:
         """Closes all connections to the database, if they are its own."""
         if not self._is_shared:
             self.engine.close()
-
-    def __enter__(self) -> Trail:
-        return self
-
-    def __exit__(self, *_: object) -> None:
-        self.close()
 
     def _identity(self) -> str | None:
         """That of the named database that has the name of the log, if it is one, and if the role may see that."""
