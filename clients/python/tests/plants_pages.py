@@ -61,7 +61,7 @@ PLANTS = {
     "pages nearest, the tail of another run": Plant("../named_reader", "            tail.begin(place.run)\n", "            tail.run = place.run\n", "pages_nearest",
                                                     "is_so_in_no_other"),
     "pages nearest, nothing laid over": Plant("../page_tail", "            if base < block.lsn <= position:\n", "            if False:\n", "pages_nearest", "that_lags"),
-    "pages nearest, zeros are passed over": Plant("../page_tail", "                        page[:] = bytes(PAGE_SIZE)\n", "                        pass\n", "pages_nearest",
+    "pages nearest, zeros are passed over": Plant("../block", "        page[:] = bytes(PAGE_SIZE)\n", "        pass\n", "pages_nearest",
                                                   "that_lags"),
     "pages nearest, all at once": Plant("../page_copies", "block.lsn < self._position > self._tail.last", "False", "pages_nearest", "are_not_all_known"),
     "pages nearest, any one": Plant("../page_copies", "key=lambda line: line.usual_of_late(now)", "key=lambda line: 0", "pages_nearest", "measured_time"),

@@ -152,6 +152,14 @@ def check_record(record: Record) -> None:
         raise ValueError(f"a page or an offset is no whole number: {error}") from error
 
 
+def carry_out(record: Record, page: bytearray) -> None:
+    """Does to its page what the record says."""
+    if isinstance(record, Put):
+        page[record.offset : record.offset + len(record.data)] = record.data
+    else:
+        page[:] = bytes(PAGE_SIZE)
+
+
 def size_of_record(record: Record) -> int:
     """How many bytes a record has in a block."""
     return PUT_HEAD_SIZE + len(record.data) if isinstance(record, Put) else ZERO_SIZE

@@ -8,7 +8,7 @@ from itertools import islice, takewhile
 from typing import Callable, Iterable, Iterator
 
 from pagelog.archive import Archive, ArchiveError
-from pagelog.block import HIGHEST_LSN, PAGE_SIZE, Block, Put
+from pagelog.block import HIGHEST_LSN, PAGE_SIZE, Block, carry_out
 from pagelog.errors import LogWentBack
 from pagelog.reader import Reader, Span
 from pagelog.reply import Denied, Page, expect
@@ -101,12 +101,8 @@ class SampleReplay:
         """Does what the records of the block do to the pages of the sample."""
         for record in block.records:
             page = self._page(record.page)
-            if page is None:
-                continue
-            if isinstance(record, Put):
-                page[record.offset : record.offset + len(record.data)] = record.data
-            else:
-                page[:] = bytes(PAGE_SIZE)
+            if page is not None:
+                carry_out(record, page)
 
     def _page(self, number: int) -> bytearray | None:
         """The page, if it is one of the sample. One that is not at its first record never will be."""

@@ -133,11 +133,9 @@ class Connection(Closable):
 
     def _wake(self) -> None:
         """Ends the wait of the thread that uses the socket."""
-        try:
-            if self._socket is not None:
+        if self._socket is not None:
+            with suppress(OSError):  # it has ended already
                 self._socket.shutdown(socket.SHUT_RDWR)
-        except OSError:
-            pass  # it has ended already
 
     def ask(self, request: Request) -> Reply:
         """The reply to one request. Raises as `exchange` does."""

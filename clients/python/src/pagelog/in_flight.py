@@ -7,7 +7,7 @@ from dataclasses import dataclass, field
 from itertools import islice
 from typing import Iterator, Sequence
 
-from pagelog.block import PAGE_SIZE, Block, Put
+from pagelog.block import Block, carry_out
 from pagelog.errors import InDoubt, Refusal
 from pagelog.reader import Reader
 from pagelog.reply import Page, Reply
@@ -105,10 +105,7 @@ def pages_show(block: Block, replies: Sequence[Reply]) -> bool:
         pages.append(bytearray(reply.data))
     before = dict(zip(_pages_of(block), pages[::2]))
     for record in block.records:
-        if isinstance(record, Put):
-            before[record.page][record.offset : record.offset + len(record.data)] = record.data
-        else:
-            before[record.page][:] = bytes(PAGE_SIZE)
+        carry_out(record, before[record.page])
     return list(before.values()) == pages[1::2]
 
 

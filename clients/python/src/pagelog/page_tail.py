@@ -5,7 +5,7 @@ from __future__ import annotations
 from collections import deque
 from typing import Sequence
 
-from pagelog.block import PAGE_SIZE, Block, Put
+from pagelog.block import Block, carry_out
 from pagelog.reply import Page
 
 _MOST = 64
@@ -60,10 +60,6 @@ class Tail:
         for block in self._blocks:
             if base < block.lsn <= position:
                 for record in block.records:
-                    if (page := found.get(record.page)) is None:
-                        continue
-                    if isinstance(record, Put):
-                        page[record.offset : record.offset + len(record.data)] = record.data
-                    else:
-                        page[:] = bytes(PAGE_SIZE)
+                    if (page := found.get(record.page)) is not None:
+                        carry_out(record, page)
         return [Page(position, bytes(found[number])) for number in numbers]

@@ -15,8 +15,7 @@ from typing import Callable, Iterator, Sequence
 from pagelog.archive import tables
 from pagelog.archive.engine import engine_of
 from pagelog.archive.session import Engine, Row, SqlSession, bytes_of
-from pagelog.archive.url import ArchiveError as ArchiveError
-from pagelog.archive.url import file_is_missing, parsed_url
+from pagelog.archive.url import ArchiveError as ArchiveError, file_is_missing, parsed_url
 from pagelog.block import HIGHEST_LSN, Block
 from pagelog.closing import Closable
 from pagelog.faults import BlockFault

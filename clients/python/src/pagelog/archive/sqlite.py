@@ -5,7 +5,7 @@ from __future__ import annotations
 import os
 import re
 import sqlite3
-from contextlib import closing, contextmanager
+from contextlib import closing, contextmanager, suppress
 from functools import cache
 from pathlib import Path
 from typing import Iterator, Sequence
@@ -77,10 +77,8 @@ class SqliteSession(SqlSession):
 def _make_private(file: Path) -> None:
     """Makes the file with mode 600 where it is not there: it will have all that the service holds."""
     if file.parent.is_dir():
-        try:
+        with suppress(OSError):  # it is there, or it cannot be made, which SQLite reports
             os.close(os.open(file, os.O_CREAT | os.O_EXCL | os.O_WRONLY, 0o600))
-        except OSError:
-            pass  # it is there, or it cannot be made, which SQLite reports
 
 
 def _text(data: bytes) -> str:

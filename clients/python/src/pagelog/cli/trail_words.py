@@ -5,7 +5,7 @@ from __future__ import annotations
 import json
 import sys
 import time
-from contextlib import ExitStack, nullcontext
+from contextlib import ExitStack, nullcontext, suppress
 from datetime import datetime
 from itertools import islice
 from pathlib import Path
@@ -215,11 +215,8 @@ class _Told(Losses):
 
 def _seal(trail: Trail) -> None:
     """Seals what the archive beside the trail has, if there is one."""
-    try:
-        with Archive(trail.url, trail.log) as archive:
-            seal(trail, archive)
-    except NoArchive:
-        pass
+    with suppress(NoArchive), Archive(trail.url, trail.log) as archive:
+        seal(trail, archive)
 
 
 def _say_recorded(one: TrailList) -> None:

@@ -7,6 +7,7 @@ import logging
 import signal
 import ssl
 from concurrent.futures import Future
+from contextlib import suppress
 from functools import partial
 from threading import Thread
 from typing import Callable, Iterable
@@ -91,7 +92,5 @@ def begin(
 
 
 def _tell(loop: asyncio.AbstractEventLoop, call: Callable[..., None], *arguments: object) -> None:
-    try:
+    with suppress(RuntimeError):  # the loop has ended
         loop.call_soon_threadsafe(call, *arguments)
-    except RuntimeError:
-        pass  # the loop has ended

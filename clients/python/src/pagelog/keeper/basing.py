@@ -9,12 +9,10 @@ from __future__ import annotations
 
 import asyncio
 import json
-import os
 import sys
 from dataclasses import asdict, dataclass
-from pathlib import Path
-from typing import Any
 
+from pagelog.child import LineOfInput, child
 from pagelog.errors import PagelogError
 from pagelog.objects.settings import StoreSettings
 from pagelog.referee.bases import Bases, make_base
@@ -25,7 +23,7 @@ SMALL = 4096
 
 
 @dataclass(frozen=True)
-class BaseWish:
+class BaseWish(LineOfInput):
     """A base of a database at or below an archived position, whose digest is `chain`. `keep` is what is not pruned; None: nothing is."""
 
     url: str
@@ -34,18 +32,6 @@ class BaseWish:
     chain: str
     keep: str | int | None
     store: StoreSettings | None = None
-
-    @property
-    def line(self) -> str:
-        """As the process reads it."""
-        return json.dumps({**vars(self), "store": None if self.store is None else self.store.json})
-
-    @classmethod
-    def read(cls, line: str) -> BaseWish:
-        """Of the line."""
-        found: dict[str, Any] = json.loads(line)
-        found["store"] = None if found["store"] is None else StoreSettings(**found["store"])
-        return cls(**found)
 
 
 @dataclass(frozen=True)
@@ -78,23 +64,8 @@ async def made_of(wish: BaseWish, blocks: int) -> Made:
     """Makes it, of so many blocks after the last base. Raises `KeeperError`."""
     if blocks <= SMALL:
         return await asyncio.to_thread(make, wish)
-    source = str(Path(__file__).resolve().parents[2])
-    process = await asyncio.create_subprocess_exec(
-        sys.executable,
-        "-m",
-        "pagelog.keeper.basing",
-        stdin=asyncio.subprocess.PIPE,
-        stdout=asyncio.subprocess.PIPE,
-        env={
-            **os.environ,
-            "PYTHONPATH": os.pathsep.join(filter(None, (source, os.environ.get("PYTHONPATH")))),
-        },
-    )
-    try:
+    async with child("pagelog.keeper.basing") as process:
         said, _ = await process.communicate(wish.line.encode())
-    finally:
-        if process.returncode is None:
-            process.kill()
     try:
         found = json.loads(said)
     except ValueError:

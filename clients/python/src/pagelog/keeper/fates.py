@@ -4,7 +4,7 @@ from __future__ import annotations
 
 import asyncio
 import hashlib
-from contextlib import contextmanager
+from contextlib import contextmanager, suppress
 from typing import Any, Callable, Iterator
 
 from pagelog.keeper.lines import Key, Line, of_word
@@ -39,10 +39,8 @@ class Moves:
 
     async def wait(self, longest: float) -> None:
         """Until something is done, or so many seconds."""
-        try:
+        with suppress(asyncio.TimeoutError):
             await asyncio.wait_for(self._done.wait(), longest)
-        except asyncio.TimeoutError:
-            pass
 
 
 class Questions:

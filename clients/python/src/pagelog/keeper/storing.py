@@ -4,12 +4,10 @@ from __future__ import annotations
 
 import asyncio
 import json
-import os
-import sys
 from contextlib import suppress
-from pathlib import Path
 from typing import Any, Callable, Mapping
 
+from pagelog.child import child
 from pagelog.keeper.settings import Settings
 from pagelog.objects.settings import StoreSettings
 from pagelog.repeating import Backoff
@@ -54,20 +52,7 @@ class Storing:
             await asyncio.sleep(waits.next())
 
     async def _run_once(self) -> int | None:
-        source = str(Path(__file__).resolve().parents[2])
-        process = await asyncio.create_subprocess_exec(
-            sys.executable,
-            "-m",
-            "pagelog.store.moving",
-            stdin=asyncio.subprocess.PIPE,
-            stdout=asyncio.subprocess.PIPE,
-            limit=_LINE,
-            env={
-                **os.environ,
-                "PYTHONPATH": os.pathsep.join(filter(None, (source, os.environ.get("PYTHONPATH")))),
-            },
-        )
-        try:
+        async with child("pagelog.store.moving", _LINE) as process:
             assert process.stdin is not None and process.stdout is not None
             with suppress(OSError):  # it has ended
                 process.stdin.write(f"{self._wish.line}\n".encode())
@@ -75,9 +60,6 @@ class Storing:
             async for line in process.stdout:
                 self._take(line)
             return await process.wait()
-        finally:
-            if process.returncode is None:
-                process.kill()
 
     def _take(self, line: bytes) -> None:
         try:

@@ -10,10 +10,12 @@ from pathlib import Path
 from typing import Iterator, Protocol
 from urllib.parse import unquote, urlsplit
 
-from pagelog.objects.errors import Missing as Missing
-from pagelog.objects.errors import StoreAway as StoreAway
-from pagelog.objects.errors import StoreError as StoreError
-from pagelog.objects.errors import Taken as Taken
+from pagelog.objects.errors import (
+    Missing as Missing,
+    StoreAway as StoreAway,
+    StoreError as StoreError,
+    Taken as Taken,
+)
 from pagelog.objects.settings import StoreSettings
 
 

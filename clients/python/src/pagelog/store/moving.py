@@ -15,6 +15,7 @@ import time
 from dataclasses import asdict, dataclass, field
 from typing import Any, Callable, TextIO
 
+from pagelog.child import LineOfInput
 from pagelog.errors import PagelogError
 from pagelog.objects.place import Store, StoreAway, store_of
 from pagelog.objects.segment import BrokenObject, named
@@ -31,25 +32,13 @@ TOLD = 5.0
 
 
 @dataclass(frozen=True)
-class Wish:
+class Wish(LineOfInput):
     """What a keeper asks for: `me` is its name."""
 
     url: str
     me: str
     store: StoreSettings
     requires_standby: bool = False
-
-    @property
-    def line(self) -> str:
-        """As the process reads it."""
-        return json.dumps({**vars(self), "store": self.store.json})
-
-    @classmethod
-    def read(cls, line: str) -> Wish:
-        """Of the line."""
-        found: dict[str, Any] = json.loads(line)
-        found["store"] = StoreSettings(**found["store"])
-        return cls(**found)
 
 
 @dataclass
