@@ -17,7 +17,7 @@ from pagelog import Block, Connection, Put
 from pagelog.archive import Archive
 from pagelog.archive.archiving import Archiver
 from pagelog.dialing import dial
-from pagelog.reply import Blocks, Denied, Done, Entries, Entry, Page, Reply, State, encode_reply
+from pagelog.reply import Blocks, Denied, Done, Entries, Entry, Page, Reply, State
 from pagelog.request import (
     Audit,
     Head,
@@ -27,9 +27,9 @@ from pagelog.request import (
     Role,
     Status,
     Write,
-    decode_request,
 )
 from service import PATIENCE, Service, accept_each, put, token
+from service_side import decode_request, encode_reply
 
 Answer = Callable[[Request], "Reply | bytes | None"]
 

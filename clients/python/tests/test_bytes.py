@@ -10,6 +10,7 @@ from typing import Any, Iterator
 
 import vectors
 from service import TOP, token
+from service_side import decode_request, encode_reply
 
 from pagelog import faults
 from pagelog.block import Block, Put, Zero
@@ -30,7 +31,6 @@ from pagelog.reply import (
     State,
     decode_reply,
     encode_entry,
-    encode_reply,
     expect,
 )
 from pagelog.request import (
@@ -50,7 +50,6 @@ from pagelog.request import (
     Role,
     SetTable,
     Write,
-    decode_request,
 )
 from pagelog.rules import Section
 from pagelog.service_protocol import ServiceProtocol, framed

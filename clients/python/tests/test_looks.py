@@ -21,12 +21,13 @@ from pagelog.keeper.run import Program, Run
 from pagelog.keeper.served import FEW, Served
 from pagelog.keeper.session import Session
 from pagelog.keeper.table import keeper_of
-from pagelog.reply import Entries, State, encode_reply
+from pagelog.reply import Entries, State
 from pagelog.run_tokens import token_of
 from pagelog.service_protocol import framed
 from pagelog.keeper.waits import Waits
 from pagelog.keeper.work import Work
 from service import PATIENCE, PROGRAM, WIDE_TABLE, accept_each, silent_address, stand_still, token
+from service_side import encode_reply
 
 SECRET = b"s" * 16
 

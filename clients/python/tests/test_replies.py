@@ -29,6 +29,7 @@ from pagelog.request import (
     Write,
 )
 from service import Service, put, token
+from service_side import decode_request
 
 LSN_1 = Block.of(1, [Put(0, 0, b"a")])
 
@@ -130,7 +131,7 @@ class EachReply(unittest.TestCase):
         self.assertEqual(replies, [Malformed(code) for code in bodies])
         for code, body in bodies.items():
             with self.subTest(code), self.assertRaises(faults.RequestFault) as raised:
-                pagelog.request.decode_request(body)
+                decode_request(body)
             self.assertEqual(raised.exception.code, code)
             with self.assertRaises(faults.MalformedRequest) as refused:
                 expect(Done, Malformed(code))

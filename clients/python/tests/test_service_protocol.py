@@ -13,11 +13,12 @@ from pagelog.credentials import Credentials
 from pagelog.errors import UnexpectedReply
 from pagelog.faults import FrameFault
 from pagelog.keeper.loading import Loader
-from pagelog.reply import Denied, Done, State, encode_reply
+from pagelog.reply import Denied, Done, State
 from pagelog.request import Head, Request, Role, Status
 from pagelog.rules import OlderEpoch, Section
 from pagelog.service_protocol import REPLY_SIZE, ServiceProtocol, framed
 from service import accept_each, token
+from service_side import encode_reply
 
 BODIES = [b"", b"a", b"bc" * 300, b"\0\0\0\1\0"]
 DONE = framed(encode_reply(Done()))
