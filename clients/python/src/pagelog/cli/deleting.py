@@ -3,18 +3,14 @@
 from __future__ import annotations
 
 import sys
-from typing import Any, Callable
 
 import click
 
 from pagelog.cli.options import WRONG, fail
 
-
-def yes_option(word: Callable[..., Any]) -> Callable[..., Any]:
-    """--yes."""
-    return click.option(
-        "--yes", "--force", "yes", is_flag=True, help="Say what is deleted, and do not ask."
-    )(word)
+yes_option = click.option(
+    "--yes", "--force", "yes", is_flag=True, help="Say what is deleted, and do not ask."
+)
 
 
 def agree(what: str, yes: bool, question: str = "delete it") -> None:

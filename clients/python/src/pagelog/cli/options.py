@@ -91,20 +91,14 @@ def fail(text: str, status: int = FAULT) -> NoReturn:
     sys.exit(status)
 
 
-def json_option(word: Word) -> Word:
-    """--json."""
-    return click.option("--json", "as_json", is_flag=True, help="One JSON object a line.")(word)
-
-
-def tls_option(word: Word) -> Word:
-    """--tls FILE."""
-    return click.option(
-        "--tls",
-        metavar="FILE",
-        type=click.Path(path_type=Path),
-        help="Speak TLS, with the certificate and the key of this "
-        "file; another one in its place is taken without a restart.",
-    )(word)
+json_option = click.option("--json", "as_json", is_flag=True, help="One JSON object a line.")
+tls_option = click.option(
+    "--tls",
+    metavar="FILE",
+    type=click.Path(path_type=Path),
+    help="Speak TLS, with the certificate and the key of this "
+    "file; another one in its place is taken without a restart.",
+)
 
 
 def context_of_file(file: Path | None) -> ssl.SSLContext | None:
@@ -136,16 +130,14 @@ def credentials_option(word: Word) -> Word:
     )(word)
 
 
-def db_option(word: Word) -> Word:
-    """--db N."""
-    return click.option(
-        "--db",
-        default=0,
-        show_default=True,
-        metavar="N",
-        type=click.IntRange(0, (1 << 32) - 1),
-        help="The number of the database.",
-    )(word)
+db_option = click.option(
+    "--db",
+    default=0,
+    show_default=True,
+    metavar="N",
+    type=click.IntRange(0, (1 << 32) - 1),
+    help="The number of the database.",
+)
 
 
 def url_options(word: Word) -> Word:
@@ -187,14 +179,12 @@ def url_of(url: str | None, accounts: Accounts) -> str:
     return found
 
 
-def quorum_option(word: Word) -> Word:
-    """--quorum 2 or 4."""
-    return click.option(
-        "--quorum",
-        type=click.Choice(["2", "4"]),
-        help="How many copies have to hold a block before the database that is "
-        "filled hardens it, as its table says. [default: quorum of [service] in its credentials, or 2]",
-    )(word)
+quorum_option = click.option(
+    "--quorum",
+    type=click.Choice(["2", "4"]),
+    help="How many copies have to hold a block before the database that is "
+    "filled hardens it, as its table says. [default: quorum of [service] in its credentials, or 2]",
+)
 
 
 def quorum_of(quorum: str | None, accounts: Accounts) -> int:
