@@ -322,7 +322,9 @@ class Connection(Closable):
         """Sends as much as goes at once of what is to be sent."""
         unsent = self._protocol.unsent
         if unsent and self._socket is not None:
-            with suppress(BlockingIOError):
+            try:
                 del unsent[: self._socket.send(unsent)]
+            except BlockingIOError:
+                return
             if not unsent and self.when_sent is not None:
                 self.when_sent()
