@@ -145,6 +145,7 @@ class Drip:
         return self
 
     def __exit__(self, *_):
+        self.listener.shutdown(socket.SHUT_RDWR)  # a close does not end an `accept`
         self.listener.close()
 
     def serve(self):

@@ -1020,6 +1020,7 @@ class Ahead(Hot):
             await asyncio.sleep(0.05)  # its reply comes too
             way = self.way
             self.database.work.stop()
+            await self.until(lambda: way._stops, "the order")
         finally:
             await asyncio.to_thread(gate.open)
         self.assertEqual(await client.answer(), self.durable(position - 1))

@@ -331,12 +331,16 @@ class NamesAreUsedAgain(Going):
                 self.assertEqual(line.readline().partition(" nonce=")[0].rstrip(), told)
 
 
+TTL = float(os.environ.get("PAGELOG_TEST_TTL", "1.5"))
+"""A keeper whose looks are more than half of it apart does not learn who stands still."""
+
+
 class Movable(Going):
     """PostgreSQL can be cut off, and set back."""
 
     def setUp(self) -> None:
         self.url = new_url()
-        self.options = {"url": self.url}  # type: ignore[misc]
+        self.options = {"url": self.url, "ttl": TTL}  # type: ignore[misc]
         super().setUp()
 
     def server(self, *statements: str) -> None:
@@ -619,7 +623,7 @@ class NumbersComeAgain(Movable):
             old.execute("insert into t values(9001)")
 
     def test_what_was_durable_of_a_lost_run_is_not_so_of_the_next_in_python(self) -> None:
-        primary = self.enterContext(self.keeping.primary(patience=2.0))
+        primary = self.enterContext(self.keeping.primary())
         self.commit(primary, "0", durable=True)
         self.go_back_before_a_switchover(
             lambda number: [
@@ -631,6 +635,7 @@ class NumbersComeAgain(Movable):
         self.keeping.referee.close()
         self.cut_off()
         self.addCleanup(self.server, "ALTER DATABASE {name} ALLOW_CONNECTIONS true")
+        primary.keepers.patience = 2.0
         with self.assertRaises(ConnectionLost):
             self.commit(primary, "not durable yet", durable=True)
 

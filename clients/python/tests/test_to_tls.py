@@ -20,6 +20,7 @@ from secured import Secured
 from service import PATIENCE
 from sqlite_named import connected
 from test_mixed import MixedKeeping, OldWriter
+from torture_faults import Slowness
 
 REST = 0.02
 """Seconds between two commits of a writer."""
@@ -166,7 +167,7 @@ class Steps(unittest.TestCase):
             self.assertEqual(each.failed, [], each.who)
 
     def test_nothing_is_lost_on_the_way_nor_on_the_way_back(self) -> None:
-        keeping = self.keeping
+        keeping, slow = self.keeping, Slowness()
         older = self.writing("shop", self.older)
         keeping.step()  # 1
         for name in ("notes", "lite"):
@@ -200,7 +201,7 @@ class Steps(unittest.TestCase):
             for each in self.writers:
                 print(f"{each.who}: {len(each.acknowledged)} commits, longest {each.longest:.2f} s")
         self.assertNotIn("has stalled", keeping.said(), "each keeper hands over")
-        self.assertLess(max(each.longest for each in self.writers), TTL)
+        self.assertLess(max(each.longest for each in self.writers), TTL * slow.mean())
         self.assertEqual(self.texts("shop"), older.acknowledged + again.acknowledged)
         self.assertEqual(self.texts("notes"), notes.acknowledged)
         self.assertEqual(rows, lite.acknowledged)

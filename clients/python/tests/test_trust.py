@@ -362,13 +362,7 @@ class Lines(unittest.TestCase):
         self.others: dict[str, str] = {}
         """What it answers to `standby` and `pages`."""
         self.padding = ""
-        threading.Thread(target=self.serve, daemon=True).start()
-
-    def serve(self) -> None:
-        with suppress(OSError):
-            while True:
-                client, _ = self.listener.accept()
-                threading.Thread(target=self.converse, args=(client,), daemon=True).start()
+        accept_each(self.listener, self.converse)
 
     def converse(self, client: socket.socket) -> None:
         with client, client.makefile("r") as lines, suppress(OSError):

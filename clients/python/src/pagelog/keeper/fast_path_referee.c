@@ -305,6 +305,7 @@ static void enter(struct way *way) {
     memcpy(way->chain, way->batch.chain, way->batch.chain_len);
     way->done = way->batch.pulls_for;
     way->news_due |= way->is_watched;
+    way->is_over |= way->stops; /* an order that is not read yet */
     pthread_mutex_unlock(&way->plane->lock);
     if (way->trail.count > 0) {
         enter_lines(&way->trail);
