@@ -217,6 +217,13 @@ class Idle(Meanwhile):
                 changed = replace(facts, **{each.name: NOT_A_HOLDERS[each.name]})
                 self.assertEqual(decide(changed), decide(facts), each.name)
 
+    async def test_what_was_decided_meanwhile_is_decided_again_where_all_is_as_it_was(self) -> None:
+        with patch.object(type(self.database.succession), "is_tended", False):
+            self.look(replace(ROW, wanted="c"))
+        self.assertIn("waits for its standby", self.database.why)
+        self.look()
+        self.assertEqual(self.database.why, "serves")
+
     async def test_whoever_kicks_it_ends_that(self) -> None:
         self.database.kick()
         await self.rest()

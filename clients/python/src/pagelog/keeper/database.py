@@ -152,6 +152,7 @@ class Database:
         served, archiver = self._seen_service(), self.work.archiver
         if self.idleness.goes_on:
             return
+        self.idleness.end()
         self._had = Had() if served is None else Had(served.run, served.reached, seconds())
         self._see_whether_it_went_back()
         if (
