@@ -4,6 +4,7 @@ from __future__ import annotations
 
 import json
 import random
+import subprocess
 import tempfile
 import threading
 import time
@@ -40,6 +41,7 @@ from pagelog.keeper.served import Served
 from pagelog.keeper.switch import Switch, number, release, succeed
 from pagelog.trail import Trail
 from pagelog.place import UnknownName
+from postgres import programs
 from service import PATIENCE, PROGRAM, WIDE_TABLE
 from test_images import pages
 from test_referee import Referees
@@ -660,6 +662,23 @@ class Migration(Referees):
             connection.execute(_OLDER_IMAGE, {"range": 1})
             [[count]] = connection.execute("SELECT count(*) FROM pagelog_image").fetchall()
         self.assertEqual(count, 2)
+
+    def test_a_dump_is_restored_over_older_tables_once_they_are_taken_on(self) -> None:
+        """As once a dump of before an upgrade was restored: that of after it knows nothing of the foreign key, which is in its way."""
+        url = new_url()
+        with tempfile.TemporaryDirectory() as folder, closing(Referee(url)) as referee:
+            dump = str(Path(folder, "dump"))
+            subprocess.run([programs() / "pg_dump", "-Fc", "-d", url, "-f", dump], check=True)
+            words = [programs() / "pg_restore", "--clean", "--if-exists", "--single-transaction"]
+            words += ["-d", url, dump]
+            with psycopg.connect(url) as connection:
+                connection.execute("UPDATE pagelog_schema SET version = 16")
+                connection.execute(f"ALTER TABLE pagelog_image ADD {_KEY}")
+            done = subprocess.run(words, capture_output=True, text=True)
+            self.assertIn("cannot drop constraint pagelog_log_pkey", done.stderr)
+            referee.prepare()
+            subprocess.run(words, check=True)
+            self.assertEqual(referee.everything().rows, ())
 
     def test_a_step_that_the_role_may_not_take(self) -> None:
         """It says what to run. Once that is done the role needs no right to make anything; tables of a later version are no hindrance."""
