@@ -8,6 +8,8 @@ PLANTS = {
     "protocol, more, by the loop": Plant("looker", "        except PagelogError:\n            self.close()\n", "        except PagelogError:\n            self._say(self.bodies)\n",
                                          "looks", "no_answer_is_left"),
     "protocol, more, over a connection": Plant("../connection", "if self._waiting or not self._protocol.is_settled:", "if self._waiting:", _PART, "is_not_used_again"),
+    "protocol, closed meanwhile": Plant("../connection", "                    self._end_in_doubt(self._was_closed())  # as by who takes the replies\n", "", "connection",
+                                       "who_takes_the_replies"),
     "protocol, too long": Plant(_MODULE, "        if length > self._longest:\n            raise FrameFault(length)\n", "", _PART, "too_long"),
     "protocol, cut": Plant(_MODULE, "        if len(came) < end:\n            return None\n", "", _PART, "cut_anywhere"),
     "protocol, cut in its length": Plant(_MODULE, "        if len(came) < _HEAD_SIZE:\n            return None\n", "", _PART, "byte_by_byte"),

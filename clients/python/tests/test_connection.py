@@ -178,6 +178,21 @@ class Cuts(unittest.TestCase):
                     time.sleep(0.01)
                 self.assertEqual(direct.status().epoch, before + (size == 40))
 
+    def test_failovers_in_flight_are_in_doubt_where_who_takes_the_replies_closes_the_connection(
+        self,
+    ) -> None:
+        with Service() as service, service.connection() as connection:
+            heads = [Head(1, OPERATOR.token, Role.OPERATOR, 0, epoch) for epoch in (1, 2, 3)]
+            for act, left, connects in ((Status(), 2, 2), (Failover(2), 0, 2)):
+                replies = connection.exchange([Request(head, act) for head in heads])
+                next(replies)
+                connection.close()
+                if left:
+                    self.assertEqual(len(list(replies)), left)
+                else:
+                    self.assertRaises(pagelog.InDoubt, next, replies)
+                self.assertEqual(connection.connects, connects)
+
     def test_a_service_that_comes_back_is_found_again(self) -> None:
         with Service() as service, service.connection() as connection:
             self.assertIsInstance(connection.ask(Request(PRIMARY, Status())), State)

@@ -209,6 +209,7 @@ class Connection(Closable):
         while True:
             try:
                 if self._socket is None:
+                    self._end_in_doubt(self._was_closed())  # as by who takes the replies
                     self._connect()
                 self._send_waiting()
                 reply = decode_reply(self._body())
@@ -241,6 +242,9 @@ class Connection(Closable):
                 raise InDoubt(
                     f"{asked.request.act.operation.word} may have been done: {error}"
                 ) from error
+
+    def _was_closed(self) -> ConnectionLost:
+        return ConnectionLost(f"{self.address}: the connection was closed meanwhile")
 
     def _count_again(self) -> None:
         self._failures = 0
