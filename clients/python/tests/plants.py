@@ -107,6 +107,7 @@ PLANTS = {
     "marks of a copy": Plant("keeping", "        if row.copied:\n", "        if False:\n", "identity", "opens_under_its_own"),
     "keys for all": Plant("lines", "self.version > 1 or not isinstance(word, Key)", "True", "identity", "told_no_keys"),
     "a note's unknown fields": Plant("run", "json.dumps({**self.others, **known})", "json.dumps(known)", "runs", "does_not_know_of_a_process"),
+    "tables, a long reader": Plant("../referee/schema", " SET LOCAL lock_timeout = '3s';", "", "bases", "no_long_reader"),
     "tables, step by step": Plant("../referee/schema", "for step in STEPS[version:]", "for step in STEPS[version + 1:]", "bases", "tables_of_before"),
     "older holder": Plant("../place", "(now.generation, now.run) == (place.generation, place.run)", "True", "named", "older_keeper_says_is_durable"),
     "all keepers older": Plant("../place", "        if len(told) == len(self._addresses) and not any(place.database for place in told):\n",

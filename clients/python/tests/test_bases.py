@@ -663,6 +663,14 @@ class Migration(Referees):
             [[count]] = connection.execute("SELECT count(*) FROM pagelog_image").fetchall()
         self.assertEqual(count, 2)
 
+    def test_the_script_waits_for_no_long_reader(self) -> None:
+        """All commits would wait behind it."""
+        url = new_url()
+        with psycopg.connect(url) as reader, psycopg.connect(url, autocommit=True) as connection:
+            reader.execute("SELECT count(*) FROM pagelog_log")
+            connection.execute("SET statement_timeout = '20s'")
+            self.assertRaises(psycopg.errors.LockNotAvailable, connection.execute, script(0))
+
     def test_a_dump_is_restored_over_older_tables_once_they_are_taken_on(self) -> None:
         """As once a dump of before an upgrade was restored: that of after it knows nothing of the foreign key, which is in its way."""
         url = new_url()

@@ -277,12 +277,18 @@ _LOCK = 7_074_611_203_551
 
 
 def script(version: int) -> str:
-    """The steps from a version on, as one transaction."""
+    """The steps from a version on, as one transaction. It waits for no long reader, as pg_dump: all commits would wait behind it."""
     made = [statement for step in STEPS[version:] for statement in step]
     numbers = (
         "CREATE TABLE IF NOT EXISTS pagelog_schema (version integer PRIMARY KEY, came timestamptz NOT NULL DEFAULT now())",
         f"INSERT INTO pagelog_schema (version) VALUES ({VERSION}) ON CONFLICT DO NOTHING",
     )
     return ";\n".join(
-        (f"BEGIN; SELECT pg_advisory_xact_lock({_LOCK})", *made, *numbers, _GRANTED, "COMMIT")
+        (
+            f"BEGIN; SET LOCAL lock_timeout = '3s'; SELECT pg_advisory_xact_lock({_LOCK})",
+            *made,
+            *numbers,
+            _GRANTED,
+            "COMMIT",
+        )
     )
