@@ -247,12 +247,17 @@ static bool has_lost_run(struct pagelog_file *file, const char *lines, struct pa
     return is_told && (fate->loss || (fate->is_over && is_before(fate->end, named->own)));
 }
 
+/* Asked is who has the later generation, as the next begin does: another may be silent, or know less. */
 enum pagelog_outcome pagelog_file_leave(struct pagelog_file *file) {
     struct named *named = file->source.named;
+    struct pagelog_place place;
     struct pagelog_fate fate;
     file->reason = NULL;
     named->is_suspect = true;
-    if (!has_lost_run(file, NULL, &fate)) return PAGELOG_DONE;
+    if (is_between(named)) return PAGELOG_DONE; /* till then nothing here is known to be its own */
+    if (pagelog_where(named->keepers, named->place.generation + 1, &place) != PAGELOG_DONE)
+        return PAGELOG_DONE;
+    if (!has_lost_run(file, place.lines, &fate)) return PAGELOG_DONE;
     return pagelog_lose_run(file, &named->place, fate.loss ? fate.loss : PAGELOG_SUPERSEDED);
 }
 

@@ -289,8 +289,8 @@ static int have_turn(struct connection *connection) {
     bool is_left = outcome == PAGELOG_LOST && !may_come && is_left_behind(database);
     if (connection->wants_turn || may_come || is_left) {
         pagelog_give_turn(connection);
-        if (is_left) moved = pagelog_file_leave(database->file);
-        return moved == PAGELOG_DONE ? SQLITE_BUSY : pagelog_result_of_begin(database, moved);
+        enum pagelog_outcome left = is_left ? pagelog_file_leave(database->file) : PAGELOG_DONE;
+        return left == PAGELOG_DONE ? SQLITE_BUSY : pagelog_result_of_begin(database, left);
     }
     take(connection, outcome);
     return SQLITE_OK;

@@ -345,30 +345,36 @@ def test_who_writes_without_a_turn_writes_nothing_into_a_generation_that_is_over
             same("it is in the next one", 31, len(rows(connection)))
 
 
+def lose_the_run(keeper, connection):
+    """Of what it commits PostgreSQL goes back to before, and no turn is given any more. Returns the generation that goes on without it."""
+    connection.execute("pragma synchronous = full")
+    kept = list(keeper.archive)
+    fill(connection, 1, first=100)
+    answer, old = keeper.answer, keeper.now
+
+    def ends(line, words):
+        raise OSError("the line ends")
+
+    def superseded(words):
+        if words[0] != "durable" or words[-1] != keeper.of(old.run):
+            return answer(words)
+        return "lost", *words[1:3], "superseded", f"by={keeper.now.number}", words[-1]
+
+    keeper.turn, keeper.answer = ends, superseded
+    keeper.cut_lines()
+    time.sleep(0.05)  # what was looked after a moment ago is used without a look
+    keeper.archive = kept
+    new = Generation(keeper, old.number + 1)
+    new.fill(kept)
+    return new
+
+
 def test_who_writes_without_a_turn_is_told_that_its_run_is_lost():
     """PostgreSQL went back, and has gone on without what it has committed. Its write says so once, and the next one goes on there."""
     for is_upgrade in (False, True):
         with StubKeeper() as keeper:
             connection = keep_the_turn(keeper, busy=5)
-            connection.execute("pragma synchronous = full")
-            kept = list(keeper.archive)
-            fill(connection, 1, first=100)
-            answer, old = keeper.answer, keeper.now
-
-            def ends(line, words):
-                raise OSError("the line ends")
-
-            def superseded(words):
-                if words[0] != "durable" or words[-1] != keeper.of(old.run):
-                    return answer(words)
-                return "lost", *words[1:3], "superseded", f"by={keeper.now.number}", words[-1]
-
-            keeper.turn, keeper.answer = ends, superseded
-            keeper.cut_lines()
-            time.sleep(0.05)  # what was looked after a moment ago is used without a look
-            keeper.archive = kept
-            new = Generation(keeper, old.number + 1)
-            new.fill(kept)
+            new = lose_the_run(keeper, connection)
             if is_upgrade:
                 connection.execute("begin")
                 same("before", 31, len(rows(connection)))
@@ -380,6 +386,48 @@ def test_who_writes_without_a_turn_is_told_that_its_run_is_lost():
                 connection.execute("rollback")
             fill(connection, 1, first=201)
             same("it goes on", 31, len(rows(connection)))
+
+
+def test_who_has_the_later_generation_is_asked_what_is_lost():
+    """Another that was named first may know less, as here, or be silent: then each write would be busy, or wait for it."""
+    with StubKeeper() as keeper, StubKeeper() as other:
+
+        def knows_less(words):
+            if words[0] == "durable":
+                return "durable", *words[1:]
+            return StubKeeper.answer(keeper, words)
+
+        other.answer, keeper.address = knows_less, f"{other.address},{keeper.address}"
+        connection = keep_the_turn(keeper, busy=5)
+        keeper.switch(lose_the_run(keeper, connection))
+        code = code_of(lambda: fill(connection, 1, first=200))
+        same("it is told", "SQLITE_IOERR_FSYNC", code)
+        fill(connection, 1, first=201)
+        same("it goes on", 31, len(rows(connection)))
+
+
+def test_an_upgrade_that_comes_to_no_other_generation_in_time_is_busy():
+    """And goes on with its transaction: nothing is lost, and the turn may come."""
+    with StubKeeper() as keeper:
+        true("another has written", not begins(keeper))
+        connection = named(keeper, busy=60, move=300)
+        connection.execute("begin")
+        connection.execute("select * from sqlite_master").fetchall()
+        turn = keeper.turn
+
+        def waits(line, words):
+            if words[0] == "turn":
+                line.say("soon", keeper.name)
+
+        keeper.turn = waits
+        keeper.archive_now()
+        keeper.switch(keeper.next(images=False))
+        keeper.rule = lambda frame: None
+        code = code_of(lambda: connection.execute("create table t(a, b)"))
+        same("told", ("SQLITE_BUSY", True), (code, connection.in_transaction))
+        keeper.rule, keeper.turn = None, turn
+        connection.execute("create table t(a, b)")
+        connection.execute("commit")
 
 
 @contextlib.contextmanager
