@@ -3,6 +3,7 @@
 #include "pagelog_keepers.h"
 
 #include <ctype.h>
+#include <errno.h>
 #include <poll.h>
 #include <stdio.h>
 #include <stdlib.h>
@@ -129,6 +130,7 @@ int pagelog_keepers_poll(struct pagelog_keepers *keepers, const char *line, uint
         of[count++] = keeper;
     }
     int ready = count == 0 ? -1 : poll(polled, count, has_held ? 0 : (int)ms);
+    if (count > 0 && ready < 0 && errno == EINTR) ready = 0; /* the question goes on after a signal */
     if (has_held && ready == 0) ready = 1;
     for (size_t i = 0; i < count && ready > 0; i++) {
         bool is_good = true;

@@ -431,10 +431,10 @@ def test_an_upgrade_that_comes_to_no_other_generation_in_time_is_busy():
 
 
 @contextlib.contextmanager
-def signals_for_ever():
+def signals_for_ever(each=0.05):
     """They interrupt each call of the system that waits."""
     before = signal.signal(signal.SIGALRM, lambda *_: None)
-    signal.setitimer(signal.ITIMER_REAL, 0.05, 0.05)
+    signal.setitimer(signal.ITIMER_REAL, each, each)
     try:
         yield
     finally:
@@ -472,6 +472,23 @@ def test_a_turn_that_nobody_can_be_asked_for():
             true("it ended", time.monotonic() - since < 60)
         fill(connection, 1)
         same("it is there", [0], rows(named(keeper, 3, mode="ro")))
+
+
+def test_a_question_to_keepers_goes_on_after_a_signal():
+    """Of a program whose signals come more often than the answers of keepers."""
+    with StubKeeper() as keeper:
+        named(keeper).execute("create table t(a, b)")
+        keeper.archive_now()
+        answer = keeper.answer
+
+        def slow(words):
+            time.sleep(0.1)
+            return answer(words)
+
+        keeper.answer = slow
+        with signals_for_ever(0.02):
+            reader = named(keeper, 3, mode="ro", move=5000)
+        same("it reads", [], rows(reader))
 
 
 def test_who_has_the_turn_reads_what_was_written():

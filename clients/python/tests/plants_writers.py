@@ -82,6 +82,8 @@ PLANTS = {
                                 "c/turns", "is_told_that_its_run_is_lost"),
     "turn, none, a loss that anybody tells": Plant("c/pagelog_durable.c", "    if (!has_lost_run(file, place.lines, &fate)) return PAGELOG_DONE;\n", "    if (!has_lost_run(file, NULL, &fate)) return PAGELOG_DONE;\n",
                                                    "c/turns", "later_generation_is_asked_what_is_lost"),
+    "keepers, no question after a signal": Plant("c/pagelog_keepers.c", "    if (count > 0 && ready < 0 && errno == EINTR) ready = 0; /* the question goes on after a signal */\n", "", "c/turns",
+                                                 "goes_on_after_a_signal"),
     "turn, soon, and nowhere to go": Plant("c/pagelog_vfs_turn.c", "is_left ? pagelog_file_leave(database->file) : PAGELOG_DONE;", "is_left ? pagelog_file_leave(database->file) : moved;",
                                            "c/turns", "comes_to_no_other_generation"),
     "a loss, by its rollback": Plant("c/pagelog_settle.c", "    file->lost = why;\n", "", "c/generations", "full_is_told_what_was_lost"),
