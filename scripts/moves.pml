@@ -502,7 +502,7 @@ inline send_again() {
                     // ..
                     // uint64_t least = named->place.generation;
                     // ..
-                    // enum pagelog_outcome outcome = pagelog_where(named->keepers, least, &place);
+                    // enum pagelog_outcome outcome = pagelog_where_later(named->keepers, least, least + is_later, &place);
                     // ..
                     // bool is_other = named->where == NOWHERE || place.generation > least || (is_superseded(named) && !is_same);
                     // ..

@@ -287,7 +287,8 @@ enum pagelog_outcome pagelog_glance(struct pagelog_file *file) {
     if (!is_wanted && !file->options.durable_only && !is_closing(named)) return PAGELOG_DONE;
     named->glanced = now;
     named->is_suspect = false;
-    enum pagelog_outcome outcome = pagelog_where(named->keepers, named->place.generation, &place);
+    uint64_t own = named->place.generation;
+    enum pagelog_outcome outcome = pagelog_where_later(named->keepers, own, own + was_suspect, &place);
     if (outcome == PAGELOG_DENIED && pagelog_keepers_reason(named->keepers)) return pagelog_take_denial(file);
     if (outcome != PAGELOG_DONE) return PAGELOG_DONE;
     named->place.pages = place.pages;

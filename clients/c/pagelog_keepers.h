@@ -16,6 +16,7 @@ struct told {
     size_t answers, unknown, old; /* how many; that have no database of the name; that are of version 1 */
     bool is_found, is_other;      /* a place of this database, of another one of its name */
     uint64_t until;               /* when no more answers are waited for */
+    uint64_t wanted;              /* after an answer of a lower generation others are waited for longer */
 };
 
 struct pagelog_keepers {

@@ -150,7 +150,8 @@ static enum pagelog_outcome try_to_move(struct pagelog_file *file, bool is_over)
     struct pagelog_place place;
     uint64_t least = named->place.generation; /* 0: NOWHERE */
     pagelog_wait_again(file);
-    enum pagelog_outcome outcome = pagelog_where(named->keepers, least, &place);
+    bool is_later = is_over && !is_superseded(named);
+    enum pagelog_outcome outcome = pagelog_where_later(named->keepers, least, least + is_later, &place);
     if (outcome == PAGELOG_DENIED) return pagelog_take_denial(file);
     if (outcome != PAGELOG_DONE) return outcome;
     if (pagelog_wants_page_server(file, &place)) {

@@ -64,10 +64,10 @@ static void say_where(const struct pagelog_keepers *keepers, char line[WHERE_BYT
 }
 
 /* Begins a question for the place. */
-static struct told ask_where(struct pagelog_keepers *keepers, char line[WHERE_BYTES]) {
+static struct told ask_where(struct pagelog_keepers *keepers, uint64_t wanted, char line[WHERE_BYTES]) {
     say_where(keepers, line);
     pagelog_keepers_ask_all(keepers);
-    return (struct told){.until = pagelog_after(PAGELOG_ANSWER_MS)};
+    return (struct told){.until = pagelog_after(PAGELOG_ANSWER_MS), .wanted = wanted};
 }
 
 /* Takes an answer to it: for others it is not waited for long, once one has said something. For who opens,
@@ -75,7 +75,7 @@ static struct told ask_where(struct pagelog_keepers *keepers, char line[WHERE_BY
 static void take_where(const struct pagelog_keepers *keepers, char *answer, uint64_t least, struct told *told,
                        struct pagelog_place *place) {
     size_t unknown = told->unknown;
-    bool is_here = take_answer(keepers, answer, least, told, place);
+    bool is_here = take_answer(keepers, answer, least, told, place) && place->generation >= told->wanted;
     uint64_t soon = pagelog_after(is_here ? LATER_MS : SOON_MS);
     bool says_something = told->unknown == unknown || keepers->has_own;
     if (says_something && soon < told->until) told->until = soon;
@@ -90,9 +90,14 @@ static bool none_is_silent(const struct pagelog_keepers *keepers) {
 
 enum pagelog_outcome pagelog_where(struct pagelog_keepers *keepers, uint64_t least,
                                    struct pagelog_place *place) {
+    return pagelog_where_later(keepers, least, least, place);
+}
+
+enum pagelog_outcome pagelog_where_later(struct pagelog_keepers *keepers, uint64_t least, uint64_t wanted,
+                                         struct pagelog_place *place) {
     char line[WHERE_BYTES], answer[PAGELOG_LINE_BYTES];
     keepers->reason = NULL;
-    struct told told = ask_where(keepers, line);
+    struct told told = ask_where(keepers, wanted, line);
     while (pagelog_keepers_next(keepers, line, told.until, answer))
         take_where(keepers, answer, least, &told, place);
     keepers->are_gone = told.answers == 0 && none_is_silent(keepers);
@@ -102,11 +107,11 @@ enum pagelog_outcome pagelog_where(struct pagelog_keepers *keepers, uint64_t lea
 
 /* ---- A question that nobody waits for ---- */
 
-void pagelog_where_begin(struct pagelog_keepers *keepers) {
+void pagelog_where_begin(struct pagelog_keepers *keepers, uint64_t wanted) {
     char line[WHERE_BYTES];
     say_where(keepers, line);
     pagelog_keepers_stop(keepers, line, true); /* one that nobody has heard the end of: its answers are old */
-    keepers->told = ask_where(keepers, line);
+    keepers->told = ask_where(keepers, wanted, line);
 }
 
 bool pagelog_where_take(struct pagelog_keepers *keepers, uint64_t ms, struct pagelog_told *said) {

@@ -123,6 +123,11 @@ const char *pagelog_keepers_why(const struct pagelog_keepers *keepers);
 enum pagelog_outcome pagelog_where(struct pagelog_keepers *keepers, uint64_t least,
                                    struct pagelog_place *place);
 
+/* The same where a generation `wanted` may be there: after one that knows of lower ones alone others are
+ * waited for longer. */
+enum pagelog_outcome pagelog_where_later(struct pagelog_keepers *keepers, uint64_t least, uint64_t wanted,
+                                         struct pagelog_place *place);
+
 /* What keepers have said of the holder's run so far: the highest generation, 0 where none has said one, and
  * whose it is; and whether some know of no such database, or of another of its name. */
 struct pagelog_told {
@@ -132,9 +137,9 @@ struct pagelog_told {
     bool is_doubtful;
 };
 
-/* As pagelog_where, for who has other work. Begins a question, in place of one that has not come to its end.
- */
-void pagelog_where_begin(struct pagelog_keepers *keepers);
+/* As pagelog_where_later, for who has other work. Begins a question, in place of one that has not come to its
+ * end. */
+void pagelog_where_begin(struct pagelog_keepers *keepers, uint64_t wanted);
 
 /* Takes the answers that have come, and waits for more `ms` at most. True once no more come. */
 bool pagelog_where_take(struct pagelog_keepers *keepers, uint64_t ms, struct pagelog_told *told);

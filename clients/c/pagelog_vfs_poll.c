@@ -125,10 +125,10 @@ void pagelog_abandon_polls(void) {
     polls = NULL;
 }
 
-/* Takes answers, or waits for them, and asks so long after the last question. */
-static void ask(struct holder_poll *poll, unsigned pause_ms, uint64_t wait_ms) {
+/* Takes answers, or waits for them, and asks so long after the last question; `wanted` is as of a place. */
+static void ask(struct holder_poll *poll, unsigned pause_ms, uint64_t wait_ms, uint64_t wanted) {
     if (wait_ms == 0 && !poll->is_asked && now_ms() - poll->ended < pause_ms) return;
-    if (wait_ms > 0 || !poll->is_asked) pagelog_where_begin(poll->keepers);
+    if (wait_ms > 0 || !poll->is_asked) pagelog_where_begin(poll->keepers, wanted);
     struct pagelog_told told;
     poll->is_asked = !pagelog_where_take(poll->keepers, wait_ms, &told);
     bool is_said = told.generation > 0 || told.is_doubtful;
@@ -145,7 +145,7 @@ static void ask_at_begin(struct holder_poll *poll) {
     uint64_t now = now_ms();
     bool was_idle = now - poll->begun > IDLE_MS;
     poll->begun = now;
-    ask(poll, poll->pause_ms, was_idle ? ANSWER_MS : 0);
+    ask(poll, poll->pause_ms, was_idle ? ANSWER_MS : 0, 0);
 }
 
 /* Whether the run is a later one than that of the file, or another one of its number. */
@@ -171,7 +171,7 @@ bool pagelog_poll_is_past(struct database *database, uint64_t generation) {
     struct holder_poll *poll = database->poll; /* which a begin has made, before a commit waits */
     if (!poll || !database->follows_holder) return false;
     sqlite3_mutex_enter(poll->mutex);
-    ask(poll, OFTEN_MS, 0);
+    ask(poll, OFTEN_MS, 0, generation + 1);
     bool is_past = poll->told.generation > generation;
     sqlite3_mutex_leave(poll->mutex);
     return is_past;
@@ -183,7 +183,7 @@ bool pagelog_poll_looks_past(struct database *database, uint64_t generation) {
     sqlite3_mutex_enter(poll->mutex);
     bool are_silent = poll->pause_ms > EACH_MS; /* nobody answered the last question */
     uint64_t began = now_ms();
-    ask(poll, OFTEN_MS, are_silent || began < poll->look_again ? 0 : LIVELY_MS);
+    ask(poll, OFTEN_MS, are_silent || began < poll->look_again ? 0 : LIVELY_MS, generation + 1);
     uint64_t now = now_ms();
     if (now > began) poll->look_again = now + (now - began);
     bool is_past = poll->told.generation > generation;

@@ -345,6 +345,42 @@ def test_who_writes_without_a_turn_writes_nothing_into_a_generation_that_is_over
             same("it is in the next one", 31, len(rows(connection)))
 
 
+def test_a_keeper_that_knows_less_and_answers_first():
+    """Others are waited for, where another generation may be there: a reader comes there, and who writes without a turn writes there."""
+    with StubKeeper() as keeper, StubKeeper() as other:
+        knows, old = [], keeper.now
+
+        def known(words):
+            return knows[0] if knows else StubKeeper.answer(keeper, words)
+
+        other.answer = (
+            lambda words: known(words) if words[0] == "where" else StubKeeper.answer(other, words)
+        )
+        keeper.address = f"{other.address},{keeper.address}"
+        connection, reader = keep_the_turn(keeper, busy=5), named(keeper, 3, mode="ro")
+        keeper.archive_now()
+        knows.append(StubKeeper.answer(keeper, ["where", keeper.name]))
+        answer = keeper.answer
+
+        def late(words):
+            if words[0] == "where":
+                time.sleep(0.05)
+            return answer(words)
+
+        def ends(line, words):
+            raise OSError("the line ends")
+
+        keeper.answer, keeper.turn = late, ends
+        keeper.cut_lines()
+        time.sleep(0.05)  # what was looked after a moment ago is used without a look
+        before = end_of(keeper)
+        keeper.switch(keeper.next(images=False))
+        fill(connection, 1, first=200)
+        with old.asker(wire.SECONDARY) as asker:
+            same("the one that is over", before, asker.status()[2])
+        until(lambda: len(rows(reader)) == 31, "it reads in the next one")
+
+
 def lose_the_run(keeper, connection):
     """Of what it commits PostgreSQL goes back to before, and no turn is given any more. Returns the generation that goes on without it."""
     connection.execute("pragma synchronous = full")
