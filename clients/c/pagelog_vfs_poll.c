@@ -3,8 +3,8 @@
  * has superseded it.
  *
  * The question is sent by one begin, and its answers are taken by later ones: none waits, unless there was no
- * begin for a while. Readers of what is durable ask at each begin by themselves; what they have seen is kept
- * here, so that those that are opened later see as much. */
+ * begin for a while. A write that no turn allows waits for them too. Readers of what is durable ask at each
+ * begin by themselves; what they have seen is kept here, so that those that are opened later see as much. */
 #include "pagelog_vfs_inside.h"
 
 #include <string.h>
