@@ -663,6 +663,7 @@ class Living(unittest.TestCase):
 
     def lose(self) -> None:
         with psycopg.connect(self.keeping.url) as session:
+            session.execute("LOCK TABLE pagelog_log, pagelog_store")  # a mover is at work
             for table in ("generation", "table", "object", "store", "block", "keeper", "log"):
                 session.execute(f"DELETE FROM pagelog_{table}")
 

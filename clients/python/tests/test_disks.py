@@ -14,15 +14,17 @@ from typing import Any, Callable
 import psycopg
 
 from keepers import Kept, batch_of, eventually, new_database
-from pagelog import NamedPrimary, Put
+from pagelog import Connection, Credentials, NamedPrimary, Operator, Put
 from pagelog.keeper.quick import QuickReferee
 from pagelog.referee.referee import Doubt, OneDisk, Referee, Superseded
 from pagelog.referee.rows import Look, Synchronous
 from pagelog.keeper.session import Session
+from pagelog.keeper.table import token_of
 from pagelog.keeper.switch import Switch, begun, number, succeed
 from pagelog.place import GenerationFate
+from pagelog.request import Operation
 from replicated import Pair, Server
-from service import PATIENCE
+from service import PATIENCE, token
 from small_disk import SmallDisks
 
 _pairs: list[Pair] = []
@@ -725,19 +727,12 @@ class FullDisks(Kept):
         self.assertEqual(len(self.keeping.archive()), last)
 
     def entries(self) -> int:
-        """Those of the audit list, as the next look has found, without the two of each look."""
-        looks = self.keeping.metrics()["pagelog_keeper_looks_total", ""]
-
-        def is_later() -> bool:
-            self.keeping.ring()
-            return self.keeping.metrics()["pagelog_keeper_looks_total", ""] > looks + 3
-
-        eventually(is_later, "looks")
-        found = self.keeping.metrics()
-        return round(
-            found["pagelog_keeper_list_share", "shop"] * 1_000_000
-            - 2 * found["pagelog_keeper_looks_total", ""]
-        )
+        """Those of the audit list, without the two of each look."""
+        place = self.keeping.place()
+        credentials = Credentials(1, token_of(bytes.fromhex(token(1)), "shop", place.run))
+        with Operator(Connection(place.address, timeout=PATIENCE), credentials) as operator:
+            of_looks = (Operation.STATUS, Operation.AUDIT)
+            return sum(each.operation not in of_looks for each in operator.entries(1))
 
     def test_a_server_that_had_to_end_for_want_of_room_comes_back_with_what_was_told(self) -> None:
         with self.keeping.primary() as primary, self.keeping.line() as text:

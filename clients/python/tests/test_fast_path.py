@@ -725,9 +725,11 @@ class Lines(Hot):
     async def test_a_client_that_goes_ends_nothing_for_the_others(self) -> None:
         client = await self.hot()
         gone = [self.client() for _ in range(4)]
-        for each in gone:
-            await self.commit(each)
-        await self.until(lambda: len(self.way._lent) == 5, "its lines")
+        while (
+            len(self.way._lent) < 5
+        ):  # one that was answered from elsewhere is lent with its next question
+            for each in gone:
+                await self.commit(each)
         gate = Gate(self.url, "true")
         try:
             position = self.write()

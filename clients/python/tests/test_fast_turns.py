@@ -343,10 +343,11 @@ class Writers(Hot):
     async def writer(self) -> Client:
         """One whose line the thread reads: it has had the turn, and given it back."""
         client = await self.greeted()
-        self.assertTrue((await client.ask(self.turn())).startswith("turn shop "))
-        client.send(self.back())
-        self.assertTrue(self.is_read(client))
-        return client
+        while True:  # one that was answered from elsewhere is lent with its next question
+            self.assertTrue((await client.ask(self.turn())).startswith("turn shop "))
+            client.send(self.back())
+            if self.is_read(client):
+                return client
 
     def line_of(self, client: Client) -> Line:
         """The keeper's end of it."""

@@ -76,7 +76,8 @@ class Decisions(unittest.TestCase):
     def test_one_is_said_where_action_or_reason_changes_and_shown_with_its_detail(self) -> None:
         said: list[str] = []
         shared = Mock(
-            settings=Mock(ttl=5.0), repeats=Repeats(lambda _, sentence: said.append(sentence))
+            settings=Mock(ttl=5.0, succeed=0.5),
+            repeats=Repeats(lambda _, sentence: said.append(sentence)),
         )
         database = Database(shared, Mock())
         for position in range(100):
