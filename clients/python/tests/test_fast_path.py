@@ -1280,25 +1280,37 @@ class Stalled(Hot):
         await self.commit_quickly(client)
 
 
+_REACHED = "SELECT flushed, standby FROM reached WHERE nextval('asked') > 0"
+
+
 class Confirming(Hot):
     """It asks how far a standby is; here a table says so."""
 
     async def asyncSetUp(self) -> None:
         await super().asyncSetUp()
         self.execute("CREATE TABLE IF NOT EXISTS reached (flushed bigint, standby bigint)")
+        self.execute("CREATE SEQUENCE IF NOT EXISTS asked")
         self.execute("TRUNCATE reached")
         self.execute("INSERT INTO reached VALUES (100, 100)")
-        values = {**fast_plane.VALUES, "SELECT flushed, standby FROM reached": []}
+        values = {**fast_plane.VALUES, _REACHED: []}
         del values[statements.REACHED]
         self.plane.confirms, self.plane.values = True, values
 
     async def kept(self, client: Client) -> int:
-        """A commit that the archive has, and a standby has not."""
+        """A commit that the archive has, and a standby has not, as it was asked."""
         self.execute("UPDATE reached SET standby = 99")
-        position = self.write()
+        asked, position = self.asked(), self.write()
         client.send(self.durable(position))
-        await self.until(lambda: self.archived() == position)
+        await self.until(lambda: self.archived() == position and self.asked() > asked)
         return position
+
+    def asked(self) -> int:
+        """How often it was."""
+        with psycopg.connect(self.url) as connection:
+            [[last, is_called]] = connection.execute(
+                "SELECT last_value, is_called FROM asked"
+            ).fetchall()
+        return int(last) if is_called else 0
 
 
 class Confirmed(Confirming):
