@@ -134,6 +134,8 @@ class Hot(Referees, unittest.IsolatedAsyncioTestCase):
         kept = self.taken()
         self.served = Served("shop", "r1", WIDE_TABLE, b"s" * 16, timeout=PATIENCE)
         self.served.start(Program(PROGRAM, "127.0.0.1", self.folder, 1_000_000))
+        assert self.served.process is not None
+        self.pid = self.served.process.facts.pid
         self.served.hold(kept.generation)
         self.served.open()
         self.database = Database(self.shared, replace(self.seen(), address="there"))
@@ -166,6 +168,8 @@ class Hot(Referees, unittest.IsolatedAsyncioTestCase):
         await asyncio.wait_for(self.keeper._stop(), PATIENCE)
         if process is not None:
             process.end()
+        else:  # it was quarantined, and is nobody's
+            os.kill(self.pid, signal.SIGKILL)
 
     @property
     def archiver(self) -> RunArchiver:
